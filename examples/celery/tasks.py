@@ -1,4 +1,4 @@
-"""The six tasks as real Celery tasks: start workers with `celery -A tasks worker`.
+"""The built-in tasks as real Celery tasks: start workers with `celery -A tasks worker`.
 
 CANVAS_REDIS names the Redis that has both the queue and the results.
 """

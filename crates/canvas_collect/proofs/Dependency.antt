@@ -53,7 +53,7 @@ one_name run message count dep other a b full first second =
     let s = parts_of run text message count other b full first.2.1 second in
     sym (same_name s.raised.0 f.raised.0 a (sym f.raised.1 ∙ s.raised.1) f.raised.2) ∙ s.raised.2
 
--- blaming is naming one of the six tasks' exceptions, or a ChordError
+-- blaming is naming one of the built-in tasks' exceptions, or a ChordError
 pub blames_one : (run message : Text) (count dep : ℕ) (name : Text) (why : Why)
     → Names run count message dep name → name ≡ why_name why → Blames run count message dep why
 blames_one run message count dep name why n e = (n.0, n.1, (n.2.0, n.2.1, n.2.2 ∙ e))

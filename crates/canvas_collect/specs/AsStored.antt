@@ -31,14 +31,14 @@ Names run count message dep name =
     × (message ≡ codes "Dependency " ++ (run_task run dep ++ (codes " raised " ++ raised)))
     × (before_first (λ b. b == 40) raised ≡ name))
 
--- of an exception: its class, where that is none of the six tasks' and names no task of the canvas
+-- of an exception: its class, where that is no built-in task's and names no task of the canvas
 abbrev pub IsRaised : (run : Text) → (count : ℕ) → Data → Text → Type 0
 IsRaised run count d name =
     (class_of d ≡ name) × (name ≢ []) × ((kind : Kind) → name ≢ kind_name kind)
     × (name ≡ codes "ChordError"
     → (dep : ℕ) (other : Text) → ¬ Names run count (message_of d) dep other)
 
--- of a ChordError: the task that it names, with a class that is none of the six tasks'
+-- of a ChordError: the task that it names, with a class that is none of the built-in tasks'
 abbrev pub IsBlamed : (run : Text) → (count : ℕ) → Data → ℕ → Text → Type 0
 IsBlamed run count d dep name =
     (class_of d ≡ codes "ChordError") × Names run count (message_of d) dep name

@@ -44,7 +44,7 @@ pub enum StoredFault {
     /// Of a success: no whole number from -2^60 to 2^60.
     #[error("NotNumber")]
     NotNumber,
-    /// Of a failure: an exception that is none of the six tasks'.
+    /// Of a failure: an exception that is none of the built-in tasks'.
     #[error("UnknownException")]
     UnknownException,
     /// A ChordError that names no task of the run.
@@ -140,7 +140,7 @@ pub(crate) fn blame_in<'m>(plan: &Plan, run: &Run, message: &'m [u8]) -> Option<
     Some(Blame { dep, class })
 }
 
-/// The same, where the class is one of the six tasks' exceptions, or a ChordError.
+/// The same, where the class is one of the built-in tasks' exceptions, or a ChordError.
 fn dependency_of(plan: &Plan, run: &Run, message: &[u8]) -> Option<(TaskNo, Why)>
     ensures { MatchOption result
         ((dep : ℕ) (why : Why)

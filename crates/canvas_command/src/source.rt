@@ -10,9 +10,9 @@ use canvas_ran::fates;
 use canvas_report::{Fate, Report, Row, Told, rows_text, state_in, stored_rows_text};
 use canvas_sig::{Canvas, read_canvas};
 use canvas_stubs::{Does, Stub};
-use canvas_task::{Fault, Kind, Memory, Outcome, TaskNo, Tasks};
+use canvas_task::{Builtin, Fault, Kind, Memory, Outcome, TaskNo, Tasks};
 use canvas_values::TaskSig;
-use canvas_warning::{Blame, Expected, Forecast, Input, OneOfSix, blamed, forecasts, tasks_in};
+use canvas_warning::{Blame, Expected, Forecast, Input, blamed, forecasts, tasks_in};
 use std::alloc::{AllocError, Global};
 
 /// A canvas's text, and the tasks that its calls are answered by, which have these stubs before
@@ -35,7 +35,7 @@ pub(crate) struct Foreseen<'a> {
     pub(crate) forecast: Forecast,
     is_task: bool,
     /// Of a call that is a TypeError the parameter that is at fault, if it is one; none where no
-    /// task of the six answers it.
+    /// built-in task answers it.
     blame: Option<Option<Blame<'a>>>,
 }
 
@@ -49,15 +49,10 @@ impl<'a> Foreseen<'a> {
     }
 }
 
-/// The task of the six that a stub does as.
-fn six_done(does: Does) -> Option<OneOfSix> {
+/// The built-in task that a stub does as.
+fn builtin_done(does: Does) -> Option<Builtin> {
     match does {
-        Does::Add => Some(OneOfSix::Add),
-        Does::Mul => Some(OneOfSix::Mul),
-        Does::Div => Some(OneOfSix::Div),
-        Does::Xsum => Some(OneOfSix::Xsum),
-        Does::Ident => Some(OneOfSix::Ident),
-        Does::LogError => Some(OneOfSix::LogError),
+        Does::SameAs(task) => Some(task),
         Does::Gives(_) | Does::Raises(_) => None,
     }
 }
@@ -87,7 +82,7 @@ fn parameter_of(alloc: Global, blame: Option<Blame<'_>>) -> Result<Option<String
     }
 }
 
-/// The tasks that ran and are a TypeError, where a task of the six answers their calls, each with
+/// The tasks that ran and are a TypeError, where a built-in task answers their calls, each with
 /// the parameter that is at fault, if it is one.
 fn blamed_of(
     alloc: Global,
@@ -137,28 +132,28 @@ impl<'a, T> Source<'a, T> {
 }
 
 impl<'a, T: Tasks> Source<'a, T> {
-    /// The task of the six that answers the calls of a name: what a stub of the name does, or the
+    /// The built-in task that answers the calls of a name: what a stub of the name does, or the
     /// task of the name, or what the stub of each other name does.
-    fn six_of(&self, name: &str) -> Option<OneOfSix> {
+    fn builtin_of(&self, name: &str) -> Option<Builtin> {
         if let Some(does) = stub_named(self.stubs, name) {
-            return six_done(does);
+            return builtin_done(does);
         }
-        match OneOfSix::of(name) {
-            Some(six) => Some(six),
-            None => six_done(stub_named(self.stubs, "*")?),
+        match Builtin::named(name) {
+            Some(task) => Some(task),
+            None => builtin_done(stub_named(self.stubs, "*")?),
         }
     }
 
     /// The parameter that makes a call a TypeError with this in front of its own arguments, if it
-    /// is one. None where no task of the six answers the call.
+    /// is one. None where no built-in task answers the call.
     fn blamed_in<'s>(
         &self,
         alloc: Global,
         sig: &'s TaskSig,
         input: Input,
     ) -> Result<Option<Option<Blame<'s>>>, AllocError> {
-        match self.six_of(sig.name.get()) {
-            Some(six) => Ok(Some(blamed(alloc, six, sig, input)?)),
+        match self.builtin_of(sig.name.get()) {
+            Some(task) => Ok(Some(blamed(alloc, task, sig, input)?)),
             None => Ok(None),
         }
     }

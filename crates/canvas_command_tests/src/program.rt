@@ -1,6 +1,6 @@
 //! The program, over the words of a line.
 
-use canvas_command::command_with_six;
+use canvas_command::command_with_builtin;
 use std::alloc::{AllocError, Global};
 use std::io::Read;
 use std::random::RandomSource;
@@ -43,7 +43,7 @@ where
     let mut told: Vec<u8> = Vec::new(rt.alloc());
     match words(rt.alloc(), line) {
         Ok(words) => {
-            command_with_six(rt, &words, input).print(&mut written, &mut told) == status
+            command_with_builtin(rt, &words, input).print(&mut written, &mut told) == status
                 && written.as_slice() == out.as_bytes()
                 && told.as_slice() == err.as_bytes()
         }

@@ -3,7 +3,7 @@ use Rattle.std.proofs.Common.{◌≡◌, ℕ, List, [], ◌∷◌, map, false, N
 use Rattle.std.specs.Prelude.{codes}
 use Rattle.uuid.proofs.OnLiterals.{uuid_on_literals}
 use Rattle.std.specs.Fmt.{digits}
-use Rattle.canvas_task.specs.Apply.{six_tasks}
+use Rattle.canvas_task.specs.Builtin.{builtin_tasks}
 use Rattle.canvas_task.specs.declared.arg.Arg.{Arg}
 use Rattle.canvas_task.specs.declared.arg.Arg.TheVariants as arg
 use Rattle.canvas_task.specs.declared.outcome.Kind.TheVariants.{ZeroDivision}
@@ -76,7 +76,7 @@ states ((v, job.part g t c) ∷ is) = states is
 abbrev two : Line
 two = step (plain 1 (codes "tasks.add") (int 4 ∷ int 4 ∷ [])) (one (plain 2 (codes "tasks.mul") (int 8 ∷ [])))
 
-two_states : states (evaluated six_tasks two) ≡ (1, ok 8) ∷ (2, ok 64) ∷ []
+two_states : states (evaluated builtin_tasks two) ≡ (1, ok 8) ∷ (2, ok 64) ∷ []
 two_states = refl
 
 -- ---- a header with a failed member; its body has an error callback
@@ -87,7 +87,7 @@ body_task = logged 4 (codes "tasks.xsum") [] 5
 abbrev seven : Line
 seven = chord_end 1 (lines (add 1 4 4 ∷ div 2 1 0 ∷ add 3 8 8 ∷ [])) (one body_task)
 
-seven_states : states (evaluated six_tasks seven) ≡ (1, ok 8) ∷ (2, zd) ∷ (3, ok 16) ∷ (4, raised_by 2 (why.Plain ZeroDivision)) ∷ (5, ok 4) ∷ []
+seven_states : states (evaluated builtin_tasks seven) ≡ (1, ok 8) ∷ (2, zd) ∷ (3, ok 16) ∷ (4, raised_by 2 (why.Plain ZeroDivision)) ∷ (5, ok 4) ∷ []
 unfolding uuid_on_literals digits
 seven_states = refl
 
@@ -130,7 +130,7 @@ behind_nine = chord_end 1 (lines (add_to 2 1 ∷ add_to 3 2 ∷ [])) (xsum 4)
 abbrev nine : Line
 nine = step (plain 1 (codes "tasks.div") (int 1 ∷ int 0 ∷ [])) behind_nine
 
-nine_states : states (evaluated six_tasks nine) ≡ (1, zd) ∷ (2, zd) ∷ (3, zd) ∷ (4, zd) ∷ []
+nine_states : states (evaluated builtin_tasks nine) ≡ (1, zd) ∷ (2, zd) ∷ (3, zd) ∷ (4, zd) ∷ []
 nine_states = refl
 
 chain_ends : map (λ m. after m zd) (first_messages nine) ≡ record { stores = (2, zd) ∷ (3, zd) ∷ (4, zd) ∷ []; messages = []; part = None } ∷ []
@@ -138,19 +138,19 @@ chain_ends = refl
 
 -- ---- a chord in a header
 
-ten_states : states (evaluated six_tasks (chord_end 1 (lines (chord_end 2 (lines (div 1 1 0 ∷ [])) (xsum 2) ∷ add 3 1 1 ∷ [])) (xsum 4)))
+ten_states : states (evaluated builtin_tasks (chord_end 1 (lines (chord_end 2 (lines (div 1 1 0 ∷ [])) (xsum 2) ∷ add 3 1 1 ∷ [])) (xsum 4)))
     ≡ (1, zd) ∷ (2, raised_by 1 (why.Plain ZeroDivision)) ∷ (3, ok 2) ∷ (4, raised_by 2 why.Chord) ∷ []
 ten_states = refl
 
 -- ---- a group, and then a chord, behind a failed header
 
-eighteen_states : states (evaluated six_tasks (chord_end 1 (lines (div 1 1 0 ∷ []))
+eighteen_states : states (evaluated builtin_tasks (chord_end 1 (lines (div 1 1 0 ∷ []))
     (group_end 2 (lines (one (logged 2 (codes "tasks.add") (int 1 ∷ []) 3) ∷ one (plain 4 (codes "tasks.mul") (int 2 ∷ [])) ∷ [])))))
     ≡ (1, zd) ∷ (2, raised_by 1 (why.Plain ZeroDivision)) ∷ (3, ok 2) ∷ (4, raised_by 1 (why.Plain ZeroDivision)) ∷ []
 unfolding uuid_on_literals digits
 eighteen_states = refl
 
-nineteen_states : states (evaluated six_tasks (chord_end 1 (lines (div 1 1 0 ∷ [])) (chord_end 2 (lines (add_to 2 1 ∷ add_to 3 2 ∷ [])) (xsum 4))))
+nineteen_states : states (evaluated builtin_tasks (chord_end 1 (lines (div 1 1 0 ∷ [])) (chord_end 2 (lines (add_to 2 1 ∷ add_to 3 2 ∷ [])) (xsum 4))))
     ≡ (1, zd) ∷ (2, raised_by 1 (why.Plain ZeroDivision)) ∷ (3, raised_by 1 (why.Plain ZeroDivision)) ∷ (4, raised_by 2 why.Chord) ∷ []
 nineteen_states = refl
 
@@ -161,10 +161,10 @@ linked_sum =
     one (task 1 (call (codes "tasks.add") (int 1 ∷ int 1 ∷ []))
     (and_task (plain 2 (codes "tasks.mul") (int 3 ∷ [])) (and_task (plain 3 (codes "tasks.div") (int 0 ∷ [])) no_tasks)) no_tasks)
 
-links_run : states (evaluated six_tasks linked_sum) ≡ (1, ok 2) ∷ (2, ok 6) ∷ (3, zd) ∷ []
+links_run : states (evaluated builtin_tasks linked_sum) ≡ (1, ok 2) ∷ (2, ok 6) ∷ (3, zd) ∷ []
 links_run = refl
 
-links_of_a_failure : states (evaluated six_tasks (one (task 1 (call (codes "tasks.div") (int 1 ∷ int 0 ∷ [])) (and_task (plain 2 (codes "tasks.ident") []) no_tasks) no_tasks))) ≡ (1, zd) ∷ []
+links_of_a_failure : states (evaluated builtin_tasks (one (task 1 (call (codes "tasks.div") (int 1 ∷ int 0 ∷ [])) (and_task (plain 2 (codes "tasks.ident") []) no_tasks) no_tasks))) ≡ (1, zd) ∷ []
 links_of_a_failure = refl
 
 -- ---- messages of other makers: equal numbers stay as they stood

@@ -4,7 +4,7 @@
 use crate::gates::{Stopping, Way};
 use canvas_engine::{RunFault, TextFault, run_text_threads};
 use canvas_samples::worked::{a_failed_member, a_hundred_and_their_sum};
-use canvas_task::SixTasks;
+use canvas_task::BuiltinTasks;
 use canvas_worker::{Cause, OpenGate, Stop};
 use std::alloc::{Alloc, AllocGlobal, Global};
 use std::io;
@@ -51,7 +51,8 @@ where
     }
     let gate = Stopping::of(&stop, way, most.unwrap_or(u32::MAX));
     let bytes = text.as_bytes();
-    let rows = stored_rows(&run_text_threads(rt, alloc, bytes, &SixTasks, workers, &gate, &stop));
+    let tasks = BuiltinTasks;
+    let rows = stored_rows(&run_text_threads(rt, alloc, bytes, &tasks, workers, &gate, &stop));
     if gate.is_heeded() { rows } else { None }
 }
 
@@ -168,8 +169,8 @@ where
     let asks = Drawing::of(rt, &stop, at, false);
     let fails = Drawing::of(rt, &other, at, true);
     let (bytes, alloc) = (text.as_bytes(), rt.alloc());
-    let stopped = run_text_threads(&asks, alloc, bytes, &SixTasks, workers, &OpenGate, &stop);
-    let lost = run_text_threads(&fails, alloc, bytes, &SixTasks, workers, &OpenGate, &other);
+    let stopped = run_text_threads(&asks, alloc, bytes, &BuiltinTasks, workers, &OpenGate, &stop);
+    let lost = run_text_threads(&fails, alloc, bytes, &BuiltinTasks, workers, &OpenGate, &other);
     (stored_rows(&stopped), is_lost(&lost) && other.asked())
 }
 

@@ -8,7 +8,7 @@ use canvas_engine::{run, run_text_threads};
 use canvas_rewrite::Plan;
 use canvas_samples::spelled;
 use canvas_task::{
-    Add, Arg, Kind, Memory, OfTwo, Outcome, SixTasks, TaskOfTwo, Tasks, registry_of,
+    Add, Arg, BuiltinTasks, Kind, Memory, OfTwo, Outcome, TaskOfTwo, Tasks, registry_of,
 };
 use canvas_worker::{OpenGate, Stop};
 use std::alloc::{AllocGlobal, Global};
@@ -18,7 +18,7 @@ use std::sync::Wait;
 use std::sync::atomic::{AtomicBool, AtomicU32, Ordering};
 use std::thread::{Threads, yield_now};
 
-/// The six tasks, and how often any of them was called.
+/// The built-in tasks, and how often any of them was called.
 #[derive(Drop)]
 pub(crate) struct Called {
     times: AtomicU32,
@@ -37,17 +37,17 @@ impl Called {
 }
 
 impl Tasks for Called {
-    ghost use Rattle.canvas_task.specs.Apply.{six_tasks};
-    ghost use Rattle.canvas_task.specs.BehaviourInRange.{six_in_range};
+    ghost use Rattle.canvas_task.specs.Builtin.{builtin_tasks};
+    ghost use Rattle.canvas_task.specs.BehaviourInRange.{builtin_in_range};
 
-    ghost behaviour = { λ _. six_tasks };
+    ghost behaviour = { λ _. builtin_tasks };
 
     fn apply(&self, name: &str, args: &[Arg], kwargs: &BTreeMap<String, Arg>) -> Outcome {
         self.times.fetch_add(1, Ordering::SeqCst);
-        SixTasks.apply(name, args, kwargs)
+        BuiltinTasks.apply(name, args, kwargs)
     }
 
-    ghost in_range = { λ _. six_in_range };
+    ghost in_range = { λ _. builtin_in_range };
 }
 
 // ---- calls that wait for each other
@@ -97,17 +97,17 @@ impl Meeting {
 }
 
 impl Tasks for Meeting {
-    ghost use Rattle.canvas_task.specs.Apply.{six_tasks};
-    ghost use Rattle.canvas_task.specs.BehaviourInRange.{six_in_range};
+    ghost use Rattle.canvas_task.specs.Builtin.{builtin_tasks};
+    ghost use Rattle.canvas_task.specs.BehaviourInRange.{builtin_in_range};
 
-    ghost behaviour = { λ _. six_tasks };
+    ghost behaviour = { λ _. builtin_tasks };
 
     fn apply(&self, name: &str, args: &[Arg], kwargs: &BTreeMap<String, Arg>) -> Outcome {
         self.wait();
-        SixTasks.apply(name, args, kwargs)
+        BuiltinTasks.apply(name, args, kwargs)
     }
 
-    ghost in_range = { λ _. six_in_range };
+    ghost in_range = { λ _. builtin_in_range };
 }
 
 /// Twenty calls side by side, and the same behind a call: whose worker takes four of them at once.

@@ -10,7 +10,9 @@ use canvas_broker::{Broker, BrokerPass, PlainBroker};
 use canvas_message::{Envelope, Letter};
 use canvas_rewrite::Plan;
 use canvas_samples::frozen_texts::bytes_of;
-use canvas_task::{Add, AddFault, Arg, Fault, Kind, Memory, Outcome, Registry, SixTasks, TaskNo};
+use canvas_task::{
+    Add, AddFault, Arg, BuiltinTasks, Fault, Kind, Memory, Outcome, Registry, TaskNo,
+};
 use canvas_worker::{Ask, Core, Reply};
 use std::alloc::Global;
 use std::collections::BTreeMap;
@@ -205,7 +207,7 @@ fn goes_on(
     if !core.next().suits(&reply) {
         return Ok(false);
     }
-    match core.answer(alloc, backend.roster(), &SixTasks, reply) {
+    match core.answer(alloc, backend.roster(), &BuiltinTasks, reply) {
         Ok(()) => Ok(true),
         Err(Memory) => {
             if has_failed(core) {

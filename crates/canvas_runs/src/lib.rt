@@ -6,7 +6,8 @@
 mod when;
 
 ghost use Rattle.std.specs.Prelude.{◌≡◌, ◌≤◌, ℕ};
-ghost use Rattle.canvas_task.specs.Apply.{Behaviour, six_tasks};
+ghost use Rattle.canvas_task.specs.Apply.{Behaviour};
+ghost use Rattle.canvas_task.specs.Builtin.{builtin_tasks};
 ghost use Rattle.canvas_history.specs.Table.{IsLegal, results};
 ghost use Rattle.canvas_history.specs.Roster.{roster_of};
 ghost use Rattle.canvas_semantics.specs.Evaluation.{state_of, meaning};
@@ -66,7 +67,7 @@ pub fn law_of_progress()
     ensures ends { AllEnd }
     ensures starts { Starts }
     ensures read_back { PlansReadBack }
-    ensures chord { AllReadBack six_tasks small }
+    ensures chord { AllReadBack builtin_tasks small }
 {}
 
 /// The law of events. Whatever the tasks do, evaluating a plan with events gives each task the
@@ -87,10 +88,10 @@ pub fn law_of_events()
 /// that goes on after Again, or that acknowledges its envelope before its work, is no core run.
 pub fn runs_of_a_chord()
     ensures planned { IsPlan small × IsUtf8Line small }
-    ensures stands { (r : Run six_tasks small) × (r.queue ≡ queue) × (r.table ≡ table)
-        × Closed six_tasks small r }
+    ensures stands { (r : Run builtin_tasks small) × (r.queue ≡ queue) × (r.table ≡ table)
+        × Closed builtin_tasks small r }
     ensures none_lost { IsLegal (roster_of small) lost_part → ⊥ }
     ensures none_taken { IsQueueLegal not_taken → ⊥ }
-    ensures none_goes_on { IsCoreRun (worker six_tasks small) taking goes_on → ⊥ }
-    ensures none_acks_first { IsCoreRun (worker six_tasks small) taking acks_first → ⊥ }
+    ensures none_goes_on { IsCoreRun (worker builtin_tasks small) taking goes_on → ⊥ }
+    ensures none_acks_first { IsCoreRun (worker builtin_tasks small) taking acks_first → ⊥ }
 {}

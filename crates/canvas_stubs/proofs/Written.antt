@@ -7,10 +7,11 @@ use Rattle.std.proofs.lemmas.List.Sums.{position_or_len_is}
 use Rattle.std.specs.List.{list_all, position_or_len}
 use Rattle.canvas_task.specs.Text.{Text}
 use Rattle.canvas_task.specs.Name.{name_ok}
+use Rattle.canvas_task.proofs.BuiltinLaw.{known_word}
 use Rattle.canvas_task.specs.declared.outcome.Kind.{Kind}
 use Rattle.canvas_task.specs.declared.outcome.Kind.TheVariants.{BadCall, ZeroDivision, Overflow, NotRegistered}
 use Rattle.canvas_stubs.specs.declared.stub.Does.{Does}
-use Rattle.canvas_stubs.specs.declared.stub.Does.TheVariants.{Add, Mul, Div, Xsum, Ident, LogError, Gives, Raises}
+use Rattle.canvas_stubs.specs.declared.stub.Does.TheVariants.{SameAs, Gives, Raises}
 use Rattle.canvas_stubs.specs.declared.stub.Stub.{Stub}
 use Rattle.canvas_stubs.specs.StubLaws.{IsWritable, in_bounds}
 use Rattle.canvas_stubs.specs.StubTexts.{is_equals, parts_reading, split_text, stub_reading, stub_text, with_name, word_reading, word_text}
@@ -72,12 +73,7 @@ kind_back Overflow = refl
 kind_back NotRegistered = refl
 
 word_back : (does : Does) → in_bounds does ≡ true → word_reading (word_text does) ≡ Ok does
-word_back Add h = refl
-word_back Mul h = refl
-word_back Div h = refl
-word_back Xsum h = refl
-word_back Ident h = refl
-word_back LogError h = refl
+word_back (SameAs task) h = rw (known_word task) refl
 word_back (Gives n) h = number_back n h
 word_back (Raises kind) h = kind_back kind
 

@@ -1,5 +1,5 @@
 -- Numbers as words.
-use Rattle.std.proofs.Common.{◌≡◌, ℕ, suc, ◌<◌, ◌≤◌, ◌^◌, Bool, true, false, [], ◌∷◌, length, get_or, None, Ok, refl, ap, sym, ◌∙◌, arith}
+use Rattle.std.proofs.Common.{◌≡◌, ℕ, suc, ◌<◌, ◌≤◌, ◌^◌, Bool, true, false, List, [], ◌∷◌, length, get_or, None, Ok, refl, ap, sym, ◌∙◌, arith}
 use Rattle.std.specs.Prelude.{◌==◌, ◌&&◌, not, codes, nat_eq, ℤ, pos, negsuc, neg_ℤ}
 use Rattle.std.proofs.lemmas.Bool.Decides.{nat_tests}
 use Rattle.std.proofs.lemmas.Fmt.{decimal_is_IsNumeral}
@@ -13,8 +13,11 @@ use Rattle.std.specs.List.{list_all}
 use Rattle.std.specs.Str.{bytes_eq}
 use Rattle.std.specs.Str.Parse.{IsNumeral, digits_value, without_leading_plus, without_leading_sign, signed_digits_value}
 use Rattle.canvas_task.specs.Text.{Text}
+use Rattle.canvas_task.specs.Builtin.{word, builtins, first_called}
 use Rattle.canvas_task.specs.Numbers.{in_range}
-use Rattle.canvas_stubs.specs.StubTexts.{are_digits, is_number, known_word, word_reading}
+use Rattle.canvas_task.specs.declared.builtin.Builtin.{Builtin}
+use Rattle.canvas_task.proofs.BuiltinLaw.{word_begins}
+use Rattle.canvas_stubs.specs.StubTexts.{are_digits, is_number, known_word, raise_word, task_or, word_reading}
 use Rattle.canvas_stubs.specs.declared.stub.Does.TheVariants.{Gives}
 use Rattle.canvas_stubs.proofs.WordNumbers.{all_digits, model}
 
@@ -23,19 +26,25 @@ use Rattle.canvas_stubs.proofs.WordNumbers.{all_digits, model}
 differs : (c b : ℕ) → c < b → nat_eq c b ≡ false
 differs c b h = grind (arith, nat_tests)
 
+apart : (c b : ℕ) → b < c → nat_eq c b ≡ false
+apart c b h = grind (arith, nat_tests)
+
 -- a text whose first byte comes before that of another isn't the other
 other : (w : Text) (b : ℕ) (bs : Text) → get_or w 0 0 < b → bytes_eq w (b ∷ bs) ≡ false
 other [] b bs h = refl
 other (c ∷ cs) b bs h = ap (λ e. e && pointwise nat_eq cs bs) (differs c b h)
 
-unknown : (w : Text) → get_or w 0 0 < 97 → known_word w ≡ None
-unknown w h =
-    let add : bytes_eq w (codes "add") ≡ false = other w 97 (codes "dd") h in
-    let mul : bytes_eq w (codes "mul") ≡ false = other w 109 (codes "ul") (omega arith) in
-    let div : bytes_eq w (codes "div") ≡ false = other w 100 (codes "iv") (omega arith) in
-    let xsum : bytes_eq w (codes "xsum") ≡ false = other w 120 (codes "sum") (omega arith) in
-    let ident : bytes_eq w (codes "ident") ≡ false = other w 105 (codes "dent") (omega arith) in
-    let log : bytes_eq w (codes "log_error") ≡ false = other w 108 (codes "og_error") (omega arith) in
+after : (w v : Text) → get_or w 0 0 < 97 → 97 ≤ get_or v 0 0 → bytes_eq v w ≡ false
+after w [] h k = absurd (omega arith)
+after [] (b ∷ bs) h k = refl
+after (c ∷ cs) (b ∷ bs) h k = ap (λ e. e && pointwise nat_eq bs cs) (apart b c (omega arith))
+
+no_task : (w : Text) → get_or w 0 0 < 97 → (ts : List Builtin) → first_called word w ts ≡ None
+no_task w h [] = refl
+no_task w h (t ∷ ts) = rw (after w (word t) h (word_begins t)) (no_task w h ts)
+
+no_exception : (w : Text) → get_or w 0 0 < 97 → raise_word w ≡ None
+no_exception w h =
     let type : bytes_eq w (codes "raise:TypeError") ≡ false =
     other w 114 (codes "aise:TypeError") (omega arith) in
     let division : bytes_eq w (codes "raise:ZeroDivisionError") ≡ false =
@@ -44,7 +53,10 @@ unknown w h =
     other w 114 (codes "aise:OverflowError") (omega arith) in
     let task : bytes_eq w (codes "raise:NotRegistered") ≡ false =
     other w 114 (codes "aise:NotRegistered") (omega arith) in
-    rw (add, mul, div, xsum, ident, log, type, division, over, task) refl
+    rw (type, division, over, task) refl
+
+unknown : (w : Text) → get_or w 0 0 < 97 → known_word w ≡ None
+unknown w h = ap (λ o. task_or o (raise_word w)) (no_task w h builtins) ∙ no_exception w h
 
 -- ---- digits, with a sign or none
 

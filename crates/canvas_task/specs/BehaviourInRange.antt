@@ -3,9 +3,11 @@ use Rattle.std.specs.Prelude.{◌≡◌, Bool, true, false, refl, List, [], ◌�
 use Rattle.std.specs.Str.{bytes_eq}
 use Rattle.canvas_task.specs.Numbers.{in_range}
 use Rattle.canvas_task.specs.Text.{Text}
-use Rattle.canvas_task.specs.Apply.{AnswersInRange, IsInRange, Answer, outcome, KnownTask, answer_known, known_task, meaning, six_tasks}
+use Rattle.canvas_task.specs.Apply.{AnswersInRange, IsInRange, Answer, outcome}
+use Rattle.canvas_task.specs.Builtin.{answer_known, builtin_named, meaning, builtin_tasks}
 use Rattle.canvas_task.specs.Tasks.{NamedTask, behaviour_of}
 use Rattle.canvas_task.specs.declared.arg.Arg.{Arg}
+use Rattle.canvas_task.specs.declared.builtin.Builtin.{Builtin}
 use Rattle.canvas_task.specs.declared.outcome.Fault.TheVariants.{Plain}
 use Rattle.canvas_task.specs.declared.outcome.Kind.TheVariants.{Overflow}
 use Rattle.canvas_task.specs.declared.outcome.Outcome.{Outcome}
@@ -31,10 +33,10 @@ behaviour_in_range (t ∷ ts) name args named =
     either_fits (bytes_eq t.name name) _ _ (outcome_fits (t.answers args named))
     (behaviour_in_range ts name args named)
 
-known_fits : (o : Option KnownTask) (args : List Arg) (named : List (Text × Arg))
+known_fits : (o : Option Builtin) (args : List Arg) (named : List (Text × Arg))
     → IsInRange (answer_known o args named)
 known_fits None args named = tt
 known_fits (Some task) args named = outcome_fits (meaning task args named)
 
-pub six_in_range : AnswersInRange six_tasks
-six_in_range name args named = known_fits (known_task name) args named
+pub builtin_in_range : AnswersInRange builtin_tasks
+builtin_in_range name args named = known_fits (builtin_named name) args named

@@ -2,6 +2,7 @@ pub mod formers
 pub mod Text
 pub mod Apply
 pub mod Own
+pub mod Builtin
 pub mod Entries
 pub mod Identifiers
 pub mod Name

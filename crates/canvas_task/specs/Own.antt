@@ -1,7 +1,8 @@
--- For tasks of one's own: the numbers that they are called with, and what they answer.
-use Rattle.std.specs.Prelude.{List, [], ◌∷◌, Option, Some, None, Ok, Err, ℤ}
+-- For tasks of one's own: what they are called with, and what they answer.
+use Rattle.std.specs.Prelude.{ℕ, List, [], ◌∷◌, Option, Some, None, Ok, Err, ℤ}
 use Rattle.canvas_task.specs.Text.{Text}
 use Rattle.canvas_task.specs.Apply.{Answer, bound_to, checked}
+use Rattle.canvas_task.specs.Identifiers.{task_named}
 use Rattle.canvas_task.specs.declared.arg.Arg.{Arg}
 use Rattle.canvas_task.specs.declared.arg.Arg.TheVariants as arg
 use Rattle.canvas_task.specs.declared.outcome.Kind.TheVariants.{BadCall}
@@ -21,6 +22,11 @@ abbrev pub as_two : Option (List Arg) → Option (ℤ × ℤ)
 as_two (Some (arg.Num x ∷ arg.Num y ∷ [])) = Some (x, y)
 as_two o = None
 
+-- one argument, if it is the identifier of a task
+abbrev pub as_task : Option (List Arg) → Option ℕ
+as_task (Some (arg.Text uuid ∷ [])) = task_named uuid
+as_task o = None
+
 -- the number for a parameter, by its name
 abbrev pub one_number : Text → List Arg → List (Text × Arg) → Option ℤ
 one_number x args named = as_number (bound_to (x ∷ []) args named)
@@ -28,6 +34,10 @@ one_number x args named = as_number (bound_to (x ∷ []) args named)
 -- the list for a parameter
 abbrev pub one_list : Text → List Arg → List (Text × Arg) → Option (List ℤ)
 one_list x args named = as_list (bound_to (x ∷ []) args named)
+
+-- the number of the task whose identifier is given for a parameter
+abbrev pub one_task : Text → List Arg → List (Text × Arg) → Option ℕ
+one_task x args named = as_task (bound_to (x ∷ []) args named)
 
 -- the numbers for two parameters
 abbrev pub two_numbers : Text → Text → List Arg → List (Text × Arg) → Option (ℤ × ℤ)

@@ -5,9 +5,11 @@ use Rattle.std.specs.declared.alloc.Global.{Global}
 use Rattle.std.specs.declared.dyn_box.DynBox.{DynBox}
 use Rattle.canvas_task.specs.Text.{Text}
 use Rattle.canvas_task.specs.Name.{name_ok}
-use Rattle.canvas_task.specs.Apply.{Behaviour, Meaning, outcome, KnownTask, task_name, meaning, six_tasks}
+use Rattle.canvas_task.specs.Apply.{Behaviour, Meaning, outcome}
+use Rattle.canvas_task.specs.Builtin.{task_name, meaning, builtin_tasks}
 use Rattle.canvas_task.specs.declared.add_fault.AddFault.{AddFault}
 use Rattle.canvas_task.specs.declared.add_fault.AddFault.TheVariants.{BadName, Doubled}
+use Rattle.canvas_task.specs.declared.builtin.Builtin.{Builtin}
 use Rattle.canvas_task.specs.declared.registry.Registry.{Registry as Boxes}
 use Rattle.canvas_task.specs.declared.outcome.Kind.TheVariants.{NotRegistered}
 use Rattle.canvas_task.specs.declared.outcome.Fault.TheVariants.{Plain}
@@ -47,24 +49,24 @@ abbrev pub tasks_in : {X : Type 0} {F : X → Type 0} → (DynBox X Global F →
     → (DynBox X Global F → Meaning) → Boxes X F → List NamedTask
 tasks_in called answers r = named_tasks called answers r.tasks.items
 
--- ---- the six
+-- ---- the built-in ones
 
-abbrev pub as_named : KnownTask → NamedTask
+abbrev pub as_named : Builtin → NamedTask
 as_named task = record { name = task_name task; answers = meaning task }
 
--- each is one of the six
-abbrev pub AreOfSix : List NamedTask → Type 0
-AreOfSix [] = Unit {0}
-AreOfSix (t ∷ ts) = ((task : KnownTask) × (t ≡ as_named task)) × AreOfSix ts
+-- each is built-in
+abbrev pub AreBuiltin : List NamedTask → Type 0
+AreBuiltin [] = Unit {0}
+AreBuiltin (t ∷ ts) = ((task : Builtin) × (t ≡ as_named task)) × AreBuiltin ts
 
 abbrev pub IsAmong : NamedTask → List NamedTask → Type 0
 IsAmong t [] = ⊥
 IsAmong t (u ∷ us) = (u ≡ t) ⊎ IsAmong t us
 
--- just the six, in any order
-abbrev pub AreTheSix : List NamedTask → Type 0
-AreTheSix ts = AreOfSix ts × ((task : KnownTask) → IsAmong (as_named task) ts)
+-- just the built-in ones, in any order
+abbrev pub AreTheBuiltin : List NamedTask → Type 0
+AreTheBuiltin ts = AreBuiltin ts × ((task : Builtin) → IsAmong (as_named task) ts)
 
--- what such a registry answers is what the six do
-abbrev pub SixAnswer : Type 0
-SixAnswer = (ts : List NamedTask) → AreTheSix ts → behaviour_of ts ≡ six_tasks
+-- what such a registry answers is what the built-in tasks do
+abbrev pub BuiltinAnswer : Type 0
+BuiltinAnswer = (ts : List NamedTask) → AreTheBuiltin ts → behaviour_of ts ≡ builtin_tasks

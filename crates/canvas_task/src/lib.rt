@@ -1,8 +1,10 @@
-//! Numbers, arguments and outcomes of tasks, and the table of tasks.
+//! Numbers, arguments and outcomes of tasks, and tasks: built-in ones, and those of one's own.
 #![tactic(auto)]
 
 mod add_fault;
 mod arg;
+mod arguments;
+mod builtin;
 mod identifier;
 mod laws;
 mod list_of;
@@ -12,17 +14,19 @@ mod name;
 mod number;
 mod outcome;
 mod own;
+mod range;
 mod registry;
-mod six;
-mod table;
 mod task;
 mod text_of;
 mod word;
 
 pub use add_fault::AddFault;
 pub use arg::{Arg, copy_args, copy_kwargs};
+pub use builtin::{
+    Add, ArgKind, BUILTINS, Builtin, BuiltinTasks, Div, Ident, LogError, Mul, Xsum, apply,
+};
 pub use identifier::{group_of_text, group_text, task_of_text, task_text};
-pub use laws::law_of_six_tasks;
+pub use laws::law_of_builtin_tasks;
 pub use list_of::ListOf;
 pub use map_of::MapOf;
 pub use memory::Memory;
@@ -30,11 +34,11 @@ pub use name::name_ok;
 pub use number::{GroupNo, TaskNo};
 pub use outcome::{Fault, Kind, Outcome, Why};
 pub use own::{
-    OfList, OfOne, OfTwo, TaskOfList, TaskOfOne, TaskOfTwo, one_list, one_number, two_numbers,
+    OfId, OfList, OfOne, OfTwo, TaskOfId, TaskOfList, TaskOfOne, TaskOfTwo, one_list, one_number,
+    one_task, two_numbers,
 };
+pub use range::{checked, in_range};
 pub use registry::{BoxedTask, NotAdded, Registry};
-pub use six::{Add, Div, Ident, LogError, Mul, SixTasks, Xsum};
-pub use table::{apply, checked, in_range};
 pub use task::{Task, Tasks};
 pub use text_of::TextOf;
 pub use word::{outcome_of, word_of};

@@ -1,7 +1,10 @@
 //! Outcomes of tasks, and the exceptions of those that fail, by the names that Celery and Python
 //! give them.
 
-use crate::TaskNo;
+ghost use Rattle.std.specs.Prelude.{◌≡◌};
+ghost use Rattle.canvas_task.specs.Apply.{outcome};
+
+use crate::{TaskNo, in_range};
 use std::fmt;
 
 /// A kind of exception that a task raises itself.
@@ -88,4 +91,22 @@ pub enum Outcome {
     Success(i64),
     /// Its exception, or the one for which it was skipped.
     Failure(Fault),
+}
+
+impl Outcome {
+    /// What becomes of a task that answers so. A number past 2^60 on either side overflows.
+    pub fn of(answer: Result<i64, Kind>) -> Outcome
+        ensures { result ≡ outcome answer }
+    {
+        match answer {
+            Ok(number) => {
+                if in_range(number) {
+                    Outcome::Success(number)
+                } else {
+                    Outcome::Failure(Fault::Plain(Kind::Overflow))
+                }
+            }
+            Err(kind) => Outcome::Failure(Fault::Plain(kind)),
+        }
+    }
 }

@@ -1,14 +1,14 @@
-//! Tasks of one's own: helpers that take the numbers out of a call, and tasks that need to say no
+//! Tasks of one's own: helpers that take the arguments out of a call, and tasks that need to say no
 //! more than what they answer to them.
 
-ghost use Rattle.std.specs.Prelude.{◌≡◌, ℤ, List};
+ghost use Rattle.std.specs.Prelude.{◌≡◌, ℕ, ℤ, List};
 ghost use Rattle.std.specs.Option.{option_map};
 ghost use Rattle.canvas_task.specs.Apply.{Answer};
 ghost use Rattle.canvas_task.specs.Entries.{named};
-ghost use Rattle.canvas_task.specs.Own.{fitted, one_list, one_number, two_numbers};
+ghost use Rattle.canvas_task.specs.Own.{fitted, one_list, one_number, one_task, two_numbers};
 
-use crate::table::{one, two};
-use crate::{Arg, Kind, Task, checked};
+use crate::arguments::{one, two};
+use crate::{Arg, Kind, Task, TaskNo, checked, task_of_text};
 use std::collections::BTreeMap;
 
 /// The number for a task's only parameter. None where it isn't given, isn't a number, or more is
@@ -32,6 +32,17 @@ pub fn one_list<'a>(
 {
     match one(x, args, kwargs) {
         Some(Arg::List(numbers)) => Some(numbers.get()),
+        _ => None,
+    }
+}
+
+/// The task whose identifier is given for a task's only parameter. None where it isn't given, is no
+/// such text, or more is given.
+pub fn one_task(x: &str, args: &[Arg], kwargs: &BTreeMap<String, Arg>) -> Option<TaskNo>
+    ensures { result ≡ one_task x.now args.now (named kwargs.now.entries) }
+{
+    match one(x, args, kwargs) {
+        Some(Arg::Text(text)) => task_of_text(text.get()),
         _ => None,
     }
 }
@@ -72,7 +83,7 @@ pub trait OfOne: Drop {
 }
 
 /// A task of one number. Any other arguments are a bad call.
-#[derive(Drop)]
+#[derive(Clone, Copy, Debug, Drop)]
 pub struct TaskOfOne<T> {
     pub name: &'static str,
     /// The name of its parameter.
@@ -128,7 +139,7 @@ pub trait OfTwo: Drop {
 /// let sub = TaskOfTwo { name: "tasks.sub", parameters: ("x", "y"), answers: Difference };
 /// let registry = registry_of!(alloc; Add, Mul, sub)?;
 /// ```
-#[derive(Drop)]
+#[derive(Clone, Copy, Debug, Drop)]
 pub struct TaskOfTwo<T> {
     pub name: &'static str,
     /// The names of its parameters, in their order, and two of them: of one name twice nothing is
@@ -169,7 +180,7 @@ pub trait OfList: Drop {
 }
 
 /// A task of a list of numbers, as the body of a chord. Any other arguments are a bad call.
-#[derive(Drop)]
+#[derive(Clone, Copy, Debug, Drop)]
 pub struct TaskOfList<T> {
     pub name: &'static str,
     /// The name of its parameter.
@@ -192,6 +203,44 @@ impl<T: OfList> Task for TaskOfList<T> {
     fn call(&self, args: &[Arg], kwargs: &BTreeMap<String, Arg>) -> Result<i64, Kind> {
         match one_list(self.parameter, args, kwargs) {
             Some(numbers) => fitted(self.answers.answer(numbers)),
+            None => Err(Kind::BadCall),
+        }
+    }
+}
+
+/// What is answered to the identifier of a task.
+pub trait OfId: Drop {
+    ghost answer: { Self → ℕ → Answer };
+
+    /// The exact number, which overflows where it is out of range, or a kind of exception.
+    fn answer(&self, task: TaskNo) -> Result<i128, Kind>
+        ensures { result ≡ answer self.now task };
+}
+
+/// A task of the identifier of a task, as an error callback. Any other arguments are a bad call.
+#[derive(Clone, Copy, Debug, Drop)]
+pub struct TaskOfId<T> {
+    pub name: &'static str,
+    /// The name of its parameter.
+    pub parameter: &'static str,
+    pub answers: T,
+}
+
+impl<T: OfId> Task for TaskOfId<T> {
+    ghost use Rattle.canvas_task.specs.Own.{answer_given, one_task};
+
+    ghost called = { λ t. t.name.now };
+
+    ghost answers = { λ t args named.
+        answer_given (T.answer t.answers) (one_task t.parameter.now args named) };
+
+    fn name(&self) -> &str {
+        self.name
+    }
+
+    fn call(&self, args: &[Arg], kwargs: &BTreeMap<String, Arg>) -> Result<i64, Kind> {
+        match one_task(self.parameter, args, kwargs) {
+            Some(task) => fitted(self.answers.answer(task)),
             None => Err(Kind::BadCall),
         }
     }

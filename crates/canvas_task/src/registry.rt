@@ -8,7 +8,6 @@ ghost use Rattle.canvas_task.specs.Name.{name_ok};
 ghost use Rattle.canvas_task.specs.Tasks.{tasks_in, named_task, behaviour_of, has_name, fault_of};
 ghost use Rattle.canvas_task.specs.declared.add_fault.AddFault.TheVariants.{Memory};
 
-use crate::table::outcome;
 use crate::{AddFault, Arg, Fault, Kind, Outcome, Task, Tasks, name_ok};
 use std::alloc::Global;
 use std::collections::BTreeMap;
@@ -49,7 +48,7 @@ fn has_good_name(task: &BoxedTask) -> bool
 fn outcome_of(task: &BoxedTask, args: &[Arg], kwargs: &BTreeMap<String, Arg>) -> Outcome
     ensures { result ≡ outcome (answers task.now args.now (named kwargs.now.entries)) }
 {
-    outcome(task.call(args, kwargs))
+    Outcome::of(task.call(args, kwargs))
 }
 
 impl Registry {

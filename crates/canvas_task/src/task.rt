@@ -13,8 +13,9 @@ use std::collections::BTreeMap;
 /// What it answers is a function of what the object holds and of the arguments, and takes no
 /// memory. `called` and `answers` say it to contracts; the two methods are proved to be them.
 ///
-/// `TaskOfOne`, `TaskOfTwo` and `TaskOfList` are tasks that need only what they answer to their
-/// numbers. Any other is written whole, as one that answers how many arguments it is given:
+/// `TaskOfOne`, `TaskOfTwo`, `TaskOfList` and `TaskOfId` are tasks that need only what they answer
+/// to what they are given. Any other is written whole, as one that answers how many arguments it is
+/// given:
 ///
 /// ```
 /// ghost use Rattle.std.specs.Prelude.{codes, pos, length, Ok};

@@ -4,7 +4,7 @@ ghost use Rattle.canvas_task.specs.Apply.{IsInRange};
 ghost use Rattle.canvas_task.specs.declared.outcome.Outcome.{Outcome};
 ghost use Rattle.canvas_task.specs.Words.{FitsAWord, kind_code, kind_of_code, why_code, why_of_code, failure_of_word, fault_word, word, outcome_named};
 
-use crate::table::BOUND;
+use crate::range::BOUND;
 use crate::{Fault, Kind, Outcome, TaskNo, Why};
 
 /// What the number of a success is shifted by, so that the least of them has the word 1.

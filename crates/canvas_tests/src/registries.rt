@@ -1,4 +1,4 @@
-//! Tests of registries, with the six tasks and tasks of one's own.
+//! Tests of registries, with the built-in tasks and tasks of one's own.
 
 ghost use Rattle.std.specs.Prelude.{◌≡◌, codes, ◌-ℤ◌, neg_ℤ, pos, length, Ok};
 

@@ -1,4 +1,4 @@
-//! Numbers, names, texts and the six tasks.
+//! Numbers, names, texts and the built-in tasks.
 
 ghost use Rattle.std.specs.Prelude.{◌≡◌, ◌≤◌};
 

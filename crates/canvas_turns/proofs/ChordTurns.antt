@@ -1,7 +1,7 @@
 -- A chord's run by turns of two workers.
 use Rattle.std.proofs.Common.{◌≡◌, ◌∙◌, ◌||◌, ℕ, true, false, List, [], ◌∷◌, ◌++◌, Option, Some, None, refl, sym, ap, ap₂, subst, inl, inr, arith}
 use Rattle.std.proofs.lemmas.Bool.{cases_eq}
-use Rattle.canvas_task.specs.Apply.{six_tasks}
+use Rattle.canvas_task.specs.Builtin.{builtin_tasks}
 use Rattle.canvas_message.specs.Content.{Content}
 use Rattle.canvas_message.specs.declared.envelope.Envelope.{Envelope}
 use Rattle.canvas_history.specs.declared.stored.Stored.TheVariants.{First}
@@ -17,7 +17,7 @@ use Rattle.canvas_turns.proofs.Shorts.{take, publish, store, part, read, taken, 
 use Rattle.canvas_turns.specs.TurnWitness.{listed_turns, witness_steps as steps, hasty}
 
 abbrev X : Protocol Envelope
-X = worker six_tasks small
+X = worker builtin_tasks small
 
 -- ---- what a worker asks, by the message that its envelope reads as
 
@@ -73,8 +73,8 @@ plainly s a b e = record { back = b; asks = e }
 -- ---- one turn
 
 turn : (before : List Step) (p : ℕ) (a : Ask Envelope) (r : Reply Envelope) (us : List ℕ) (xs : List Step)
-    → Asks (left six_tasks small before p) a → Answers six_tasks small 2 before a r
-    → Turned six_tasks small 2 (before ++ (p, (a, r)) ∷ []) us xs → Turned six_tasks small 2 before (p ∷ us) ((p, (a, r)) ∷ xs)
+    → Asks (left builtin_tasks small before p) a → Answers builtin_tasks small 2 before a r
+    → Turned builtin_tasks small 2 (before ++ (p, (a, r)) ∷ []) us xs → Turned builtin_tasks small 2 before (p ∷ us) ((p, (a, r)) ∷ xs)
 turn before p a r us xs k h t = takes_turn k.back k.asks h t
 
 -- ---- the steps one after the other
@@ -137,52 +137,52 @@ abbrev b18 : List Step
 b18 = b17 ++ (2, (rest, rested false)) ∷ []
 
 -- nobody is inside a script then
-all_out_16 : Answers six_tasks small 2 b16 rest (rested false)
+all_out_16 : Answers builtin_tasks small 2 b16 rest (rested false)
 all_out_16 = ap₂ (λ s u. is_inside s || (is_inside u || false)) (sym (second_state (second_own ++ (take, taken None) ∷ [])))
     (sym (third_state (whole_own ++ (take, taken None) ∷ [])))
 
 -- nobody is inside a script then
-all_out_17 : Answers six_tasks small 2 b17 rest (rested false)
+all_out_17 : Answers builtin_tasks small 2 b17 rest (rested false)
 all_out_17 = ap₂ (λ s u. is_inside s || (is_inside u || false)) (sym (second_state (second_own ++ (take, taken None) ∷ [])))
     (sym (third_state (whole_own ++ (take, taken None) ∷ (rest, rested false) ∷ [])))
 
-from_17 : Turned six_tasks small 2 b17 (2 ∷ []) ((2, (rest, rested false)) ∷ [])
+from_17 : Turned builtin_tasks small 2 b17 (2 ∷ []) ((2, (rest, rested false)) ∷ [])
 from_17 = turn b17 2 (rest) (rested false) ([]) ([]) (by_second (second_own ++ (take, taken None) ∷ []) rest (plainly _ rest tt refl)) all_out_17 all_taken
 
-from_16 : Turned six_tasks small 2 b16 (1 ∷ 2 ∷ []) ((1, (rest, rested false)) ∷ (2, (rest, rested false)) ∷ [])
+from_16 : Turned builtin_tasks small 2 b16 (1 ∷ 2 ∷ []) ((1, (rest, rested false)) ∷ (2, (rest, rested false)) ∷ [])
 from_16 = turn b16 1 (rest) (rested false) (2 ∷ []) ((2, (rest, rested false)) ∷ [])
     (by_third (whole_own ++ (take, taken None) ∷ []) rest (plainly _ rest tt refl)) all_out_16 from_17
 
-from_15 : Turned six_tasks small 2 b15 (2 ∷ 1 ∷ 2 ∷ []) ((2, (take, taken None)) ∷ (1, (rest, rested false)) ∷ (2, (rest, rested false)) ∷ [])
+from_15 : Turned builtin_tasks small 2 b15 (2 ∷ 1 ∷ 2 ∷ []) ((2, (take, taken None)) ∷ (1, (rest, rested false)) ∷ (2, (rest, rested false)) ∷ [])
 from_15 = turn b15 2 (take) (taken None) (1 ∷ 2 ∷ []) ((1, (rest, rested false)) ∷ (2, (rest, rested false)) ∷ [])
     (by_second second_own take (plainly _ take tt refl)) refl from_16
 
-from_14 : Turned six_tasks small 2 b14 (1 ∷ 2 ∷ 1 ∷ 2 ∷ [])
+from_14 : Turned builtin_tasks small 2 b14 (1 ∷ 2 ∷ 1 ∷ 2 ∷ [])
     ((1, (take, taken None)) ∷ (2, (take, taken None)) ∷ (1, (rest, rested false)) ∷ (2, (rest, rested false)) ∷ [])
 from_14 = turn b14 1 (take) (taken None) (2 ∷ 1 ∷ 2 ∷ []) ((2, (take, taken None)) ∷ (1, (rest, rested false)) ∷ (2, (rest, rested false)) ∷ [])
     (by_third whole_own take (plainly _ take tt refl)) refl from_15
 
-from_13 : Turned six_tasks small 2 b13 (1 ∷ 1 ∷ 2 ∷ 1 ∷ 2 ∷ [])
+from_13 : Turned builtin_tasks small 2 b13 (1 ∷ 1 ∷ 2 ∷ 1 ∷ 2 ∷ [])
     ((1, (ack, acked)) ∷ (1, (take, taken None)) ∷ (2, (take, taken None)) ∷ (1, (rest, rested false)) ∷ (2, (rest, rested false)) ∷ [])
 from_13 = turn b13 1 (ack) (acked) (1 ∷ 2 ∷ 1 ∷ 2 ∷ [])
     ((1, (take, taken None)) ∷ (2, (take, taken None)) ∷ (1, (rest, rested false)) ∷ (2, (rest, rested false)) ∷ [])
     (by_third ((store 3 six, stored First) ∷ []) ack (plainly _ ack tt refl)) tt from_14
 
-from_12 : Turned six_tasks small 2 b12 (1 ∷ 1 ∷ 1 ∷ 2 ∷ 1 ∷ 2 ∷ [])
+from_12 : Turned builtin_tasks small 2 b12 (1 ∷ 1 ∷ 1 ∷ 2 ∷ 1 ∷ 2 ∷ [])
     ((1, (store 3 six, stored First)) ∷ (1, (ack, acked)) ∷ (1, (take, taken None)) ∷ (2, (take, taken None)) ∷ (1, (rest, rested false))
     ∷ (2, (rest, rested false)) ∷ [])
 from_12 = turn b12 1 (store 3 six) (stored First) (1 ∷ 1 ∷ 2 ∷ 1 ∷ 2 ∷ [])
     ((1, (ack, acked)) ∷ (1, (take, taken None)) ∷ (2, (take, taken None)) ∷ (1, (rest, rested false)) ∷ (2, (rest, rested false)) ∷ [])
     (by_third [] (store 3 six) (plainly _ (store 3 six) tt refl)) refl from_13
 
-from_11 : Turned six_tasks small 2 b11 (1 ∷ 1 ∷ 1 ∷ 1 ∷ 2 ∷ 1 ∷ 2 ∷ [])
+from_11 : Turned builtin_tasks small 2 b11 (1 ∷ 1 ∷ 1 ∷ 1 ∷ 2 ∷ 1 ∷ 2 ∷ [])
     ((1, (take, taken (Some (sealed whole_sum)))) ∷ (1, (store 3 six, stored First)) ∷ (1, (ack, acked)) ∷ (1, (take, taken None)) ∷ (2, (take, taken None))
     ∷ (1, (rest, rested false)) ∷ (2, (rest, rested false)) ∷ [])
 from_11 = turn b11 1 (take) (taken (Some (sealed whole_sum))) (1 ∷ 1 ∷ 1 ∷ 2 ∷ 1 ∷ 2 ∷ [])
     ((1, (store 3 six, stored First)) ∷ (1, (ack, acked)) ∷ (1, (take, taken None)) ∷ (2, (take, taken None)) ∷ (1, (rest, rested false))
     ∷ (2, (rest, rested false)) ∷ []) (by_first first_own take (plainly _ take tt refl)) refl from_12
 
-from_10 : Turned six_tasks small 2 b10 (2 ∷ 1 ∷ 1 ∷ 1 ∷ 1 ∷ 2 ∷ 1 ∷ 2 ∷ [])
+from_10 : Turned builtin_tasks small 2 b10 (2 ∷ 1 ∷ 1 ∷ 1 ∷ 1 ∷ 2 ∷ 1 ∷ 2 ∷ [])
     ((2, (ack, acked)) ∷ (1, (take, taken (Some (sealed whole_sum)))) ∷ (1, (store 3 six, stored First)) ∷ (1, (ack, acked)) ∷ (1, (take, taken None))
     ∷ (2, (take, taken None)) ∷ (1, (rest, rested false)) ∷ (2, (rest, rested false)) ∷ [])
 from_10 = turn b10 2 (ack) (acked) (1 ∷ 1 ∷ 1 ∷ 1 ∷ 2 ∷ 1 ∷ 2 ∷ [])
@@ -191,7 +191,7 @@ from_10 = turn b10 2 (ack) (acked) (1 ∷ 1 ∷ 1 ∷ 1 ∷ 2 ∷ 1 ∷ 2 ∷ []
     (by_second ((store 2 four, stored First) ∷ (part 1 2, counted 1) ∷ (read 1, found (Some two)) ∷ (read 2, found (Some four))
     ∷ (publish (sealed whole_sum), sent) ∷ []) ack (plainly _ ack tt refl)) tt from_11
 
-from_9 : Turned six_tasks small 2 b9 (2 ∷ 2 ∷ 1 ∷ 1 ∷ 1 ∷ 1 ∷ 2 ∷ 1 ∷ 2 ∷ [])
+from_9 : Turned builtin_tasks small 2 b9 (2 ∷ 2 ∷ 1 ∷ 1 ∷ 1 ∷ 1 ∷ 2 ∷ 1 ∷ 2 ∷ [])
     ((2, (publish (sealed whole_sum), sent)) ∷ (2, (ack, acked)) ∷ (1, (take, taken (Some (sealed whole_sum)))) ∷ (1, (store 3 six, stored First))
     ∷ (1, (ack, acked))
     ∷ (1, (take, taken None)) ∷ (2, (take, taken None)) ∷ (1, (rest, rested false)) ∷ (2, (rest, rested false)) ∷ [])
@@ -201,7 +201,7 @@ from_9 = turn b9 2 (publish (sealed whole_sum)) (sent) (2 ∷ 1 ∷ 1 ∷ 1 ∷ 
     (by_second ((store 2 four, stored First) ∷ (part 1 2, counted 1) ∷ (read 1, found (Some two)) ∷ (read 2, found (Some four)) ∷ [])
     (publish (sealed whole_sum)) (plainly _ (publish (sealed whole_sum)) whole_back refl)) refl from_10
 
-from_8 : Turned six_tasks small 2 b8 (2 ∷ 2 ∷ 2 ∷ 1 ∷ 1 ∷ 1 ∷ 1 ∷ 2 ∷ 1 ∷ 2 ∷ [])
+from_8 : Turned builtin_tasks small 2 b8 (2 ∷ 2 ∷ 2 ∷ 1 ∷ 1 ∷ 1 ∷ 1 ∷ 2 ∷ 1 ∷ 2 ∷ [])
     ((2, (read 2, found (Some four))) ∷ (2, (publish (sealed whole_sum), sent)) ∷ (2, (ack, acked)) ∷ (1, (take, taken (Some (sealed whole_sum))))
     ∷ (1, (store 3 six, stored First)) ∷ (1, (ack, acked)) ∷ (1, (take, taken None)) ∷ (2, (take, taken None)) ∷ (1, (rest, rested false))
     ∷ (2, (rest, rested false)) ∷ [])
@@ -212,7 +212,7 @@ from_8 = turn b8 2 (read 2) (found (Some four)) (2 ∷ 2 ∷ 1 ∷ 1 ∷ 1 ∷ 1
     (by_second ((store 2 four, stored First) ∷ (part 1 2, counted 1) ∷ (read 1, found (Some two)) ∷ []) (read 2) (plainly _ (read 2) tt refl))
     refl from_9
 
-from_7 : Turned six_tasks small 2 b7 (2 ∷ 2 ∷ 2 ∷ 2 ∷ 1 ∷ 1 ∷ 1 ∷ 1 ∷ 2 ∷ 1 ∷ 2 ∷ [])
+from_7 : Turned builtin_tasks small 2 b7 (2 ∷ 2 ∷ 2 ∷ 2 ∷ 1 ∷ 1 ∷ 1 ∷ 1 ∷ 2 ∷ 1 ∷ 2 ∷ [])
     ((2, (read 1, found (Some two))) ∷ (2, (read 2, found (Some four))) ∷ (2, (publish (sealed whole_sum), sent)) ∷ (2, (ack, acked))
     ∷ (1, (take, taken (Some (sealed whole_sum)))) ∷ (1, (store 3 six, stored First)) ∷ (1, (ack, acked)) ∷ (1, (take, taken None)) ∷ (2, (take, taken None))
     ∷ (1, (rest, rested false)) ∷ (2, (rest, rested false)) ∷ [])
@@ -222,7 +222,7 @@ from_7 = turn b7 2 (read 1) (found (Some two)) (2 ∷ 2 ∷ 2 ∷ 1 ∷ 1 ∷ 1 
     ∷ (2, (rest, rested false)) ∷ []) (by_second ((store 2 four, stored First) ∷ (part 1 2, counted 1) ∷ []) (read 1) (plainly _ (read 1) tt refl))
     refl from_8
 
-from_6 : Turned six_tasks small 2 b6 (2 ∷ 2 ∷ 2 ∷ 2 ∷ 2 ∷ 1 ∷ 1 ∷ 1 ∷ 1 ∷ 2 ∷ 1 ∷ 2 ∷ [])
+from_6 : Turned builtin_tasks small 2 b6 (2 ∷ 2 ∷ 2 ∷ 2 ∷ 2 ∷ 1 ∷ 1 ∷ 1 ∷ 1 ∷ 2 ∷ 1 ∷ 2 ∷ [])
     ((2, (part 1 2, counted 1)) ∷ (2, (read 1, found (Some two))) ∷ (2, (read 2, found (Some four))) ∷ (2, (publish (sealed whole_sum), sent))
     ∷ (2, (ack, acked)) ∷ (1, (take, taken (Some (sealed whole_sum)))) ∷ (1, (store 3 six, stored First)) ∷ (1, (ack, acked)) ∷ (1, (take, taken None))
     ∷ (2, (take, taken None)) ∷ (1, (rest, rested false)) ∷ (2, (rest, rested false)) ∷ [])
@@ -232,7 +232,7 @@ from_6 = turn b6 2 (part 1 2) (counted 1) (2 ∷ 2 ∷ 2 ∷ 2 ∷ 1 ∷ 1 ∷ 1
     ∷ (1, (rest, rested false)) ∷ (2, (rest, rested false)) ∷ [])
     (by_second ((store 2 four, stored First) ∷ []) (part 1 2) (plainly _ (part 1 2) tt refl)) refl from_7
 
-from_5 : Turned six_tasks small 2 b5 (2 ∷ 2 ∷ 2 ∷ 2 ∷ 2 ∷ 2 ∷ 1 ∷ 1 ∷ 1 ∷ 1 ∷ 2 ∷ 1 ∷ 2 ∷ [])
+from_5 : Turned builtin_tasks small 2 b5 (2 ∷ 2 ∷ 2 ∷ 2 ∷ 2 ∷ 2 ∷ 1 ∷ 1 ∷ 1 ∷ 1 ∷ 2 ∷ 1 ∷ 2 ∷ [])
     ((2, (store 2 four, stored First)) ∷ (2, (part 1 2, counted 1)) ∷ (2, (read 1, found (Some two))) ∷ (2, (read 2, found (Some four)))
     ∷ (2, (publish (sealed whole_sum), sent)) ∷ (2, (ack, acked)) ∷ (1, (take, taken (Some (sealed whole_sum)))) ∷ (1, (store 3 six, stored First))
     ∷ (1, (ack, acked))
@@ -243,7 +243,7 @@ from_5 = turn b5 2 (store 2 four) (stored First) (2 ∷ 2 ∷ 2 ∷ 2 ∷ 2 ∷ 
     ∷ (2, (take, taken None)) ∷ (1, (rest, rested false)) ∷ (2, (rest, rested false)) ∷ [])
     (by_second [] (store 2 four) (plainly _ (store 2 four) tt refl)) refl from_6
 
-from_4 : Turned six_tasks small 2 b4 (1 ∷ 2 ∷ 2 ∷ 2 ∷ 2 ∷ 2 ∷ 2 ∷ 1 ∷ 1 ∷ 1 ∷ 1 ∷ 2 ∷ 1 ∷ 2 ∷ [])
+from_4 : Turned builtin_tasks small 2 b4 (1 ∷ 2 ∷ 2 ∷ 2 ∷ 2 ∷ 2 ∷ 2 ∷ 1 ∷ 1 ∷ 1 ∷ 1 ∷ 2 ∷ 1 ∷ 2 ∷ [])
     ((1, (ack, acked)) ∷ (2, (store 2 four, stored First)) ∷ (2, (part 1 2, counted 1)) ∷ (2, (read 1, found (Some two)))
     ∷ (2, (read 2, found (Some four)))
     ∷ (2, (publish (sealed whole_sum), sent)) ∷ (2, (ack, acked)) ∷ (1, (take, taken (Some (sealed whole_sum)))) ∷ (1, (store 3 six, stored First))
@@ -256,7 +256,7 @@ from_4 = turn b4 1 (ack) (acked) (2 ∷ 2 ∷ 2 ∷ 2 ∷ 2 ∷ 2 ∷ 1 ∷ 1 �
     ∷ (1, (take, taken None)) ∷ (2, (take, taken None)) ∷ (1, (rest, rested false)) ∷ (2, (rest, rested false)) ∷ [])
     (by_first ((store 1 two, stored First) ∷ (part 1 1, counted 0) ∷ []) ack (plainly _ ack tt refl)) tt from_5
 
-from_3 : Turned six_tasks small 2 b3 (1 ∷ 1 ∷ 2 ∷ 2 ∷ 2 ∷ 2 ∷ 2 ∷ 2 ∷ 1 ∷ 1 ∷ 1 ∷ 1 ∷ 2 ∷ 1 ∷ 2 ∷ [])
+from_3 : Turned builtin_tasks small 2 b3 (1 ∷ 1 ∷ 2 ∷ 2 ∷ 2 ∷ 2 ∷ 2 ∷ 2 ∷ 1 ∷ 1 ∷ 1 ∷ 1 ∷ 2 ∷ 1 ∷ 2 ∷ [])
     ((1, (part 1 1, counted 0)) ∷ (1, (ack, acked)) ∷ (2, (store 2 four, stored First)) ∷ (2, (part 1 2, counted 1)) ∷ (2, (read 1, found (Some two)))
     ∷ (2, (read 2, found (Some four))) ∷ (2, (publish (sealed whole_sum), sent)) ∷ (2, (ack, acked)) ∷ (1, (take, taken (Some (sealed whole_sum))))
     ∷ (1, (store 3 six, stored First)) ∷ (1, (ack, acked)) ∷ (1, (take, taken None)) ∷ (2, (take, taken None)) ∷ (1, (rest, rested false))
@@ -269,7 +269,7 @@ from_3 = turn b3 1 (part 1 1) (counted 0) (1 ∷ 2 ∷ 2 ∷ 2 ∷ 2 ∷ 2 ∷ 2
     ∷ (1, (take, taken None)) ∷ (2, (take, taken None)) ∷ (1, (rest, rested false)) ∷ (2, (rest, rested false)) ∷ [])
     (by_first ((store 1 two, stored First) ∷ []) (part 1 1) (plainly _ (part 1 1) tt refl)) refl from_4
 
-from_2 : Turned six_tasks small 2 b2 (1 ∷ 1 ∷ 1 ∷ 2 ∷ 2 ∷ 2 ∷ 2 ∷ 2 ∷ 2 ∷ 1 ∷ 1 ∷ 1 ∷ 1 ∷ 2 ∷ 1 ∷ 2 ∷ [])
+from_2 : Turned builtin_tasks small 2 b2 (1 ∷ 1 ∷ 1 ∷ 2 ∷ 2 ∷ 2 ∷ 2 ∷ 2 ∷ 2 ∷ 1 ∷ 1 ∷ 1 ∷ 1 ∷ 2 ∷ 1 ∷ 2 ∷ [])
     ((1, (store 1 two, stored First)) ∷ (1, (part 1 1, counted 0)) ∷ (1, (ack, acked)) ∷ (2, (store 2 four, stored First)) ∷ (2, (part 1 2, counted 1))
     ∷ (2, (read 1, found (Some two))) ∷ (2, (read 2, found (Some four))) ∷ (2, (publish (sealed whole_sum), sent)) ∷ (2, (ack, acked))
     ∷ (1, (take, taken (Some (sealed whole_sum)))) ∷ (1, (store 3 six, stored First)) ∷ (1, (ack, acked)) ∷ (1, (take, taken None)) ∷ (2, (take, taken None))
@@ -280,7 +280,7 @@ from_2 = turn b2 1 (store 1 two) (stored First) (1 ∷ 1 ∷ 2 ∷ 2 ∷ 2 ∷ 2
     ∷ (1, (store 3 six, stored First)) ∷ (1, (ack, acked)) ∷ (1, (take, taken None)) ∷ (2, (take, taken None)) ∷ (1, (rest, rested false))
     ∷ (2, (rest, rested false)) ∷ []) (by_first [] (store 1 two) (plainly _ (store 1 two) tt refl)) refl from_3
 
-from_1 : Turned six_tasks small 2 b1 (2 ∷ 1 ∷ 1 ∷ 1 ∷ 2 ∷ 2 ∷ 2 ∷ 2 ∷ 2 ∷ 2 ∷ 1 ∷ 1 ∷ 1 ∷ 1 ∷ 2 ∷ 1 ∷ 2 ∷ [])
+from_1 : Turned builtin_tasks small 2 b1 (2 ∷ 1 ∷ 1 ∷ 1 ∷ 2 ∷ 2 ∷ 2 ∷ 2 ∷ 2 ∷ 2 ∷ 1 ∷ 1 ∷ 1 ∷ 1 ∷ 2 ∷ 1 ∷ 2 ∷ [])
     ((2, (take, taken (Some (sealed second_sum)))) ∷ (1, (store 1 two, stored First)) ∷ (1, (part 1 1, counted 0)) ∷ (1, (ack, acked))
     ∷ (2, (store 2 four, stored First)) ∷ (2, (part 1 2, counted 1)) ∷ (2, (read 1, found (Some two))) ∷ (2, (read 2, found (Some four)))
     ∷ (2, (publish (sealed whole_sum), sent)) ∷ (2, (ack, acked)) ∷ (1, (take, taken (Some (sealed whole_sum)))) ∷ (1, (store 3 six, stored First))
@@ -292,7 +292,7 @@ from_1 = turn b1 2 (take) (taken (Some (sealed second_sum))) (1 ∷ 1 ∷ 1 ∷ 
     ∷ (1, (take, taken (Some (sealed whole_sum)))) ∷ (1, (store 3 six, stored First)) ∷ (1, (ack, acked)) ∷ (1, (take, taken None)) ∷ (2, (take, taken None))
     ∷ (1, (rest, rested false)) ∷ (2, (rest, rested false)) ∷ []) (plainly taking take tt refl) refl from_2
 
-from_0 : Turned six_tasks small 2 b0 (1 ∷ 2 ∷ 1 ∷ 1 ∷ 1 ∷ 2 ∷ 2 ∷ 2 ∷ 2 ∷ 2 ∷ 2 ∷ 1 ∷ 1 ∷ 1 ∷ 1 ∷ 2 ∷ 1 ∷ 2 ∷ [])
+from_0 : Turned builtin_tasks small 2 b0 (1 ∷ 2 ∷ 1 ∷ 1 ∷ 1 ∷ 2 ∷ 2 ∷ 2 ∷ 2 ∷ 2 ∷ 2 ∷ 1 ∷ 1 ∷ 1 ∷ 1 ∷ 2 ∷ 1 ∷ 2 ∷ [])
     ((1, (take, taken (Some (sealed first_sum)))) ∷ (2, (take, taken (Some (sealed second_sum)))) ∷ (1, (store 1 two, stored First))
     ∷ (1, (part 1 1, counted 0))
     ∷ (1, (ack, acked)) ∷ (2, (store 2 four, stored First)) ∷ (2, (part 1 2, counted 1)) ∷ (2, (read 1, found (Some two)))
@@ -309,20 +309,20 @@ from_0 = turn b0 1 (take) (taken (Some (sealed first_sum))) (2 ∷ 1 ∷ 1 ∷ 1
 
 -- ---- the whole
 
-ends_first : HasEnded six_tasks small steps 1
+ends_first : HasEnded builtin_tasks small steps 1
 ends_first = ap (ask X) (third_state (whole_own ++ (take, taken None) ∷ (rest, rested false) ∷ []))
 
-ends_second : HasEnded six_tasks small steps 2
+ends_second : HasEnded builtin_tasks small steps 2
 ends_second = ap (ask X) (second_state (second_own ++ (take, taken None) ∷ (rest, rested false) ∷ []))
 
-all_ended : AllEnded six_tasks small 2 steps
+all_ended : AllEnded builtin_tasks small 2 steps
 all_ended p w = elim (cases_eq p 1) [
-  | inl e ↦ subst (HasEnded six_tasks small steps) (sym e) ends_first
-  | inr f ↦ let same : p ≡ 2 = omega (arith, w.0, w.1, f) in subst (HasEnded six_tasks small steps) (sym same) ends_second
+  | inl e ↦ subst (HasEnded builtin_tasks small steps) (sym e) ends_first
+  | inr f ↦ let same : p ≡ 2 = omega (arith, w.0, w.1, f) in subst (HasEnded builtin_tasks small steps) (sym same) ends_second
 ]
 
 abbrev Stands : Type 0
-Stands = (r : RanWhole six_tasks small 2 listed_turns) × (r.steps ≡ steps) × (r.further ≡ 2)
+Stands = (r : RanWhole builtin_tasks small 2 listed_turns) × (r.steps ≡ steps) × (r.further ≡ 2)
 
 pub stands : Stands
 stands = (
@@ -344,11 +344,11 @@ stands = (
 
 -- what the first step of some turns is answered, and the turns behind it
 record Peeled (before : List Step) (x : Step) (xs : List Step) : Type 0 where
-  pub answers : Answers six_tasks small 2 before x.1.0 x.1.1
+  pub answers : Answers builtin_tasks small 2 before x.1.0 x.1.1
   pub turns : List ℕ
-  pub behind : Turned six_tasks small 2 (before ++ x ∷ []) turns xs
+  pub behind : Turned builtin_tasks small 2 (before ++ x ∷ []) turns xs
 
-peeled : (before : List Step) (us : List ℕ) (x : Step) (xs : List Step) → of_scripts x.1.0 ≡ true → Turned six_tasks small 2 before us (x ∷ xs)
+peeled : (before : List Step) (us : List ℕ) (x : Step) (xs : List Step) → of_scripts x.1.0 ≡ true → Turned builtin_tasks small 2 before us (x ∷ xs)
     → Peeled before x xs
 peeled before us x xs o (delivers_again w e t) = absurd (cc)
 peeled before (p ∷ us) x xs o (skips_turn e t) = peeled before us x xs o t
@@ -378,10 +378,10 @@ h6 = h5 ++ (2, (take, taken None)) ∷ []
 abbrev second_taken : AskedAndAnswered Envelope
 second_taken = (take, taken (Some (sealed second_sum)))
 
-is_busy : is_inside (left six_tasks small h6 1) ≡ true
+is_busy : is_inside (left builtin_tasks small h6 1) ≡ true
 is_busy = ap is_inside (first_state (first_own ++ second_taken ∷ []) ∙ ap (opens X) second_opens)
 
-pub none_hasty : (us : List ℕ) → Turned six_tasks small 2 [] us hasty → ⊥
+pub none_hasty : (us : List ℕ) → Turned builtin_tasks small 2 [] us hasty → ⊥
 none_hasty us t =
     let x1 = peeled h0 us (1, (take, taken (Some (sealed first_sum)))) _ refl t in
     let x2 = peeled h1 x1.turns (1, (store 1 two, stored First)) _ refl x1.behind in

@@ -3,7 +3,7 @@ use Rattle.std.proofs.Common.{◌≡◌, ◌∙◌, ◌||◌, ℕ, true, false, 
 use Rattle.std.specs.Fmt.{digits}
 use Rattle.serde_json.proofs.OnLiterals.{serde_json_on_literals}
 use Rattle.uuid.specs.Text.{by_index}
-use Rattle.canvas_task.specs.Apply.{six_tasks}
+use Rattle.canvas_task.specs.Builtin.{builtin_tasks}
 use Rattle.canvas_semantics.specs.Line.{Line}
 use Rattle.canvas_message.specs.declared.envelope.Envelope.{Envelope}
 use Rattle.canvas_history.specs.declared.stored.Stored.TheVariants.{First, Again}
@@ -25,24 +25,24 @@ use Rattle.std.proofs.lemmas.Bool.{false≢true}
 
 module _ (l : Line) where
   one_taken : (before : List Step) (es rest : List Entry) (a : Ask Envelope) (r : Reply Envelope) (us : List ℕ) (xs : List Step)
-      (s : Doing (worker six_tasks l)) (x : Option Entry) → left six_tasks l before 1 ≡ s → comes_to six_tasks l before 1 ≡ x → wanted x es ≡ false
-      → ReadsBack (worker six_tasks l) s → a ≡ ask (worker six_tasks l) s → Answers six_tasks l 1 before a r
-      → TurnedAgain six_tasks l 1 (before ++ (1, (a, r)) ∷ []) es us xs rest → TurnedAgain six_tasks l 1 before es (1 ∷ us) ((1, (a, r)) ∷ xs) rest
+      (s : Doing (worker builtin_tasks l)) (x : Option Entry) → left builtin_tasks l before 1 ≡ s → comes_to builtin_tasks l before 1 ≡ x → wanted x es ≡ false
+      → ReadsBack (worker builtin_tasks l) s → a ≡ ask (worker builtin_tasks l) s → Answers builtin_tasks l 1 before a r
+      → TurnedAgain builtin_tasks l 1 (before ++ (1, (a, r)) ∷ []) es us xs rest → TurnedAgain builtin_tasks l 1 before es (1 ∷ us) ((1, (a, r)) ∷ xs) rest
   one_taken before es rest a r us xs s x st co w b e h t =
-      takes (subst (λ y. wanted y es ≡ false) (sym co) w) (subst (ReadsBack (worker six_tasks l)) (sym st) b)
-      (subst (λ z. a ≡ ask (worker six_tasks l) z) (sym st) e) h t
+      takes (subst (λ y. wanted y es ≡ false) (sym co) w) (subst (ReadsBack (worker builtin_tasks l)) (sym st) b)
+      (subst (λ z. a ≡ ask (worker builtin_tasks l) z) (sym st) e) h t
 
   one_spent : (before : List Step) (es rest : List Entry) (d : Envelope) (a : Ask Envelope) (r : Reply Envelope) (us : List ℕ) (xs : List Step)
-      (s : Doing (worker six_tasks l)) (x : Option Entry) → left six_tasks l before 1 ≡ s → comes_to six_tasks l before 1 ≡ x → wanted x es ≡ true
-      → holds before 1 ≡ Some d → ReadsBack (worker six_tasks l) s → a ≡ ask (worker six_tasks l) s
-      → Answers six_tasks l 1 (before ++ redelivery 1 d ∷ []) a r
-      → TurnedAgain six_tasks l 1 ((before ++ redelivery 1 d ∷ []) ++ (1, (a, r)) ∷ []) (spent x es) us xs rest
-      → TurnedAgain six_tasks l 1 before es (1 ∷ us) (redelivery 1 d ∷ (1, (a, r)) ∷ xs) rest
+      (s : Doing (worker builtin_tasks l)) (x : Option Entry) → left builtin_tasks l before 1 ≡ s → comes_to builtin_tasks l before 1 ≡ x → wanted x es ≡ true
+      → holds before 1 ≡ Some d → ReadsBack (worker builtin_tasks l) s → a ≡ ask (worker builtin_tasks l) s
+      → Answers builtin_tasks l 1 (before ++ redelivery 1 d ∷ []) a r
+      → TurnedAgain builtin_tasks l 1 ((before ++ redelivery 1 d ∷ []) ++ (1, (a, r)) ∷ []) (spent x es) us xs rest
+      → TurnedAgain builtin_tasks l 1 before es (1 ∷ us) (redelivery 1 d ∷ (1, (a, r)) ∷ xs) rest
   one_spent before es rest d a r us xs s x st co w g b e h t =
-      let now : left six_tasks l (before ++ redelivery 1 d ∷ []) 1 ≡ s = left_delivers six_tasks l before 1 1 d ∙ st in
-      spends (subst (λ y. wanted y es ≡ true) (sym co) w) (omega arith, omega arith) g (subst (ReadsBack (worker six_tasks l)) (sym now) b)
-      (subst (λ z. a ≡ ask (worker six_tasks l) z) (sym now) e) h
-      (subst (λ y. TurnedAgain six_tasks l 1 ((before ++ redelivery 1 d ∷ []) ++ (1, (a, r)) ∷ []) (spent y es) us xs rest) (sym co) t)
+      let now : left builtin_tasks l (before ++ redelivery 1 d ∷ []) 1 ≡ s = left_delivers builtin_tasks l before 1 1 d ∙ st in
+      spends (subst (λ y. wanted y es ≡ true) (sym co) w) (omega arith, omega arith) g (subst (ReadsBack (worker builtin_tasks l)) (sym now) b)
+      (subst (λ z. a ≡ ask (worker builtin_tasks l) z) (sym now) e) h
+      (subst (λ y. TurnedAgain builtin_tasks l 1 ((before ++ redelivery 1 d ∷ []) ++ (1, (a, r)) ∷ []) (spent y es) us xs rest) (sym co) t)
 
 -- ---- the envelopes read back
 
@@ -79,35 +79,35 @@ linked_opens = ap (known_one (book_of quotient)) linked_back
 -- ---- product
 
 product_state_1 : (ys : List (AskedAndAnswered Envelope))
-    → left_after (worker six_tasks product) (opens (worker six_tasks product) (opened (book_of product) (sealed product_sum))) ys
-    ≡ left_after (worker six_tasks product) (opens (worker six_tasks product) (Some product_sum)) ys
-product_state_1 ys = ap (λ o. left_after (worker six_tasks product) (opens (worker six_tasks product) o) ys) first_opens
+    → left_after (worker builtin_tasks product) (opens (worker builtin_tasks product) (opened (book_of product) (sealed product_sum))) ys
+    ≡ left_after (worker builtin_tasks product) (opens (worker builtin_tasks product) (Some product_sum)) ys
+product_state_1 ys = ap (λ o. left_after (worker builtin_tasks product) (opens (worker builtin_tasks product) o) ys) first_opens
 
 product_state_2 : (ys : List (AskedAndAnswered Envelope))
-    → left_after (worker six_tasks product) (opens (worker six_tasks product) (opened (book_of product) (sealed product_sum)))
+    → left_after (worker builtin_tasks product) (opens (worker builtin_tasks product) (opened (book_of product) (sealed product_sum)))
     ((store 1 eight, stored First) ∷ (publish (sealed product_whole), sent) ∷ (ack, acked) ∷ (take, taken (Some (sealed product_sum))) ∷ ys)
-    ≡ left_after (worker six_tasks product) (opens (worker six_tasks product) (Some product_sum)) ys
+    ≡ left_after (worker builtin_tasks product) (opens (worker builtin_tasks product) (Some product_sum)) ys
 product_state_2 ys = product_state_1 ((store 1 eight, stored First) ∷ (publish (sealed product_whole), sent) ∷ (ack, acked)
     ∷ (take, taken (Some (sealed product_sum)))
-    ∷ ys) ∙ ap (λ o. left_after (worker six_tasks product) (opens (worker six_tasks product) o) ys) first_opens
+    ∷ ys) ∙ ap (λ o. left_after (worker builtin_tasks product) (opens (worker builtin_tasks product) o) ys) first_opens
 
 product_state_3 : (ys : List (AskedAndAnswered Envelope))
-    → left_after (worker six_tasks product) (opens (worker six_tasks product) (opened (book_of product) (sealed product_sum)))
+    → left_after (worker builtin_tasks product) (opens (worker builtin_tasks product) (opened (book_of product) (sealed product_sum)))
     ((store 1 eight, stored First) ∷ (publish (sealed product_whole), sent) ∷ (ack, acked) ∷ (take, taken (Some (sealed product_sum)))
     ∷ (store 1 eight, stored Again)
     ∷ (ack, acked) ∷ (take, taken (Some (sealed product_whole))) ∷ ys)
-    ≡ left_after (worker six_tasks product) (opens (worker six_tasks product) (Some product_whole)) ys
+    ≡ left_after (worker builtin_tasks product) (opens (worker builtin_tasks product) (Some product_whole)) ys
 product_state_3 ys = product_state_2 ((store 1 eight, stored Again) ∷ (ack, acked) ∷ (take, taken (Some (sealed product_whole))) ∷ ys)
-    ∙ ap (λ o. left_after (worker six_tasks product) (opens (worker six_tasks product) o) ys) second_opens
+    ∙ ap (λ o. left_after (worker builtin_tasks product) (opens (worker builtin_tasks product) o) ys) second_opens
 
 product_state_4 : (ys : List (AskedAndAnswered Envelope))
-    → left_after (worker six_tasks product) (opens (worker six_tasks product) (opened (book_of product) (sealed product_sum)))
+    → left_after (worker builtin_tasks product) (opens (worker builtin_tasks product) (opened (book_of product) (sealed product_sum)))
     ((store 1 eight, stored First) ∷ (publish (sealed product_whole), sent) ∷ (ack, acked) ∷ (take, taken (Some (sealed product_sum)))
     ∷ (store 1 eight, stored Again)
     ∷ (ack, acked) ∷ (take, taken (Some (sealed product_whole))) ∷ (store 2 sixty_four, stored First) ∷ (ack, acked) ∷ (take, taken (Some (sealed product_sum)))
-    ∷ ys) ≡ left_after (worker six_tasks product) (opens (worker six_tasks product) (Some product_sum)) ys
+    ∷ ys) ≡ left_after (worker builtin_tasks product) (opens (worker builtin_tasks product) (Some product_sum)) ys
 product_state_4 ys = product_state_3 ((store 2 sixty_four, stored First) ∷ (ack, acked) ∷ (take, taken (Some (sealed product_sum))) ∷ ys)
-    ∙ ap (λ o. left_after (worker six_tasks product) (opens (worker six_tasks product) o) ys) first_opens
+    ∙ ap (λ o. left_after (worker builtin_tasks product) (opens (worker builtin_tasks product) o) ys) first_opens
 
 abbrev product_0 : List Step
 product_0 = []
@@ -157,21 +157,21 @@ product_14 = product_13 ++ (1, (take, taken None)) ∷ []
 abbrev product_15 : List Step
 product_15 = product_14 ++ (1, (core.rest, rested false)) ∷ []
 
-product_over : Answers six_tasks product 1 product_14 core.rest (rested false)
+product_over : Answers builtin_tasks product 1 product_14 core.rest (rested false)
 product_over = ap (λ s. is_inside s || false) (sym (product_state_4 ((store 1 eight, stored Again) ∷ (ack, acked) ∷ (take, taken None) ∷ [])))
 
-product_from_14 : TurnedAgain six_tasks product 1 product_14 ([]) (1 ∷ []) ((1, (core.rest, rested false)) ∷ []) ([])
+product_from_14 : TurnedAgain builtin_tasks product 1 product_14 ([]) (1 ∷ []) ((1, (core.rest, rested false)) ∷ []) ([])
 product_from_14 = one_taken product product_14 ([]) ([]) core.rest (rested false) ([]) ([]) _ None
     (product_state_4 ((store 1 eight, stored Again) ∷ (ack, acked) ∷ (take, taken None) ∷ []))
     (ap (λ s. point product s (holds product_14 1))
     (product_state_4 ((store 1 eight, stored Again) ∷ (ack, acked) ∷ (take, taken None) ∷ []))) refl tt refl product_over no_turn
 
-product_from_13 : TurnedAgain six_tasks product 1 product_13 ([]) (1 ∷ 1 ∷ []) ((1, (take, taken None)) ∷ (1, (core.rest, rested false)) ∷ []) ([])
+product_from_13 : TurnedAgain builtin_tasks product 1 product_13 ([]) (1 ∷ 1 ∷ []) ((1, (take, taken None)) ∷ (1, (core.rest, rested false)) ∷ []) ([])
 product_from_13 = one_taken product product_13 ([]) ([]) take (taken None) (1 ∷ []) ((1, (core.rest, rested false)) ∷ []) _ None
     (product_state_4 ((store 1 eight, stored Again) ∷ (ack, acked) ∷ []))
     (ap (λ s. point product s (holds product_13 1)) (product_state_4 ((store 1 eight, stored Again) ∷ (ack, acked) ∷ []))) refl tt refl refl product_from_14
 
-product_from_12 : TurnedAgain six_tasks product 1 product_12 ([]) (1 ∷ 1 ∷ 1 ∷ [])
+product_from_12 : TurnedAgain builtin_tasks product 1 product_12 ([]) (1 ∷ 1 ∷ 1 ∷ [])
     ((1, (ack, acked)) ∷ (1, (take, taken None)) ∷ (1, (core.rest, rested false)) ∷ []) ([])
 product_from_12 = one_taken product product_12 ([]) ([]) ack acked (1 ∷ 1 ∷ []) ((1, (take, taken None)) ∷ (1, (core.rest, rested false))
     ∷ []) _ (Some (1, Late))
@@ -179,13 +179,13 @@ product_from_12 = one_taken product product_12 ([]) ([]) ack acked (1 ∷ 1 ∷ 
     ∷ [])) (ap (λ s. point product s (holds product_12 1)) (product_state_4 ((store 1 eight, stored Again) ∷ []))
     ∙ ap (point_of product Late) first_opens) refl tt refl tt product_from_13
 
-product_from_11 : TurnedAgain six_tasks product 1 product_11 ([]) (1 ∷ 1 ∷ 1 ∷ 1 ∷ [])
+product_from_11 : TurnedAgain builtin_tasks product 1 product_11 ([]) (1 ∷ 1 ∷ 1 ∷ 1 ∷ [])
     ((1, (store 1 eight, stored Again)) ∷ (1, (ack, acked)) ∷ (1, (take, taken None)) ∷ (1, (core.rest, rested false)) ∷ []) ([])
 product_from_11 = one_taken product product_11 ([]) ([]) (store 1 eight) (stored Again) (1 ∷ 1 ∷ 1 ∷ [])
     ((1, (ack, acked)) ∷ (1, (take, taken None)) ∷ (1, (core.rest, rested false)) ∷ []) _ (Some (1, Early)) (product_state_4 ([]))
     (ap (λ s. point product s (holds product_11 1)) (product_state_4 ([])) ∙ ap (point_of product Early) first_opens) refl tt refl refl product_from_12
 
-product_from_10 : TurnedAgain six_tasks product 1 product_10 ([]) (1 ∷ 1 ∷ 1 ∷ 1 ∷ 1 ∷ [])
+product_from_10 : TurnedAgain builtin_tasks product 1 product_10 ([]) (1 ∷ 1 ∷ 1 ∷ 1 ∷ 1 ∷ [])
     ((1, (take, taken (Some (sealed product_sum)))) ∷ (1, (store 1 eight, stored Again)) ∷ (1, (ack, acked)) ∷ (1, (take, taken None))
     ∷ (1, (core.rest, rested false))
     ∷ []) ([])
@@ -195,7 +195,7 @@ product_from_10 = one_taken product product_10 ([]) ([]) take (taken (Some (seal
     (ap (λ s. point product s (holds product_10 1)) (product_state_3 ((store 2 sixty_four, stored First) ∷ (ack, acked)
     ∷ []))) refl tt refl refl product_from_11
 
-product_from_9 : TurnedAgain six_tasks product 1 product_9 ([]) (1 ∷ 1 ∷ 1 ∷ 1 ∷ 1 ∷ 1 ∷ [])
+product_from_9 : TurnedAgain builtin_tasks product 1 product_9 ([]) (1 ∷ 1 ∷ 1 ∷ 1 ∷ 1 ∷ 1 ∷ [])
     ((1, (ack, acked)) ∷ (1, (take, taken (Some (sealed product_sum)))) ∷ (1, (store 1 eight, stored Again)) ∷ (1, (ack, acked)) ∷ (1, (take, taken None))
     ∷ (1, (core.rest, rested false)) ∷ []) ([])
 product_from_9 = one_taken product product_9 ([]) ([]) ack acked (1 ∷ 1 ∷ 1 ∷ 1 ∷ 1 ∷ [])
@@ -205,7 +205,7 @@ product_from_9 = one_taken product product_9 ([]) ([]) ack acked (1 ∷ 1 ∷ 1 
     (ap (λ s. point product s (holds product_9 1)) (product_state_3 ((store 2 sixty_four, stored First) ∷ []))
     ∙ ap (point_of product Late) second_opens) refl tt refl tt product_from_10
 
-product_from_8 : TurnedAgain six_tasks product 1 product_8 ([]) (1 ∷ 1 ∷ 1 ∷ 1 ∷ 1 ∷ 1 ∷ 1 ∷ [])
+product_from_8 : TurnedAgain builtin_tasks product 1 product_8 ([]) (1 ∷ 1 ∷ 1 ∷ 1 ∷ 1 ∷ 1 ∷ 1 ∷ [])
     ((1, (store 2 sixty_four, stored First)) ∷ (1, (ack, acked)) ∷ (1, (take, taken (Some (sealed product_sum)))) ∷ (1, (store 1 eight, stored Again))
     ∷ (1, (ack, acked)) ∷ (1, (take, taken None)) ∷ (1, (core.rest, rested false)) ∷ []) ([])
 product_from_8 = one_taken product product_8 ([]) ([]) (store 2 sixty_four) (stored First) (1 ∷ 1 ∷ 1 ∷ 1 ∷ 1 ∷ 1 ∷ [])
@@ -213,7 +213,7 @@ product_from_8 = one_taken product product_8 ([]) ([]) (store 2 sixty_four) (sto
     ∷ (1, (core.rest, rested false)) ∷ []) _ (Some (2, Early)) (product_state_3 ([])) (ap (λ s. point product s (holds product_8 1)) (product_state_3 ([]))
     ∙ ap (point_of product Early) second_opens) refl tt refl refl product_from_9
 
-product_from_7 : TurnedAgain six_tasks product 1 product_7 ([]) (1 ∷ 1 ∷ 1 ∷ 1 ∷ 1 ∷ 1 ∷ 1 ∷ 1 ∷ [])
+product_from_7 : TurnedAgain builtin_tasks product 1 product_7 ([]) (1 ∷ 1 ∷ 1 ∷ 1 ∷ 1 ∷ 1 ∷ 1 ∷ 1 ∷ [])
     ((1, (take, taken (Some (sealed product_whole)))) ∷ (1, (store 2 sixty_four, stored First)) ∷ (1, (ack, acked))
     ∷ (1, (take, taken (Some (sealed product_sum))))
     ∷ (1, (store 1 eight, stored Again)) ∷ (1, (ack, acked)) ∷ (1, (take, taken None)) ∷ (1, (core.rest, rested false)) ∷ []) ([])
@@ -223,7 +223,7 @@ product_from_7 = one_taken product product_7 ([]) ([]) take (taken (Some (sealed
     ∷ []) _ None (product_state_2 ((store 1 eight, stored Again) ∷ (ack, acked) ∷ []))
     (ap (λ s. point product s (holds product_7 1)) (product_state_2 ((store 1 eight, stored Again) ∷ (ack, acked) ∷ []))) refl tt refl refl product_from_8
 
-product_from_6 : TurnedAgain six_tasks product 1 product_6 ([]) (1 ∷ 1 ∷ 1 ∷ 1 ∷ 1 ∷ 1 ∷ 1 ∷ 1 ∷ 1 ∷ [])
+product_from_6 : TurnedAgain builtin_tasks product 1 product_6 ([]) (1 ∷ 1 ∷ 1 ∷ 1 ∷ 1 ∷ 1 ∷ 1 ∷ 1 ∷ 1 ∷ [])
     ((1, (ack, acked)) ∷ (1, (take, taken (Some (sealed product_whole)))) ∷ (1, (store 2 sixty_four, stored First)) ∷ (1, (ack, acked))
     ∷ (1, (take, taken (Some (sealed product_sum)))) ∷ (1, (store 1 eight, stored Again)) ∷ (1, (ack, acked)) ∷ (1, (take, taken None))
     ∷ (1, (core.rest, rested false)) ∷ []) ([])
@@ -234,7 +234,7 @@ product_from_6 = one_taken product product_6 ([]) ([]) ack acked (1 ∷ 1 ∷ 1 
     (product_state_2 ((store 1 eight, stored Again) ∷ [])) (ap (λ s. point product s (holds product_6 1)) (product_state_2 ((store 1 eight, stored Again) ∷ []))
     ∙ ap (point_of product Late) first_opens) refl tt refl tt product_from_7
 
-product_from_5 : TurnedAgain six_tasks product 1 product_5 ([]) (1 ∷ 1 ∷ 1 ∷ 1 ∷ 1 ∷ 1 ∷ 1 ∷ 1 ∷ 1 ∷ 1 ∷ [])
+product_from_5 : TurnedAgain builtin_tasks product 1 product_5 ([]) (1 ∷ 1 ∷ 1 ∷ 1 ∷ 1 ∷ 1 ∷ 1 ∷ 1 ∷ 1 ∷ 1 ∷ [])
     ((1, (store 1 eight, stored Again)) ∷ (1, (ack, acked)) ∷ (1, (take, taken (Some (sealed product_whole)))) ∷ (1, (store 2 sixty_four, stored First))
     ∷ (1, (ack, acked)) ∷ (1, (take, taken (Some (sealed product_sum)))) ∷ (1, (store 1 eight, stored Again)) ∷ (1, (ack, acked)) ∷ (1, (take, taken None))
     ∷ (1, (core.rest, rested false)) ∷ []) ([])
@@ -244,7 +244,7 @@ product_from_5 = one_taken product product_5 ([]) ([]) (store 1 eight) (stored A
     ∷ (1, (core.rest, rested false)) ∷ []) _ (Some (1, Early)) (product_state_2 ([])) (ap (λ s. point product s (holds product_5 1)) (product_state_2 ([]))
     ∙ ap (point_of product Early) first_opens) refl tt refl refl product_from_6
 
-product_from_4 : TurnedAgain six_tasks product 1 product_4 ([]) (1 ∷ 1 ∷ 1 ∷ 1 ∷ 1 ∷ 1 ∷ 1 ∷ 1 ∷ 1 ∷ 1 ∷ 1 ∷ [])
+product_from_4 : TurnedAgain builtin_tasks product 1 product_4 ([]) (1 ∷ 1 ∷ 1 ∷ 1 ∷ 1 ∷ 1 ∷ 1 ∷ 1 ∷ 1 ∷ 1 ∷ 1 ∷ [])
     ((1, (take, taken (Some (sealed product_sum)))) ∷ (1, (store 1 eight, stored Again)) ∷ (1, (ack, acked)) ∷ (1, (take, taken (Some (sealed product_whole))))
     ∷ (1, (store 2 sixty_four, stored First)) ∷ (1, (ack, acked)) ∷ (1, (take, taken (Some (sealed product_sum)))) ∷ (1, (store 1 eight, stored Again))
     ∷ (1, (ack, acked)) ∷ (1, (take, taken None)) ∷ (1, (core.rest, rested false)) ∷ []) ([])
@@ -255,7 +255,7 @@ product_from_4 = one_taken product product_4 ([]) ([]) take (taken (Some (sealed
     (ap (λ s. point product s (holds product_4 1))
     (product_state_1 ((store 1 eight, stored First) ∷ (publish (sealed product_whole), sent) ∷ (ack, acked) ∷ []))) refl tt refl refl product_from_5
 
-product_from_3 : TurnedAgain six_tasks product 1 product_3 ((1, Late) ∷ []) (1 ∷ 1 ∷ 1 ∷ 1 ∷ 1 ∷ 1 ∷ 1 ∷ 1 ∷ 1 ∷ 1 ∷ 1 ∷ 1 ∷ [])
+product_from_3 : TurnedAgain builtin_tasks product 1 product_3 ((1, Late) ∷ []) (1 ∷ 1 ∷ 1 ∷ 1 ∷ 1 ∷ 1 ∷ 1 ∷ 1 ∷ 1 ∷ 1 ∷ 1 ∷ 1 ∷ [])
     (redelivery 1 (sealed product_sum) ∷ (1, (ack, acked)) ∷ (1, (take, taken (Some (sealed product_sum)))) ∷ (1, (store 1 eight, stored Again))
     ∷ (1, (ack, acked)) ∷ (1, (take, taken (Some (sealed product_whole)))) ∷ (1, (store 2 sixty_four, stored First)) ∷ (1, (ack, acked))
     ∷ (1, (take, taken (Some (sealed product_sum)))) ∷ (1, (store 1 eight, stored Again)) ∷ (1, (ack, acked)) ∷ (1, (take, taken None))
@@ -268,7 +268,7 @@ product_from_3 = one_spent product product_3 ((1, Late) ∷ []) ([]) (sealed pro
     (ap (λ s. point product s (holds product_3 1)) (product_state_1 ((store 1 eight, stored First) ∷ (publish (sealed product_whole), sent) ∷ []))
     ∙ ap (point_of product Late) first_opens) refl refl tt refl tt product_from_4
 
-product_from_2 : TurnedAgain six_tasks product 1 product_2 ((1, Late) ∷ []) (1 ∷ 1 ∷ 1 ∷ 1 ∷ 1 ∷ 1 ∷ 1 ∷ 1 ∷ 1 ∷ 1 ∷ 1 ∷ 1 ∷ 1 ∷ [])
+product_from_2 : TurnedAgain builtin_tasks product 1 product_2 ((1, Late) ∷ []) (1 ∷ 1 ∷ 1 ∷ 1 ∷ 1 ∷ 1 ∷ 1 ∷ 1 ∷ 1 ∷ 1 ∷ 1 ∷ 1 ∷ 1 ∷ [])
     ((1, (publish (sealed product_whole), sent)) ∷ redelivery 1 (sealed product_sum) ∷ (1, (ack, acked))
     ∷ (1, (take, taken (Some (sealed product_sum))))
     ∷ (1, (store 1 eight, stored Again)) ∷ (1, (ack, acked)) ∷ (1, (take, taken (Some (sealed product_whole)))) ∷ (1, (store 2 sixty_four, stored First))
@@ -281,7 +281,7 @@ product_from_2 = one_taken product product_2 ((1, Late) ∷ []) ([]) (publish (s
     ∷ (1, (core.rest, rested false)) ∷ []) _ None (product_state_1 ((store 1 eight, stored First) ∷ []))
     (ap (λ s. point product s (holds product_2 1)) (product_state_1 ((store 1 eight, stored First) ∷ []))) refl second_back refl refl product_from_3
 
-product_from_1 : TurnedAgain six_tasks product 1 product_1 ((1, Early) ∷ (1, Late) ∷ []) (1 ∷ 1 ∷ 1 ∷ 1 ∷ 1 ∷ 1 ∷ 1 ∷ 1 ∷ 1 ∷ 1 ∷ 1 ∷ 1 ∷ 1 ∷ 1 ∷ [])
+product_from_1 : TurnedAgain builtin_tasks product 1 product_1 ((1, Early) ∷ (1, Late) ∷ []) (1 ∷ 1 ∷ 1 ∷ 1 ∷ 1 ∷ 1 ∷ 1 ∷ 1 ∷ 1 ∷ 1 ∷ 1 ∷ 1 ∷ 1 ∷ 1 ∷ [])
     (redelivery 1 (sealed product_sum) ∷ (1, (store 1 eight, stored First)) ∷ (1, (publish (sealed product_whole), sent))
     ∷ redelivery 1 (sealed product_sum) ∷ (1, (ack, acked)) ∷ (1, (take, taken (Some (sealed product_sum)))) ∷ (1, (store 1 eight, stored Again))
     ∷ (1, (ack, acked)) ∷ (1, (take, taken (Some (sealed product_whole)))) ∷ (1, (store 2 sixty_four, stored First)) ∷ (1, (ack, acked))
@@ -295,7 +295,7 @@ product_from_1 = one_spent product product_1 ((1, Early) ∷ (1, Late) ∷ []) (
     ∷ (1, (core.rest, rested false)) ∷ []) _ (Some (1, Early)) (product_state_1 ([])) (ap (λ s. point product s (holds product_1 1)) (product_state_1 ([]))
     ∙ ap (point_of product Early) first_opens) refl refl tt refl refl product_from_2
 
-product_from_0 : TurnedAgain six_tasks product 1 product_0 ((1, Early) ∷ (1, Late) ∷ []) (1 ∷ 1 ∷ 1 ∷ 1 ∷ 1 ∷ 1 ∷ 1 ∷ 1 ∷ 1 ∷ 1 ∷ 1 ∷ 1 ∷ 1 ∷ 1 ∷ 1 ∷ [])
+product_from_0 : TurnedAgain builtin_tasks product 1 product_0 ((1, Early) ∷ (1, Late) ∷ []) (1 ∷ 1 ∷ 1 ∷ 1 ∷ 1 ∷ 1 ∷ 1 ∷ 1 ∷ 1 ∷ 1 ∷ 1 ∷ 1 ∷ 1 ∷ 1 ∷ 1 ∷ [])
     ((1, (take, taken (Some (sealed product_sum)))) ∷ redelivery 1 (sealed product_sum) ∷ (1, (store 1 eight, stored First))
     ∷ (1, (publish (sealed product_whole), sent)) ∷ redelivery 1 (sealed product_sum) ∷ (1, (ack, acked))
     ∷ (1, (take, taken (Some (sealed product_sum))))
@@ -310,12 +310,12 @@ product_from_0 = one_taken product product_0 ((1, Early) ∷ (1, Late) ∷ []) (
     ∷ (1, (take, taken (Some (sealed product_sum)))) ∷ (1, (store 1 eight, stored Again)) ∷ (1, (ack, acked)) ∷ (1, (take, taken None))
     ∷ (1, (core.rest, rested false)) ∷ []) _ None refl refl refl tt refl refl product_from_1
 
-product_ends : AllEnded six_tasks product 1 product_15
+product_ends : AllEnded builtin_tasks product 1 product_15
 product_ends p w = let same : 1 ≡ p = omega (arith, w.0, w.1) in
-    subst (HasEnded six_tasks product product_15) same
-    (ap (ask (worker six_tasks product)) (product_state_4 ((store 1 eight, stored Again) ∷ (ack, acked) ∷ (take, taken None) ∷ (core.rest, rested false) ∷ [])))
+    subst (HasEnded builtin_tasks product product_15) same
+    (ap (ask (worker builtin_tasks product)) (product_state_4 ((store 1 eight, stored Again) ∷ (ack, acked) ∷ (take, taken None) ∷ (core.rest, rested false) ∷ [])))
 
-pub product_stands : (r : RanAgain six_tasks product 1 [] both_points) × (r.steps ≡ product_steps) × (agains_in r.steps ≡ 2)
+pub product_stands : (r : RanAgain builtin_tasks product 1 [] both_points) × (r.steps ≡ product_steps) × (agains_in r.steps ≡ 2)
 product_stands = (
   record {
     opens_back = (
@@ -337,9 +337,9 @@ product_stands = (
 -- ---- quotient
 
 quotient_state_1 : (ys : List (AskedAndAnswered Envelope))
-    → left_after (worker six_tasks quotient) (opens (worker six_tasks quotient) (opened (book_of quotient) (sealed quotient_linked))) ys
-    ≡ left_after (worker six_tasks quotient) (opens (worker six_tasks quotient) (Some quotient_linked)) ys
-quotient_state_1 ys = ap (λ o. left_after (worker six_tasks quotient) (opens (worker six_tasks quotient) o) ys) linked_opens
+    → left_after (worker builtin_tasks quotient) (opens (worker builtin_tasks quotient) (opened (book_of quotient) (sealed quotient_linked))) ys
+    ≡ left_after (worker builtin_tasks quotient) (opens (worker builtin_tasks quotient) (Some quotient_linked)) ys
+quotient_state_1 ys = ap (λ o. left_after (worker builtin_tasks quotient) (opens (worker builtin_tasks quotient) o) ys) linked_opens
 
 abbrev quotient_0 : List Step
 quotient_0 = []
@@ -359,49 +359,49 @@ quotient_4 = quotient_3 ++ (1, (take, taken None)) ∷ []
 abbrev quotient_5 : List Step
 quotient_5 = quotient_4 ++ (1, (core.rest, rested false)) ∷ []
 
-quotient_over : Answers six_tasks quotient 1 quotient_4 core.rest (rested false)
+quotient_over : Answers builtin_tasks quotient 1 quotient_4 core.rest (rested false)
 quotient_over = ap (λ s. is_inside s || false) (sym (quotient_state_1 ((store 1 no_quotient, stored First) ∷ (ack, acked) ∷ (take, taken None) ∷ [])))
 
-quotient_from_4 : TurnedAgain six_tasks quotient 1 quotient_4 ((2, Early) ∷ []) (1 ∷ []) ((1, (core.rest, rested false)) ∷ []) ((2, Early) ∷ [])
+quotient_from_4 : TurnedAgain builtin_tasks quotient 1 quotient_4 ((2, Early) ∷ []) (1 ∷ []) ((1, (core.rest, rested false)) ∷ []) ((2, Early) ∷ [])
 quotient_from_4 = one_taken quotient quotient_4 ((2, Early) ∷ []) ((2, Early) ∷ []) core.rest (rested false) ([]) ([]) _ None
     (quotient_state_1 ((store 1 no_quotient, stored First) ∷ (ack, acked) ∷ (take, taken None) ∷ []))
     (ap (λ s. point quotient s (holds quotient_4 1))
     (quotient_state_1 ((store 1 no_quotient, stored First) ∷ (ack, acked) ∷ (take, taken None) ∷ []))) refl tt refl quotient_over no_turn
 
-quotient_from_3 : TurnedAgain six_tasks quotient 1 quotient_3 ((2, Early) ∷ []) (1 ∷ 1 ∷ []) ((1, (take, taken None)) ∷ (1, (core.rest, rested false)) ∷ [])
+quotient_from_3 : TurnedAgain builtin_tasks quotient 1 quotient_3 ((2, Early) ∷ []) (1 ∷ 1 ∷ []) ((1, (take, taken None)) ∷ (1, (core.rest, rested false)) ∷ [])
     ((2, Early) ∷ [])
 quotient_from_3 = one_taken quotient quotient_3 ((2, Early) ∷ []) ((2, Early) ∷ []) take (taken None) (1 ∷ []) ((1, (core.rest, rested false)) ∷ []) _ None
     (quotient_state_1 ((store 1 no_quotient, stored First) ∷ (ack, acked) ∷ []))
     (ap (λ s. point quotient s (holds quotient_3 1)) (quotient_state_1 ((store 1 no_quotient, stored First) ∷ (ack, acked)
     ∷ []))) refl tt refl refl quotient_from_4
 
-quotient_from_2 : TurnedAgain six_tasks quotient 1 quotient_2 ((2, Early) ∷ []) (1 ∷ 1 ∷ 1 ∷ [])
+quotient_from_2 : TurnedAgain builtin_tasks quotient 1 quotient_2 ((2, Early) ∷ []) (1 ∷ 1 ∷ 1 ∷ [])
     ((1, (ack, acked)) ∷ (1, (take, taken None)) ∷ (1, (core.rest, rested false)) ∷ []) ((2, Early) ∷ [])
 quotient_from_2 = one_taken quotient quotient_2 ((2, Early) ∷ []) ((2, Early) ∷ []) ack acked (1 ∷ 1 ∷ [])
     ((1, (take, taken None)) ∷ (1, (core.rest, rested false)) ∷ []) _ (Some (1, Late)) (quotient_state_1 ((store 1 no_quotient, stored First) ∷ []))
     (ap (λ s. point quotient s (holds quotient_2 1)) (quotient_state_1 ((store 1 no_quotient, stored First) ∷ []))
     ∙ ap (point_of quotient Late) linked_opens) refl tt refl tt quotient_from_3
 
-quotient_from_1 : TurnedAgain six_tasks quotient 1 quotient_1 ((2, Early) ∷ []) (1 ∷ 1 ∷ 1 ∷ 1 ∷ [])
+quotient_from_1 : TurnedAgain builtin_tasks quotient 1 quotient_1 ((2, Early) ∷ []) (1 ∷ 1 ∷ 1 ∷ 1 ∷ [])
     ((1, (store 1 no_quotient, stored First)) ∷ (1, (ack, acked)) ∷ (1, (take, taken None)) ∷ (1, (core.rest, rested false)) ∷ []) ((2, Early) ∷ [])
 quotient_from_1 = one_taken quotient quotient_1 ((2, Early) ∷ []) ((2, Early) ∷ []) (store 1 no_quotient) (stored First) (1 ∷ 1 ∷ 1 ∷ [])
     ((1, (ack, acked)) ∷ (1, (take, taken None)) ∷ (1, (core.rest, rested false)) ∷ []) _ (Some (1, Early)) (quotient_state_1 ([]))
     (ap (λ s. point quotient s (holds quotient_1 1)) (quotient_state_1 ([])) ∙ ap (point_of quotient Early) linked_opens) refl tt refl refl quotient_from_2
 
-quotient_from_0 : TurnedAgain six_tasks quotient 1 quotient_0 ((2, Early) ∷ []) (1 ∷ 1 ∷ 1 ∷ 1 ∷ 1 ∷ [])
+quotient_from_0 : TurnedAgain builtin_tasks quotient 1 quotient_0 ((2, Early) ∷ []) (1 ∷ 1 ∷ 1 ∷ 1 ∷ 1 ∷ [])
     ((1, (take, taken (Some (sealed quotient_linked)))) ∷ (1, (store 1 no_quotient, stored First)) ∷ (1, (ack, acked)) ∷ (1, (take, taken None))
     ∷ (1, (core.rest, rested false)) ∷ []) ((2, Early) ∷ [])
 quotient_from_0 = one_taken quotient quotient_0 ((2, Early) ∷ []) ((2, Early) ∷ []) take (taken (Some (sealed quotient_linked))) (1 ∷ 1 ∷ 1 ∷ 1 ∷ [])
     ((1, (store 1 no_quotient, stored First)) ∷ (1, (ack, acked)) ∷ (1, (take, taken None)) ∷ (1, (core.rest, rested false))
     ∷ []) _ None refl refl refl tt refl refl quotient_from_1
 
-quotient_ends : AllEnded six_tasks quotient 1 quotient_5
+quotient_ends : AllEnded builtin_tasks quotient 1 quotient_5
 quotient_ends p w = let same : 1 ≡ p = omega (arith, w.0, w.1) in
-    subst (HasEnded six_tasks quotient quotient_5) same
-    (ap (ask (worker six_tasks quotient)) (quotient_state_1 ((store 1 no_quotient, stored First) ∷ (ack, acked) ∷ (take, taken None) ∷ (core.rest, rested false)
+    subst (HasEnded builtin_tasks quotient quotient_5) same
+    (ap (ask (worker builtin_tasks quotient)) (quotient_state_1 ((store 1 no_quotient, stored First) ∷ (ack, acked) ∷ (take, taken None) ∷ (core.rest, rested false)
     ∷ [])))
 
-pub quotient_stands : (r : RanAgain six_tasks quotient 1 [] link_entry) × (r.steps ≡ quotient_steps) × (agains_in r.steps ≡ 0)
+pub quotient_stands : (r : RanAgain builtin_tasks quotient 1 [] link_entry) × (r.steps ≡ quotient_steps) × (agains_in r.steps ≡ 0)
 quotient_stands = (
   record {
     opens_back = (linked_back, tt);
@@ -420,15 +420,15 @@ quotient_stands = (
 
 -- ---- the near miss
 
-no_store : (us : List ℕ) (rest : List Entry) → TurnedAgain six_tasks product 1 product_1 both_points us ((1, (store 1 eight, stored First)) ∷ []) rest → ⊥
+no_store : (us : List ℕ) (rest : List Entry) → TurnedAgain builtin_tasks product 1 product_1 both_points us ((1, (store 1 eight, stored First)) ∷ []) rest → ⊥
 no_store [] rest t = elim t [ ]
 no_store (p ∷ us) rest (skips e t) = no_store us rest t
 no_store (p ∷ us) rest (takes f b e h t) =
-    let comes : comes_to six_tasks product product_1 1 ≡ Some (1, Early) = ap (λ s. point product s (holds product_1 1)) (product_state_1 [])
+    let comes : comes_to builtin_tasks product product_1 1 ≡ Some (1, Early) = ap (λ s. point product s (holds product_1 1)) (product_state_1 [])
     ∙ ap (point_of product Early) first_opens in
     absurd (false≢true (sym f ∙ ap (λ x. wanted x both_points) comes))
 
-pub none_unspent : (us : List ℕ) (rest : List Entry) → TurnedAgain six_tasks product 1 [] both_points us unspent rest → ⊥
+pub none_unspent : (us : List ℕ) (rest : List Entry) → TurnedAgain builtin_tasks product 1 [] both_points us unspent rest → ⊥
 none_unspent [] rest t = elim t [ ]
 none_unspent (p ∷ us) rest (skips e t) = none_unspent us rest t
 none_unspent (p ∷ us) rest (takes f b e h t) = no_store us rest t

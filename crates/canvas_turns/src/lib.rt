@@ -4,7 +4,7 @@
 #![tactic(auto)]
 
 ghost use Rattle.std.specs.Prelude.{◌≡◌, ℕ, List, []};
-ghost use Rattle.canvas_task.specs.Apply.{six_tasks};
+ghost use Rattle.canvas_task.specs.Builtin.{builtin_tasks};
 ghost use Rattle.canvas_runs.specs.Witness.{small};
 ghost use Rattle.canvas_turns.specs.TurnLaws.{TurnsAreRuns, TurnRowsMay, TurnRowsAre, TurnsEmpty, TurnStatesMay, TurnStatesAre, WholeTurns, UntilTurns, NextAnswerable, HeldInRange};
 ghost use Rattle.canvas_turns.specs.Going.{FewSteps, StopsSoon, StepsFit, RoundsGo, FairTurnsEnd};
@@ -77,12 +77,12 @@ pub fn laws_of_entries()
 /// message, which is never published, does nothing. By no turns is a store answered with an entry
 /// for the point before it unspent.
 pub fn runs_by_entries()
-    ensures both { (r : RanAgain six_tasks product 1 [] both_points) × (r.steps ≡ product_steps)
+    ensures both { (r : RanAgain builtin_tasks product 1 [] both_points) × (r.steps ≡ product_steps)
         × (agains_in r.steps ≡ 2) }
-    ensures idle { (r : RanAgain six_tasks quotient 1 [] link_entry) × (r.steps ≡ quotient_steps)
-        × (agains_in r.steps ≡ 0) }
+    ensures idle { (r : RanAgain builtin_tasks quotient 1 [] link_entry)
+        × (r.steps ≡ quotient_steps) × (agains_in r.steps ≡ 0) }
     ensures none_unspent { (us : List ℕ) (rest : List Entry)
-        → TurnedAgain six_tasks product 1 [] both_points us unspent rest → ⊥ }
+        → TurnedAgain builtin_tasks product 1 [] both_points us unspent rest → ⊥ }
 {}
 
 /// There is something of which the laws of turns speak: by a list of fourteen turns and two rounds
@@ -90,7 +90,7 @@ pub fn runs_by_entries()
 /// turns is a worker told that nothing more will come while another one is inside the script of a
 /// message.
 pub fn turns_of_a_chord()
-    ensures stands { (r : RanWhole six_tasks small 2 listed_turns) × (r.steps ≡ witness_steps)
+    ensures stands { (r : RanWhole builtin_tasks small 2 listed_turns) × (r.steps ≡ witness_steps)
         × (r.further ≡ 2) }
-    ensures none_hasty { (us : List ℕ) → Turned six_tasks small 2 [] us hasty → ⊥ }
+    ensures none_hasty { (us : List ℕ) → Turned builtin_tasks small 2 [] us hasty → ⊥ }
 {}

@@ -1,129 +1,114 @@
--- A call of one of the six tasks is a TypeError exactly where something is wrong with a parameter, or where it has too many
+-- A call of a built-in task is a TypeError exactly where something is wrong with a parameter, or where it has too many
 -- positional arguments.
-use Rattle.std.proofs.Common.{◌≡◌, ℕ, suc, Bool, true, false, List, [], ◌∷◌, ◌++◌, length, Option, Some, None, ℤ, pos, ◌+ℤ◌, ◌*ℤ◌, codes, refl, ap, sym, ◌∙◌, arith}
+use Rattle.std.proofs.Common.{◌≡◌, ℕ, suc, Bool, true, false, List, [], ◌∷◌, ◌++◌, length, Option, Some, None, ℤ, pos, refl, ap, sym, ◌∙◌, arith}
 use Rattle.std.specs.Prelude.{◌&&◌, ◌||◌, not, if◌then◌else◌, is_some, nat_lt}
 use Rattle.std.specs.List.{list_all, list_any}
 use Rattle.std.specs.Str.{bytes_eq}
 use Rattle.std.proofs.lemmas.Bool.Decides.{nat_tests}
 use Rattle.canvas_task.specs.Text.{Text}
-use Rattle.canvas_task.specs.Numbers.{sum_of}
 use Rattle.canvas_task.specs.Identifiers.{task_named, task_text}
-use Rattle.canvas_task.specs.Apply.{KnownTask, add, mul, div, xsum, ident, log_error, parameters, by_name, first_argument, either, filled, answer_filled, logged, outcome}
+use Rattle.canvas_task.specs.Apply.{Answer, by_name, first_argument, either, filled, outcome}
+use Rattle.canvas_task.specs.Own.{answer_given}
+use Rattle.canvas_task.specs.Builtin.{Rule, of_two, of_one, of_list, of_id, names_in, kind_in, rule, parameters, taken}
 use Rattle.canvas_task.specs.declared.arg.Arg.{Arg}
 use Rattle.canvas_task.specs.declared.arg.Arg.TheVariants as arg
+use Rattle.canvas_task.specs.declared.builtin.ArgKind.{ArgKind}
+use Rattle.canvas_task.specs.declared.builtin.ArgKind.TheVariants as kind
+use Rattle.canvas_task.specs.declared.builtin.Builtin.{Builtin}
+use Rattle.canvas_task.proofs.BuiltinLaw.{AnswersToAll, answers_to_all, is_bad_call}
 use Rattle.canvas_semantics.specs.Tree.{Call}
-use Rattle.canvas_semantics.specs.Evaluation.{Flow, nothing, num, list, id, skip, raised, value, arguments}
+use Rattle.canvas_semantics.specs.Evaluation.{Flow, nothing, num, list, id, skip, raised, value}
 use Rattle.canvas_warning.specs.Calls.{is_type_error, some_task}
-use Rattle.canvas_warning.specs.SixLaws.{kind_of}
+use Rattle.canvas_warning.specs.BuiltinLaws.{kind_of}
 use Rattle.canvas_warning.specs.Parameters.{Blamed, fits, wrong_with, or_next, first_wrong, first_unknown, unknown_or, at_fault, blamed}
 use Rattle.canvas_warning.specs.ParameterLaws.{EachTypeErrorHasItsCause, BlamesTheSameWhateverComes, NamesATask}
 use Rattle.canvas_warning.specs.declared.parameter.Wrong.{Wrong}
 use Rattle.canvas_warning.specs.declared.parameter.Wrong.TheVariants.{OtherKind}
 use Rattle.canvas_warning.specs.declared.stand.Input.{Input}
 use Rattle.canvas_warning.specs.declared.stand.Input.TheVariants.{Nothing, Number, Numbers, Identifier}
-use Rattle.canvas_warning.proofs.Six.{number_fine, quotient_fine, some_task_named}
+use Rattle.canvas_warning.proofs.Rules.{bad, bad_without, fits_fine, meant_filled}
+use Rattle.canvas_warning.proofs.Inputs.{some_task_named}
 
 -- ---- a TypeError of arguments that fill the parameters: one that doesn't fit
-
-abbrev bad : KnownTask → Option (List Arg) → Bool
-bad task o = is_type_error (outcome (answer_filled task o))
 
 -- there are arguments, and each fits
 abbrev all_fit : (Arg → Bool) → Option (List Arg) → Bool
 all_fit fit None = false
 all_fit fit (Some args) = list_all fit args
 
+abbrev BadUnlessFit : Rule → Option (List Arg) → Type 0
+BadUnlessFit r o = bad r o ≡ not (all_fit (fits (kind_in r)) o)
+
 -- of two parameters
 
-abbrev EachTwo : KnownTask → Type 0
-EachTwo t = (a b : Arg) → bad t (Some (a ∷ b ∷ [])) ≡ not (list_all (fits t) (a ∷ b ∷ []))
+two_each : (x y : Text) (f : ℤ → ℤ → Answer) → AnswersToAll (of_two x y f) → (a b : Arg) → BadUnlessFit (of_two x y f) (Some (a ∷ b ∷ []))
+two_each x y f fine (arg.Num m) (arg.Num n) = fits_fine (f m n) (fine m n)
+two_each x y f fine (arg.Num m) (arg.List l) = refl
+two_each x y f fine (arg.Num m) (arg.Text s) = refl
+two_each x y f fine (arg.List l) b = refl
+two_each x y f fine (arg.Text s) b = refl
 
-add_each : EachTwo add
-add_each (arg.Num x) (arg.Num y) = number_fine (x +ℤ y)
-add_each (arg.Num x) (arg.List l) = refl
-add_each (arg.Num x) (arg.Text s) = refl
-add_each (arg.List l) b = refl
-add_each (arg.Text s) b = refl
+two_fill : (x y : Text) (f : ℤ → ℤ → Answer) → AnswersToAll (of_two x y f) → (a b : Option Arg)
+    → BadUnlessFit (of_two x y f) (first_argument a (first_argument b (Some [])))
+two_fill x y f fine None b = refl
+two_fill x y f fine (Some a) None = refl
+two_fill x y f fine (Some a) (Some b) = two_each x y f fine a b
 
-mul_each : EachTwo mul
-mul_each (arg.Num x) (arg.Num y) = number_fine (x *ℤ y)
-mul_each (arg.Num x) (arg.List l) = refl
-mul_each (arg.Num x) (arg.Text s) = refl
-mul_each (arg.List l) b = refl
-mul_each (arg.Text s) b = refl
+two_left : (x y : Text) (f : ℤ → ℤ → Answer) (a b : Option Arg) → BadUnlessFit (of_two x y f) (first_argument a (first_argument b None))
+two_left x y f None b = refl
+two_left x y f (Some a) None = refl
+two_left x y f (Some a) (Some b) = refl
 
-div_each : EachTwo div
-div_each (arg.Num x) (arg.Num y) = quotient_fine x y
-div_each (arg.Num x) (arg.List l) = refl
-div_each (arg.Num x) (arg.Text s) = refl
-div_each (arg.List l) b = refl
-div_each (arg.Text s) b = refl
-
-two_fill : (t : KnownTask) → EachTwo t → (a b : Option Arg)
-    → bad t (first_argument a (first_argument b (Some []))) ≡ not (all_fit (fits t) (first_argument a (first_argument b (Some []))))
-two_fill t each None b = refl
-two_fill t each (Some a) None = refl
-two_fill t each (Some a) (Some b) = each a b
-
-two_left : (t : KnownTask) (a b : Option Arg)
-    → bad t (first_argument a (first_argument b None)) ≡ not (all_fit (fits t) (first_argument a (first_argument b None)))
-two_left t None b = refl
-two_left t (Some a) None = refl
-two_left t (Some a) (Some b) = refl
-
-abbrev BadUnlessAllFit : KnownTask → List Text → Type 0
-BadUnlessAllFit t ps = (args : List Arg) (named : List (Text × Arg)) → bad t (filled ps args named) ≡ not (all_fit (fits t) (filled ps args named))
-
-of_two : (t : KnownTask) (x y : Text) → EachTwo t → BadUnlessAllFit t (x ∷ y ∷ [])
-of_two t x y each [] named = two_fill t each (either None (by_name x named)) (either None (by_name y named))
-of_two t x y each (a ∷ []) named = two_fill t each (either (Some a) (by_name x named)) (either None (by_name y named))
-of_two t x y each (a ∷ b ∷ []) named = two_fill t each (either (Some a) (by_name x named)) (either (Some b) (by_name y named))
-of_two t x y each (a ∷ b ∷ c ∷ rest) named = two_left t (either (Some a) (by_name x named)) (either (Some b) (by_name y named))
+of_two_fit : (x y : Text) (f : ℤ → ℤ → Answer) → AnswersToAll (of_two x y f) → (args : List Arg) (named : List (Text × Arg))
+    → BadUnlessFit (of_two x y f) (filled (x ∷ y ∷ []) args named)
+of_two_fit x y f fine [] named = two_fill x y f fine (either None (by_name x named)) (either None (by_name y named))
+of_two_fit x y f fine (a ∷ []) named = two_fill x y f fine (either (Some a) (by_name x named)) (either None (by_name y named))
+of_two_fit x y f fine (a ∷ b ∷ []) named = two_fill x y f fine (either (Some a) (by_name x named)) (either (Some b) (by_name y named))
+of_two_fit x y f fine (a ∷ b ∷ c ∷ rest) named = two_left x y f (either (Some a) (by_name x named)) (either (Some b) (by_name y named))
 
 -- of one parameter
 
-abbrev EachOne : KnownTask → Type 0
-EachOne t = (a : Arg) → bad t (Some (a ∷ [])) ≡ not (list_all (fits t) (a ∷ []))
+one_each : (x : Text) (f : ℤ → Answer) → AnswersToAll (of_one x f) → (a : Arg) → BadUnlessFit (of_one x f) (Some (a ∷ []))
+one_each x f fine (arg.Num n) = fits_fine (f n) (fine n)
+one_each x f fine (arg.List l) = refl
+one_each x f fine (arg.Text s) = refl
 
-xsum_each : EachOne xsum
-xsum_each (arg.Num x) = refl
-xsum_each (arg.List l) = number_fine (sum_of l)
-xsum_each (arg.Text s) = refl
+list_each : (x : Text) (f : List ℤ → Answer) → AnswersToAll (of_list x f) → (a : Arg) → BadUnlessFit (of_list x f) (Some (a ∷ []))
+list_each x f fine (arg.Num n) = refl
+list_each x f fine (arg.List l) = fits_fine (f l) (fine l)
+list_each x f fine (arg.Text s) = refl
 
-ident_each : EachOne ident
-ident_each (arg.Num x) = number_fine x
-ident_each (arg.List l) = refl
-ident_each (arg.Text s) = refl
+named_each : (f : ℕ → Answer) → ((k : ℕ) → is_bad_call (f k) ≡ false) → (o : Option ℕ)
+    → is_type_error (outcome (answer_given f o)) ≡ not (is_some o && true)
+named_each f fine None = refl
+named_each f fine (Some k) = fits_fine (f k) (fine k)
 
-logged_each : (o : Option ℕ) → is_type_error (outcome (logged o)) ≡ not (is_some o && true)
-logged_each None = refl
-logged_each (Some k) = number_fine (pos k)
+id_each : (x : Text) (f : ℕ → Answer) → AnswersToAll (of_id x f) → (a : Arg) → BadUnlessFit (of_id x f) (Some (a ∷ []))
+id_each x f fine (arg.Num n) = refl
+id_each x f fine (arg.List l) = refl
+id_each x f fine (arg.Text s) = named_each f fine (task_named s)
 
-log_error_each : EachOne log_error
-log_error_each (arg.Num x) = refl
-log_error_each (arg.List l) = refl
-log_error_each (arg.Text s) = logged_each (task_named s)
+abbrev EachOne : Rule → Type 0
+EachOne r = (a : Arg) → BadUnlessFit r (Some (a ∷ []))
 
-one_fill : (t : KnownTask) → EachOne t → (a : Option Arg) → bad t (first_argument a (Some [])) ≡ not (all_fit (fits t) (first_argument a (Some [])))
-one_fill t each None = refl
-one_fill t each (Some a) = each a
+one_fill : (r : Rule) → EachOne r → (a : Option Arg) → BadUnlessFit r (first_argument a (Some []))
+one_fill r each None = bad_without r
+one_fill r each (Some a) = each a
 
-one_left : (t : KnownTask) (a : Option Arg) → bad t (first_argument a None) ≡ not (all_fit (fits t) (first_argument a None))
-one_left t None = refl
-one_left t (Some a) = refl
+one_left : (r : Rule) (a : Option Arg) → BadUnlessFit r (first_argument a None)
+one_left r None = bad_without r
+one_left r (Some a) = bad_without r
 
-of_one : (t : KnownTask) (x : Text) → EachOne t → BadUnlessAllFit t (x ∷ [])
-of_one t x each [] named = one_fill t each (either None (by_name x named))
-of_one t x each (a ∷ []) named = one_fill t each (either (Some a) (by_name x named))
-of_one t x each (a ∷ b ∷ rest) named = one_left t (either (Some a) (by_name x named))
+of_one_fit : (r : Rule) (x : Text) → EachOne r → (args : List Arg) (named : List (Text × Arg)) → BadUnlessFit r (filled (x ∷ []) args named)
+of_one_fit r x each [] named = one_fill r each (either None (by_name x named))
+of_one_fit r x each (a ∷ []) named = one_fill r each (either (Some a) (by_name x named))
+of_one_fit r x each (a ∷ b ∷ rest) named = one_left r (either (Some a) (by_name x named))
 
-bad_unless_all_fit : (t : KnownTask) → BadUnlessAllFit t (parameters t)
-bad_unless_all_fit add = of_two add (codes "x") (codes "y") add_each
-bad_unless_all_fit mul = of_two mul (codes "x") (codes "y") mul_each
-bad_unless_all_fit div = of_two div (codes "x") (codes "y") div_each
-bad_unless_all_fit xsum = of_one xsum (codes "numbers") xsum_each
-bad_unless_all_fit ident = of_one ident (codes "x") ident_each
-bad_unless_all_fit log_error = of_one log_error (codes "uuid") log_error_each
+bad_unless_fit : (r : Rule) → AnswersToAll r → (args : List Arg) (named : List (Text × Arg)) → BadUnlessFit r (filled (names_in r) args named)
+bad_unless_fit (of_two x y f) fine args named = of_two_fit x y f fine args named
+bad_unless_fit (of_one x f) fine args named = of_one_fit (of_one x f) x (one_each x f fine) args named
+bad_unless_fit (of_list x f) fine args named = of_one_fit (of_list x f) x (list_each x f fine) args named
+bad_unless_fit (of_id x f) fine args named = of_one_fit (of_id x f) x (id_each x f fine) args named
 
 -- ---- arguments that don't all fit: something is wrong with a parameter, or there are too many
 
@@ -209,20 +194,21 @@ unknown_is ps [] = refl
 unknown_is ps (e ∷ es) =
     unknown_step (list_any (bytes_eq e.0) ps) (list_all (λ d. list_any (bytes_eq d.0) ps) es) e.0 (first_unknown ps es) (unknown_is ps es)
 
-whether_known : (t : KnownTask) (o : Option Text) (k : Bool) (rest : Option (List Arg)) (w : Option Blamed) (more : Bool)
-    → is_some o ≡ not k → bad t rest ≡ (is_some w || more)
-    → bad t (if k then rest else None) ≡ (is_some (unknown_or o w) || more)
-whether_known t None true rest w more h g = g
-whether_known t None false rest w more h g = absurd cc
-whether_known t (Some p) true rest w more h g = absurd cc
-whether_known t (Some p) false rest w more h g = refl
+whether_known : (r : Rule) (o : Option Text) (k : Bool) (rest : Option (List Arg)) (w : Option Blamed) (more : Bool)
+    → is_some o ≡ not k → bad r rest ≡ (is_some w || more)
+    → bad r (if k then rest else None) ≡ (is_some (unknown_or o w) || more)
+whether_known r None true rest w more h g = g
+whether_known r None false rest w more h g = absurd cc
+whether_known r (Some p) true rest w more h g = absurd cc
+whether_known r (Some p) false rest w more h g = bad_without r
 
 pub has_its_cause : EachTypeErrorHasItsCause
 has_its_cause t args named =
-    let ps = parameters t in
-    whether_known t (first_unknown ps named) (list_all (λ e. list_any (bytes_eq e.0) ps) named) (filled ps args named)
-    (first_wrong (fits t) ps args named) (nat_lt (length ps) (length args)) (unknown_is ps named)
-    (bad_unless_all_fit t args named ∙ too_many_or_wrong (fits t) ps args named)
+    let ps = parameters t in let fit = fits (taken t) in
+    ap (λ a. is_type_error (outcome a)) (meant_filled (rule t) args named)
+    ∙ whether_known (rule t) (first_unknown ps named) (list_all (λ e. list_any (bytes_eq e.0) ps) named) (filled ps args named)
+    (first_wrong fit ps args named) (nat_lt (length ps) (length args)) (unknown_is ps named)
+    (bad_unless_fit (rule t) (answers_to_all t) args named ∙ too_many_or_wrong fit ps args named)
 
 -- ---- whatever comes in
 
@@ -236,51 +222,42 @@ first_alike fit [] args named a b h = refl
 first_alike fit (p ∷ ps) args named a b h =
     ap (λ w. or_next p w (first_wrong fit ps args named)) (wrong_alike fit a b (by_name p named) h)
 
-fault_alike : (t : KnownTask) (args : List Arg) (named : List (Text × Arg)) (a b : Arg) → fits t a ≡ fits t b
+fault_alike : (t : Builtin) (args : List Arg) (named : List (Text × Arg)) (a b : Arg) → fits (taken t) a ≡ fits (taken t) b
     → at_fault t (a ∷ args) named ≡ at_fault t (b ∷ args) named
 fault_alike t args named a b h =
-    ap (unknown_or (first_unknown (parameters t) named)) (first_alike (fits t) (parameters t) args named a b h)
+    ap (unknown_or (first_unknown (parameters t) named)) (first_alike (fits (taken t)) (parameters t) args named a b h)
 
-numbers_alike : (t : KnownTask) (m n : ℤ) → fits t (arg.Num m) ≡ fits t (arg.Num n)
-numbers_alike add m n = refl
-numbers_alike mul m n = refl
-numbers_alike div m n = refl
-numbers_alike xsum m n = refl
-numbers_alike ident m n = refl
-numbers_alike log_error m n = refl
+numbers_alike : (k : ArgKind) (m n : ℤ) → fits k (arg.Num m) ≡ fits k (arg.Num n)
+numbers_alike kind.Number m n = refl
+numbers_alike kind.Numbers m n = refl
+numbers_alike kind.TaskId m n = refl
 
-lists_alike : (t : KnownTask) (ms ns : List ℤ) → fits t (arg.List ms) ≡ fits t (arg.List ns)
-lists_alike add ms ns = refl
-lists_alike mul ms ns = refl
-lists_alike div ms ns = refl
-lists_alike xsum ms ns = refl
-lists_alike ident ms ns = refl
-lists_alike log_error ms ns = refl
+lists_alike : (k : ArgKind) (ms ns : List ℤ) → fits k (arg.List ms) ≡ fits k (arg.List ns)
+lists_alike kind.Number ms ns = refl
+lists_alike kind.Numbers ms ns = refl
+lists_alike kind.TaskId ms ns = refl
 
-texts_alike : (t : KnownTask) (k : ℕ) → task_named (task_text k) ≡ Some k → fits t (arg.Text some_task) ≡ fits t (arg.Text (task_text k))
-texts_alike add k h = refl
-texts_alike mul k h = refl
-texts_alike div k h = refl
-texts_alike xsum k h = refl
-texts_alike ident k h = refl
-texts_alike log_error k h = ap is_some some_task_named ∙ sym (ap is_some h)
+texts_alike : (k : ArgKind) (n : ℕ) → task_named (task_text n) ≡ Some n → fits k (arg.Text some_task) ≡ fits k (arg.Text (task_text n))
+texts_alike kind.Number n h = refl
+texts_alike kind.Numbers n h = refl
+texts_alike kind.TaskId n h = ap is_some some_task_named ∙ sym (ap is_some h)
 
-same_behind : (t : KnownTask) (call : Call) (i : Input) (x : Flow) → kind_of x ≡ Some i → NamesATask x
+same_behind : (t : Builtin) (call : Call) (i : Input) (x : Flow) → kind_of x ≡ Some i → NamesATask x
     → blamed t call i ≡ at_fault t (value x ++ call.args) call.kwargs
 same_behind t call i nothing k h = let same : i ≡ Nothing = cc in ap (blamed t call) same
 same_behind t call i (num n) k h =
     let same : i ≡ Number = cc in
-    ap (blamed t call) same ∙ fault_alike t call.args call.kwargs (arg.Num (pos 0)) (arg.Num n) (numbers_alike t (pos 0) n)
+    ap (blamed t call) same ∙ fault_alike t call.args call.kwargs (arg.Num (pos 0)) (arg.Num n) (numbers_alike (taken t) (pos 0) n)
 same_behind t call i (list ns) k h =
     let same : i ≡ Numbers = cc in
-    ap (blamed t call) same ∙ fault_alike t call.args call.kwargs (arg.List []) (arg.List ns) (lists_alike t [] ns)
+    ap (blamed t call) same ∙ fault_alike t call.args call.kwargs (arg.List []) (arg.List ns) (lists_alike (taken t) [] ns)
 same_behind t call i (id n) k h =
     let same : i ≡ Identifier = cc in
-    ap (blamed t call) same ∙ fault_alike t call.args call.kwargs (arg.Text some_task) (arg.Text (task_text n)) (texts_alike t n h)
+    ap (blamed t call) same ∙ fault_alike t call.args call.kwargs (arg.Text some_task) (arg.Text (task_text n)) (texts_alike (taken t) n h)
 same_behind t call i (skip f) k h = absurd cc
 same_behind t call i (raised f) k h = absurd cc
 
-whether_immutable : (b : Bool) (t : KnownTask) (call : Call) (i : Input) (x : Flow) → kind_of x ≡ Some i → NamesATask x
+whether_immutable : (b : Bool) (t : Builtin) (call : Call) (i : Input) (x : Flow) → kind_of x ≡ Some i → NamesATask x
     → blamed t call (if b then Nothing else i) ≡ at_fault t (if b then call.args else value x ++ call.args) call.kwargs
 whether_immutable true t call i x k h = refl
 whether_immutable false t call i x k h = same_behind t call i x k h

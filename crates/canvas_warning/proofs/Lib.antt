@@ -1,4 +1,5 @@
 pub mod Views
-pub mod Six
+mod Rules
+pub mod Inputs
 pub mod Blames
 pub mod Listed

@@ -1,7 +1,7 @@
 pub mod Calls
 pub mod Standing
 pub mod Foreseen
-pub mod SixLaws
+pub mod BuiltinLaws
 pub mod Parameters
 pub mod ParameterLaws
 pub mod Listed

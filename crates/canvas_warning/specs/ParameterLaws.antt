@@ -1,23 +1,25 @@
--- A call of one of the six tasks is a TypeError exactly where a parameter is at fault, or where it
+-- A call of a built-in task is a TypeError exactly where a parameter is at fault, or where it
 -- has more positional arguments than the task has parameters.
 use Rattle.std.specs.Prelude.{◌≡◌, Bool, ◌||◌, nat_lt, length, List, Some, is_some}
 use Rattle.canvas_task.specs.Text.{Text}
-use Rattle.canvas_task.specs.Apply.{KnownTask, parameters, meaning, outcome}
+use Rattle.canvas_task.specs.Apply.{outcome}
+use Rattle.canvas_task.specs.Builtin.{parameters, meaning}
 use Rattle.canvas_task.specs.Identifiers.{task_named, task_text}
 use Rattle.canvas_task.specs.declared.arg.Arg.{Arg}
+use Rattle.canvas_task.specs.declared.builtin.Builtin.{Builtin}
 use Rattle.canvas_semantics.specs.Tree.{Call}
 use Rattle.canvas_semantics.specs.Evaluation.{Flow, nothing, num, list, id, skip, raised, arguments}
 use Rattle.canvas_warning.specs.Calls.{is_type_error, taken}
 use Rattle.canvas_warning.specs.Parameters.{at_fault, blamed}
-use Rattle.canvas_warning.specs.SixLaws.{kind_of}
+use Rattle.canvas_warning.specs.BuiltinLaws.{kind_of}
 use Rattle.canvas_warning.specs.declared.stand.Input.{Input}
 
-abbrev pub has_too_many : KnownTask → List Arg → Bool
+abbrev pub has_too_many : Builtin → List Arg → Bool
 has_too_many task args = nat_lt (length (parameters task)) (length args)
 
 abbrev pub EachTypeErrorHasItsCause : Type 0
 EachTypeErrorHasItsCause =
-    (task : KnownTask) (args : List Arg) (named : List (Text × Arg))
+    (task : Builtin) (args : List Arg) (named : List (Text × Arg))
     → is_type_error (outcome (meaning task args named))
     ≡ (is_some (at_fault task args named) || has_too_many task args)
 
@@ -33,5 +35,5 @@ NamesATask (raised f) = Unit {0}
 -- whatever of a kind comes in, the same parameter is at fault
 abbrev pub BlamesTheSameWhateverComes : Type 0
 BlamesTheSameWhateverComes =
-    (task : KnownTask) (call : Call) (i : Input) (x : Flow) → kind_of x ≡ Some i → NamesATask x
+    (task : Builtin) (call : Call) (i : Input) (x : Flow) → kind_of x ≡ Some i → NamesATask x
     → blamed task call (taken call i) ≡ at_fault task (arguments call x) call.kwargs

@@ -1,43 +1,36 @@
--- The parameter that makes a call of one of the six tasks a TypeError, and what is wrong with it.
+-- The parameter that makes a call of a built-in task a TypeError, and what is wrong with it.
 -- Where a call has too many positional arguments, there may be none.
 use Rattle.std.specs.Prelude.{Bool, true, false, if◌then◌else◌, List, [], ◌∷◌, ◌++◌, Option, Some, None, is_some, pos}
 use Rattle.std.specs.List.{list_any}
 use Rattle.std.specs.Str.{bytes_eq}
 use Rattle.canvas_task.specs.Text.{Text}
-use Rattle.canvas_task.specs.Apply.{KnownTask, add, mul, div, xsum, ident, log_error, parameters, by_name}
+use Rattle.canvas_task.specs.Apply.{by_name}
+use Rattle.canvas_task.specs.Builtin.{parameters, taken}
 use Rattle.canvas_task.specs.Identifiers.{task_named}
 use Rattle.canvas_task.specs.declared.arg.Arg.{Arg}
 use Rattle.canvas_task.specs.declared.arg.Arg.TheVariants as arg
+use Rattle.canvas_task.specs.declared.builtin.ArgKind.{ArgKind}
+use Rattle.canvas_task.specs.declared.builtin.ArgKind.TheVariants as kind
+use Rattle.canvas_task.specs.declared.builtin.Builtin.{Builtin}
 use Rattle.canvas_semantics.specs.Tree.{Call}
 use Rattle.canvas_warning.specs.Calls.{some_task}
-use Rattle.canvas_warning.specs.declared.parameter.OneOfSix.{OneOfSix}
-use Rattle.canvas_warning.specs.declared.parameter.OneOfSix.TheVariants.{Add, Mul, Div, Xsum, Ident, LogError}
 use Rattle.canvas_warning.specs.declared.parameter.Wrong.{Wrong}
 use Rattle.canvas_warning.specs.declared.parameter.Wrong.TheVariants.{NoParameter, Missing, Twice, OtherKind}
 use Rattle.canvas_warning.specs.declared.stand.Input.{Input}
 use Rattle.canvas_warning.specs.declared.stand.Input.TheVariants.{Nothing, Number, Numbers, Identifier}
 
-abbrev pub known : OneOfSix → KnownTask
-known Add = add
-known Mul = mul
-known Div = div
-known Xsum = xsum
-known Ident = ident
-known LogError = log_error
-
 -- a name, and what is wrong with it as a parameter
 abbrev pub Blamed : Type 0
 Blamed = Text × Wrong
 
--- whether an argument is of the kind that the parameters of a task take: a list of numbers, the
--- identifier of a task, or a number
-abbrev pub fits : KnownTask → Arg → Bool
-fits xsum (arg.List numbers) = true
-fits xsum a = false
-fits log_error (arg.Text uuid) = is_some (task_named uuid)
-fits log_error a = false
-fits task (arg.Num n) = true
-fits task a = false
+-- whether an argument is of a kind
+abbrev pub fits : ArgKind → Arg → Bool
+fits kind.Number (arg.Num n) = true
+fits kind.Number a = false
+fits kind.Numbers (arg.List numbers) = true
+fits kind.Numbers a = false
+fits kind.TaskId (arg.Text uuid) = is_some (task_named uuid)
+fits kind.TaskId a = false
 
 -- what is wrong with a parameter that is given this by its place, and that by its name
 abbrev pub wrong_with : (Arg → Bool) → Option Arg → Option Arg → Option Wrong
@@ -71,10 +64,10 @@ unknown_or None other = other
 
 -- what a call with these arguments is to blame for: a keyword that is no parameter, or else the
 -- first of the task's parameters with which something is wrong
-abbrev pub at_fault : KnownTask → List Arg → List (Text × Arg) → Option Blamed
+abbrev pub at_fault : Builtin → List Arg → List (Text × Arg) → Option Blamed
 at_fault task args named =
     unknown_or (first_unknown (parameters task) named)
-    (first_wrong (fits task) (parameters task) args named)
+    (first_wrong (fits (taken task)) (parameters task) args named)
 
 -- a value of the kind that comes in
 abbrev pub front : Input → List Arg
@@ -84,5 +77,5 @@ front Numbers = arg.List [] ∷ []
 front Identifier = arg.Text some_task ∷ []
 
 -- the same of a call that takes a value of a kind in front of its own arguments
-abbrev pub blamed : KnownTask → Call → Input → Option Blamed
+abbrev pub blamed : Builtin → Call → Input → Option Blamed
 blamed task call i = at_fault task (front i ++ call.args) call.kwargs

@@ -1,25 +1,27 @@
-//! The parameter that makes a call of one of the six tasks a TypeError.
+//! The parameter that makes a call of a built-in task a TypeError.
 
 ghost use Rattle.std.specs.Prelude.{◌≡◌, ◌∷◌, [], if◌then◌else◌, None, Some, IfOk};
 ghost use Rattle.std.specs.List.{list_any};
 ghost use Rattle.std.specs.Option.{option_map};
 ghost use Rattle.std.specs.Str.{bytes_eq};
-ghost use Rattle.canvas_task.specs.Apply.{by_name, log_error, parameters};
+ghost use Rattle.canvas_task.specs.Apply.{by_name};
+ghost use Rattle.canvas_task.specs.Builtin.{parameters, taken};
+ghost use Rattle.canvas_task.specs.declared.builtin.ArgKind.TheVariants.{TaskId};
 ghost use Rattle.canvas_task.specs.Entries.{named};
 ghost use Rattle.canvas_values.specs.ComposedRefusals.{its_call};
 ghost use Rattle.canvas_values.specs.SignatureView.{task_view};
-ghost use Rattle.canvas_warning.specs.Parameters.{known, fits, wrong_with, first_wrong, first_unknown, at_fault, blamed};
+ghost use Rattle.canvas_warning.specs.Parameters.{fits, wrong_with, first_wrong, first_unknown, at_fault, blamed};
 ghost use Rattle.canvas_warning.specs.declared.parameter.Wrong.TheVariants.{OtherKind};
 
 use crate::call::some_task;
-use crate::{Blame, Input, OneOfSix, Wrong};
-use canvas_task::{Arg, ListOf, copy_args, task_of_text};
+use crate::{Blame, Input, Wrong};
+use canvas_task::{Arg, ArgKind, Builtin, ListOf, copy_args, task_of_text};
 use canvas_values::TaskSig;
 use std::alloc::{AllocError, Global};
 use std::collections::BTreeMap;
 
 fn names_a_task(arg: &Arg) -> bool
-    ensures { result ≡ fits log_error arg.now }
+    ensures { result ≡ fits TaskId arg.now }
 {
     match arg {
         Arg::Text(text) => task_of_text(text.get()).is_some(),
@@ -29,23 +31,20 @@ fn names_a_task(arg: &Arg) -> bool
 }
 
 /// Whether an argument is of the kind that the parameters of a task take.
-fn is_taken(six: OneOfSix, arg: &Arg) -> bool
-    ensures { result ≡ fits (known six) arg.now }
+fn is_taken(task: Builtin, arg: &Arg) -> bool
+    ensures { result ≡ fits (taken task) arg.now }
 {
-    match six {
-        OneOfSix::Add | OneOfSix::Mul | OneOfSix::Div | OneOfSix::Ident => matches!(
-            arg,
-            Arg::Num(_)
-        ),
-        OneOfSix::Xsum => matches!(arg, Arg::List(_)),
-        OneOfSix::LogError => names_a_task(arg),
+    match task.takes() {
+        ArgKind::Number => matches!(arg, Arg::Num(_)),
+        ArgKind::Numbers => matches!(arg, Arg::List(_)),
+        ArgKind::TaskId => names_a_task(arg),
     }
 }
 
-fn other_kind(six: OneOfSix, arg: &Arg) -> Option<Wrong>
-    ensures { result ≡ (if fits (known six) arg.now then None else Some OtherKind) }
+fn other_kind(task: Builtin, arg: &Arg) -> Option<Wrong>
+    ensures { result ≡ (if fits (taken task) arg.now then None else Some OtherKind) }
 {
-    if is_taken(six, arg) {
+    if is_taken(task, arg) {
         None
     } else {
         Some(Wrong::OtherKind)
@@ -53,17 +52,17 @@ fn other_kind(six: OneOfSix, arg: &Arg) -> Option<Wrong>
 }
 
 /// What is wrong with a parameter that is given this by its place, and that by its name.
-fn wrong_with(six: OneOfSix, given: Option<&Arg>, named: Option<&Arg>) -> Option<Wrong>
-    ensures { result ≡ wrong_with (fits (known six)) (option_map (λ a. a.now) given.entry)
+fn wrong_with(task: Builtin, given: Option<&Arg>, named: Option<&Arg>) -> Option<Wrong>
+    ensures { result ≡ wrong_with (fits (taken task)) (option_map (λ a. a.now) given.entry)
         (option_map (λ a. a.now) named.entry) }
 {
     match given {
         Some(arg) => match named {
             Some(_) => Some(Wrong::Twice),
-            None => other_kind(six, arg),
+            None => other_kind(task, arg),
         },
         None => match named {
-            Some(arg) => other_kind(six, arg),
+            Some(arg) => other_kind(task, arg),
             None => Some(Wrong::Missing),
         },
     }
@@ -78,15 +77,15 @@ fn by_name<'a>(parameter: &str, kwargs: &'a BTreeMap<String, Arg>) -> Option<&'a
 
 /// What is wrong with the parameter of a task that has one.
 fn wrong_of_one<'a>(
-    six: OneOfSix,
+    task: Builtin,
     x: &'a str,
     args: &[Arg],
     kwargs: &BTreeMap<String, Arg>,
 ) -> Option<Blame<'a>>
     ensures { option_map (λ b. (b.parameter.now, b.wrong)) result
-        ≡ first_wrong (fits (known six)) (x.now ∷ []) args.now (named kwargs.now.entries) }
+        ≡ first_wrong (fits (taken task)) (x.now ∷ []) args.now (named kwargs.now.entries) }
 {
-    match wrong_with(six, args.first(), by_name(x, kwargs)) {
+    match wrong_with(task, args.first(), by_name(x, kwargs)) {
         Some(wrong) => Some(Blame {
             parameter: x,
             wrong,
@@ -97,22 +96,22 @@ fn wrong_of_one<'a>(
 
 /// The first of two parameters with which something is wrong.
 fn wrong_of_two<'a>(
-    six: OneOfSix,
+    task: Builtin,
     x: &'a str,
     y: &'a str,
     args: &[Arg],
     kwargs: &BTreeMap<String, Arg>,
 ) -> Option<Blame<'a>>
     ensures { option_map (λ b. (b.parameter.now, b.wrong)) result
-        ≡ first_wrong (fits (known six)) (x.now ∷ y.now ∷ []) args.now (named kwargs.now.entries) }
+        ≡ first_wrong (fits (taken task)) (x.now ∷ y.now ∷ []) args.now (named kwargs.now.entries) }
 {
-    if let Some(wrong) = wrong_with(six, args.first(), by_name(x, kwargs)) {
+    if let Some(wrong) = wrong_with(task, args.first(), by_name(x, kwargs)) {
         return Some(Blame {
             parameter: x,
             wrong,
         });
     }
-    match wrong_with(six, args.get(1), by_name(y, kwargs)) {
+    match wrong_with(task, args.get(1), by_name(y, kwargs)) {
         Some(wrong) => Some(Blame {
             parameter: y,
             wrong,
@@ -122,36 +121,32 @@ fn wrong_of_two<'a>(
 }
 
 /// The first of a task's parameters with which something is wrong.
-fn first_wrong<'a>(six: OneOfSix, args: &[Arg], kwargs: &BTreeMap<String, Arg>) -> Option<Blame<'a>>
-    ensures { option_map (λ b. (b.parameter.now, b.wrong)) result ≡ first_wrong (fits (known six))
-        (parameters (known six)) args.now (named kwargs.now.entries) }
+fn first_wrong<'a>(task: Builtin, args: &[Arg], kwargs: &BTreeMap<String, Arg>) -> Option<Blame<'a>>
+    ensures { option_map (λ b. (b.parameter.now, b.wrong)) result ≡ first_wrong (fits (taken task))
+        (parameters task) args.now (named kwargs.now.entries) }
 {
-    match six {
-        OneOfSix::Add | OneOfSix::Mul | OneOfSix::Div => wrong_of_two(six, "x", "y", args, kwargs),
-        OneOfSix::Xsum => wrong_of_one(six, "numbers", args, kwargs),
-        OneOfSix::Ident => wrong_of_one(six, "x", args, kwargs),
-        OneOfSix::LogError => wrong_of_one(six, "uuid", args, kwargs),
+    match task.parameters() {
+        (x, Some(y)) => wrong_of_two(task, x, y, args, kwargs),
+        (x, None) => wrong_of_one(task, x, args, kwargs),
     }
 }
 
-fn is_parameter(six: OneOfSix, name: &str) -> bool
-    ensures { result ≡ list_any (bytes_eq name.now) (parameters (known six)) }
+fn is_parameter(task: Builtin, name: &str) -> bool
+    ensures { result ≡ list_any (bytes_eq name.now) (parameters task) }
 {
-    match six {
-        OneOfSix::Add | OneOfSix::Mul | OneOfSix::Div => name == "x" || name == "y",
-        OneOfSix::Xsum => name == "numbers",
-        OneOfSix::Ident => name == "x",
-        OneOfSix::LogError => name == "uuid",
+    match task.parameters() {
+        (x, Some(y)) => name == x || name == y,
+        (x, None) => name == x,
     }
 }
 
 /// The first keyword that is no parameter.
-fn first_unknown<'a>(six: OneOfSix, kwargs: &'a BTreeMap<String, Arg>) -> Option<&'a str>
+fn first_unknown<'a>(task: Builtin, kwargs: &'a BTreeMap<String, Arg>) -> Option<&'a str>
     ensures { option_map (λ name. name.now) result
-        ≡ first_unknown (parameters (known six)) (named kwargs.now.entries) }
+        ≡ first_unknown (parameters task) (named kwargs.now.entries) }
 {
     for (name, _arg) in kwargs.iter() {
-        if !is_parameter(six, name) {
+        if !is_parameter(task, name) {
             return Some(name.as_str());
         }
     }
@@ -159,51 +154,51 @@ fn first_unknown<'a>(six: OneOfSix, kwargs: &'a BTreeMap<String, Arg>) -> Option
 }
 
 /// What a call with these arguments is to blame for.
-fn at_fault<'a>(six: OneOfSix, args: &[Arg], kwargs: &'a BTreeMap<String, Arg>) -> Option<Blame<'a>>
+fn at_fault<'a>(task: Builtin, args: &[Arg], kwargs: &'a BTreeMap<String, Arg>) -> Option<Blame<'a>>
     ensures { option_map (λ b. (b.parameter.now, b.wrong)) result
-        ≡ at_fault (known six) args.now (named kwargs.now.entries) }
+        ≡ at_fault task args.now (named kwargs.now.entries) }
 {
-    match first_unknown(six, kwargs) {
+    match first_unknown(task, kwargs) {
         Some(parameter) => Some(Blame {
             parameter,
             wrong: Wrong::NoParameter,
         }),
-        None => first_wrong(six, args, kwargs),
+        None => first_wrong(task, args, kwargs),
     }
 }
 
 /// What a call is to blame for with one argument in front of its own.
 fn at_fault_behind<'a>(
-    six: OneOfSix,
+    task: Builtin,
     sig: &'a TaskSig,
     arg: Arg,
 ) -> Result<Option<Blame<'a>>, AllocError>
     ensures { IfOk result (λ blame. option_map (λ b. (b.parameter.now, b.wrong)) blame
-        ≡ at_fault (known six) (arg ∷ (its_call (task_view sig.now)).args)
+        ≡ at_fault task (arg ∷ (its_call (task_view sig.now)).args)
         (its_call (task_view sig.now)).kwargs) }
 {
     let mut args = copy_args(&sig.args)?.into_plain();
     args.insert(0, arg)?;
-    Ok(at_fault(six, &args, sig.kwargs.get()))
+    Ok(at_fault(task, &args, sig.kwargs.get()))
 }
 
-/// The parameter that makes a call of one of the six tasks a TypeError, where a value of this kind
+/// The parameter that makes a call of a built-in task a TypeError, where a value of this kind
 /// stands in front of its own arguments: a keyword that is no parameter, or else the first of the
 /// task's parameters that has no argument, two, or one of another kind. None where there are too
 /// many positional arguments, or where the call is no TypeError.
 pub fn blamed<'a>(
     alloc: Global,
-    six: OneOfSix,
+    task: Builtin,
     sig: &'a TaskSig,
     input: Input,
 ) -> Result<Option<Blame<'a>>, AllocError>
     ensures { IfOk result (λ blame. option_map (λ b. (b.parameter.now, b.wrong)) blame
-        ≡ blamed (known six) (its_call (task_view sig.now)) input) }
+        ≡ blamed task (its_call (task_view sig.now)) input) }
 {
     match input {
-        Input::Nothing => Ok(at_fault(six, sig.args.get(), sig.kwargs.get())),
-        Input::Number => at_fault_behind(six, sig, Arg::Num(0)),
-        Input::Numbers => at_fault_behind(six, sig, Arg::List(ListOf::of(Vec::new(alloc)))),
-        Input::Identifier => at_fault_behind(six, sig, some_task(alloc)?),
+        Input::Nothing => Ok(at_fault(task, sig.args.get(), sig.kwargs.get())),
+        Input::Number => at_fault_behind(task, sig, Arg::Num(0)),
+        Input::Numbers => at_fault_behind(task, sig, Arg::List(ListOf::of(Vec::new(alloc)))),
+        Input::Identifier => at_fault_behind(task, sig, some_task(alloc)?),
     }
 }

@@ -14,8 +14,8 @@ use std::alloc::Global;
 /// a header before its body, and of a task its links before its error callbacks.
 ///
 /// A call is expected to be a TypeError where it is one behind each of some values of the kind that
-/// comes in, and the task takes other arguments. Of the six tasks that is so behind every value of
-/// the kind (`law_of_six_forecasts`).
+/// comes in, and the task takes other arguments. Of built-in tasks that is so behind every value of
+/// the kind (`law_of_builtin_forecasts`).
 pub fn forecasts<T: Tasks>(
     alloc: Global,
     canvas: &Canvas,

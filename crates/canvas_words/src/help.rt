@@ -24,7 +24,7 @@ and standard error says how many did. A list is written as one of turns is. In p
 may have a name, for all tasks of that name; `all` is each task at both points. Another is refused
 (BadAgain).
 
-The six tasks are tasks.add(x, y), tasks.mul(x, y), tasks.div(x, y), which rounds down,
+The built-in tasks are tasks.add(x, y), tasks.mul(x, y), tasks.div(x, y), which rounds down,
 tasks.ident(x), tasks.xsum(numbers), which adds up a list, and tasks.log_error(uuid), which gives
 the number of the task with that identifier. An argument is a whole number from -2^60 to 2^60, a
 list of such (numbers), or a text (uuid). What comes in is the first, unless the signature is
@@ -66,7 +66,7 @@ result, status, task_id), and one for the result (result, status). A failure's r
 and exc_message, as Celery stores it. A task that wasn't called has ran false; where it failed all
 the same, due_to is the task whose exception it shows, or that its ChordError names. `run
 --explain` says the same in words, with #2 for the identifier of task 2. A run that ends early
-doesn't say which tasks were called. With --json a call of one of the six tasks that is a TypeError
+doesn't say which tasks were called. With --json a call of a built-in task that is a TypeError
 has parameter: the one at fault, or null where there are too many arguments. `run --each` reads a
 canvas a line, and prints a JSON object a line for each, in their order: canvas (the last line of
 `run --json`) and rows (a list of the others), or what --json prints of one that is refused. With

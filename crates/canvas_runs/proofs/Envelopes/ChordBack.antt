@@ -2,8 +2,8 @@
 use Rattle.std.proofs.Common.{refl, lit≤}
 use Rattle.std.specs.Prelude.{codes}
 use Rattle.json.proofs.Printed.Utf8.{IsUtf8-are_ascii}
-use Rattle.canvas_task.specs.Apply.{six_tasks}
-use Rattle.canvas_task.specs.BehaviourInRange.{six_in_range}
+use Rattle.canvas_task.specs.Builtin.{builtin_tasks}
+use Rattle.canvas_task.specs.BehaviourInRange.{builtin_in_range}
 use Rattle.canvas_rewrite.specs.Planned.{IsPlan}
 use Rattle.canvas_rewrite.specs.Utf8.{IsUtf8Line}
 use Rattle.canvas_runs.specs.Progress.{AllReadBack}
@@ -34,5 +34,5 @@ small_utf8 =
       ((record { name = sum; args = tt; kwargs = tt }, tt, tt), tt),
     )
 
-pub chord_back : AllReadBack six_tasks small
-chord_back = all_read_back six_tasks six_in_range small small_plan small_utf8
+pub chord_back : AllReadBack builtin_tasks small
+chord_back = all_read_back builtin_tasks builtin_in_range small small_plan small_utf8

@@ -2,7 +2,7 @@
 use Rattle.std.proofs.Common.{◌≡◌, ◌≢◌, ◌∙◌, ℕ, false, eqb, cond, List, [], ◌∷◌, ◌++◌, map, Option, Some, None, refl, sym, ap, subst, inl, inr, ne_eqb, arith}
 use Rattle.std.proofs.lemmas.Bool.{cases_eq}
 use Rattle.std.specs.Fmt.{digits}
-use Rattle.canvas_task.specs.Apply.{six_tasks}
+use Rattle.canvas_task.specs.Builtin.{builtin_tasks}
 use Rattle.serde_json.proofs.OnLiterals.{serde_json_on_literals}
 use Rattle.uuid.specs.Text.{by_index}
 use Rattle.canvas_history.specs.History.{split, join, calls}
@@ -95,7 +95,7 @@ by_callers P a b c d p =
 -- ---- each caller's core run
 
 abbrev X : Protocol Envelope
-X = worker six_tasks small
+X = worker builtin_tasks small
 
 abbrev Left : List (AskedAndAnswered Envelope) → Option Content → Type 0
 Left xs o = IsCoreRun X (opens X o) xs
@@ -297,7 +297,7 @@ table_legal = (
 
 -- ---- the run
 
-run : Run six_tasks small
+run : Run builtin_tasks small
 run = record {
   queue = chord_queue;
   table = chord_table;
@@ -315,11 +315,11 @@ run = record {
   keeps = all_kept;
 }
 
-closed : Closed six_tasks small run
+closed : Closed builtin_tasks small run
 unfolding run
 closed = record { all_sent = refl; drained = refl; all_used = all_used; all_ended = all_ended }
 
-pub stands : (r : Run six_tasks small) × (r.queue ≡ chord_queue) × (r.table ≡ chord_table) × Closed six_tasks small r
+pub stands : (r : Run builtin_tasks small) × (r.queue ≡ chord_queue) × (r.table ≡ chord_table) × Closed builtin_tasks small r
 unfolding run
 stands = (run, refl, refl, closed)
 

@@ -1,7 +1,7 @@
--- What is foreseen of calls of the six tasks is certain: it holds of each value that may come in.
+-- What is foreseen of calls of built-in tasks is certain: it holds of each value that may come in.
 use Rattle.std.specs.Prelude.{◌≡◌, true, List, Option, Some, None}
 use Rattle.canvas_task.specs.Text.{Text}
-use Rattle.canvas_task.specs.Apply.{six_tasks}
+use Rattle.canvas_task.specs.Builtin.{builtin_tasks}
 use Rattle.canvas_task.specs.declared.arg.Arg.{Arg}
 use Rattle.canvas_semantics.specs.Tree.{Call}
 use Rattle.canvas_semantics.specs.Evaluation.{Flow, nothing, num, list, id, skip, raised, arguments}
@@ -12,8 +12,8 @@ use Rattle.canvas_warning.specs.declared.stand.Input.TheVariants.{Nothing, Numbe
 -- a name that no task answers to without arguments is one whatever the arguments
 abbrev pub IsUnknownToAll : Type 0
 IsUnknownToAll =
-    (name : Text) → is_unknown six_tasks name ≡ true → (args : List Arg)
-    → (named : List (Text × Arg)) → is_unknown_outcome (six_tasks name args named) ≡ true
+    (name : Text) → is_unknown builtin_tasks name ≡ true → (args : List Arg)
+    → (named : List (Text × Arg)) → is_unknown_outcome (builtin_tasks name args named) ≡ true
 
 -- the kind of what comes into a call; with an exception there is none
 abbrev pub kind_of : Flow → Option Input
@@ -28,5 +28,5 @@ kind_of (raised f) = None
 abbrev pub FailsWhateverComes : Type 0
 FailsWhateverComes =
     (call : Call) (i : Input) (x : Flow) → kind_of x ≡ Some i
-    → fails_behind six_tasks call (taken call i) ≡ true
-    → is_type_error (six_tasks call.name (arguments call x) call.kwargs) ≡ true
+    → fails_behind builtin_tasks call (taken call i) ≡ true
+    → is_type_error (builtin_tasks call.name (arguments call x) call.kwargs) ≡ true
