@@ -13,7 +13,7 @@ use Rattle.json.specs.Json.{parse_map}
 use Rattle.serde_json.specs.Data.{Data, array, object, Items, item, no_items, Members, member, put}
 use Rattle.serde_json.specs.Find.{get_member}
 use Rattle.canvas_sig.specs.Datum.{view, items_view, members_view}
-use Rattle.canvas_sig.specs.steps.Names.{put_all, AllBelow, BeginsWith, BeginsBehind, StandsAt, BelongsAt}
+use Rattle.canvas_sig.specs.steps.Names.{put_all, AllBelow, BeginsWith, BeginsBehind, BelongsAt}
 use Rattle.canvas_sig.specs.declared.datum.Datum.{Datum, the_lemmas}
 use Rattle.canvas_sig.specs.declared.datum.Datum as datum
 

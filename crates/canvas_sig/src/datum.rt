@@ -6,6 +6,7 @@ ghost use Rattle.canvas_sig.specs.steps.Names.{IsBelow};
 ghost use Rattle.serde_json.specs.Find.{get, get_member};
 ghost use Rattle.canvas_sig.specs.Datum.{view, members_view};
 
+use crate::names::{are_same, order_of};
 use serde_json::Number;
 
 /// A JSON value. Its texts are lent by the text that was parsed, its lists and objects by an arena:
@@ -26,7 +27,7 @@ fn member<'a>(members: &'a [(&'a str, Datum<'a>)], name: &str) -> Option<&'a Dat
     ensures { option_map (λ v. view v.now) result ≡ get_member name.now (members_view members.now) }
 {
     for member in members {
-        if member.0 == name {
+        if are_same(member.0, name) {
             return Some(&member.1);
         }
     }
@@ -38,7 +39,7 @@ pub(crate) fn follows(last: Option<&str>, name: &str) -> bool
     ensures { result ≡ true → IsBelow (option_map (λ l. l.now) last.entry) name.now }
 {
     match last {
-        Some(last) => last < name,
+        Some(last) => order_of(last, name).is_lt(),
         None => true,
     }
 }

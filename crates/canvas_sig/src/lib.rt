@@ -7,6 +7,7 @@ mod datum;
 mod fields;
 mod json_argument;
 mod members;
+mod names;
 mod number;
 mod ordered;
 mod own_fault;

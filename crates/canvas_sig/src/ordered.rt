@@ -6,6 +6,7 @@ ghost use Rattle.canvas_sig.specs.Datum.{view, members_view};
 ghost use Rattle.canvas_sig.specs.steps.Names.{put_all, StandsAt, BelongsAt};
 
 use crate::datum::{Datum, follows};
+use crate::names::order_of;
 use bumpalo::Bump;
 use bumpalo::collections::into_bump_slice;
 use serde_json::value::Map;
@@ -37,7 +38,7 @@ fn place_of(members: &[(&str, Datum<'_>)], name: &str) -> Result<usize, usize>
 {
     let mut index = 0;
     'members: while index < members.len() {
-        match members[index].0.cmp(name) {
+        match order_of(members[index].0, name) {
             Ordering::Less => index += 1,
             Ordering::Equal => return Ok(index),
             Ordering::Greater => return Err(index),

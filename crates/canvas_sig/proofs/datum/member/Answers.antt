@@ -4,8 +4,8 @@ use Rattle.std.proofs.lemmas.Slice.Eq.{bytes_eq-Decides}
 use Rattle.canvas_sig.proofs.Parsed.{found_at, later_at}
 use Rattle.canvas_sig.proofs.datum.member.Goals as goal
 
-pub returns-then-eq : goal.returns-then-eq
-returns-then-eq c =
+pub returns-then-are_same : goal.returns-then-are_same
+returns-then-are_same c =
     let l = c.loop-member in
     let m = c.member-item.result in
     let name = c.args.name.now in

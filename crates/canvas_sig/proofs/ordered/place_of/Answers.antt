@@ -11,7 +11,7 @@ members-preserved c =
     let i = c.members.index in
     let e = c.index-members-index.result in
     let name = c.args.name.now in
-    let below = ap (λ m. slice_cmp nat_cmp m.0.now name) c.index-members-index.is ∙ sym c.cmp.ensures ∙ c.in-Less.is in
+    let below = ap (λ m. slice_cmp nat_cmp m.0.now name) c.index-members-index.is ∙ sym c.order_of.ensures ∙ c.in-Less.is in
     let next = one_more xs i e _ c.members-test.true (sym c.index-members-index.is) in (
       omega (arith, c.members-test.true),
       subst (λ es. AllBelow es name) (sym next)

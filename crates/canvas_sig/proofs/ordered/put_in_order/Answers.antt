@@ -1,6 +1,6 @@
 use Rattle.std.proofs.Common.{take, sym, ap, ◌∙◌, arith}
 use Rattle.serde_json.specs.Data.{no_members, put}
-use Rattle.canvas_sig.specs.Datum.{view, members_view}
+use Rattle.canvas_sig.specs.Datum.{view}
 use Rattle.canvas_sig.specs.steps.Names.{put_all}
 use Rattle.canvas_sig.proofs.Parsed.{Named, one_more, put_pushed}
 use Rattle.canvas_sig.proofs.ordered.put_in_order.Goals as goal

@@ -3,11 +3,11 @@ use Rattle.std.proofs.lemmas.List.{append_assoc, append-nil}
 use Rattle.json.specs.Json.{parse_map, after_end_array, read_key, items, members, value}
 use Rattle.json.specs.Reads.{token_of}
 use Rattle.json.proofs.Grammar.{value_is, read_key-shorter}
-use Rattle.serde_json.specs.Data.{array, object, no_members, put}
+use Rattle.serde_json.specs.Data.{array, object, no_members}
 use Rattle.serde_json.specs.Read.{of_json, of_items, of_members, converted}
 use Rattle.canvas_sig.proofs.Alone.{read_alone, refused_alone, refused_deep, list_opened, object_opened}
 use Rattle.canvas_sig.proofs.Conversion.{item_read, item_refused, items_over, member_read, member_refused, key_refused, members_over, nothing_before}
-use Rattle.canvas_sig.specs.Datum.{view, items_view, members_view}
+use Rattle.canvas_sig.specs.Datum.{view, items_view}
 use Rattle.canvas_sig.specs.steps.Names.{put_all}
 use Rattle.canvas_sig.proofs.Parsed.{Named, since_start, view-List, view-Object, put_pushed, items_before, all_before, one_more_item}
 use Rattle.canvas_sig.proofs.parsing.+read.Goals as goal
