@@ -1,10 +1,8 @@
-use Rattle.std.proofs.Common.{◌≡◌, ◌∙◌, true, sym, ap, None}
-use Rattle.canvas_rewrite.specs.FrozenView.{p_line_view}
-use Rattle.canvas_effects.specs.Carrying.{is_whole}
+use Rattle.std.proofs.Common.{◌∙◌, sym, ap, None}
 use Rattle.canvas_effects.specs.Effects.{enter, effect_of}
 use Rattle.canvas_effects.specs.Flowing.{run, raise, list_input}
 use Rattle.canvas_effects.specs.Placing.{end_place}
-use Rattle.canvas_effects.proofs.Ended.{body_stands, numbers_fit, after_failed, after_all}
+use Rattle.canvas_effects.proofs.Ended.{numbers_fit, after_failed, after_all}
 use Rattle.canvas_effects.proofs.Sharing.{of_same}
 use Rattle.canvas_effects.proofs.effects.after_header.Goals as goal
 
