@@ -137,31 +137,11 @@ pub fn body_after(
         (λ todo. todo_view todo ≡ body_after (carried_view carried.now) outcomes.now) }
 {
     let chord = ChordBody::unwritten(carried)?;
-    after_header(alloc, &chord, outcomes)
+    into_body(alloc, chord, outcomes)
 }
 
-/// The same of a body of which the text may be known.
-pub fn after_header(
-    alloc: Global,
-    chord: &ChordBody,
-    outcomes: &[(TaskNo, Outcome)],
-) -> Result<Todo, Memory>
-    requires carried { carried_ok chord.now ≡ true }
-    requires outcomes { All (λ e. IsInRange e.1) outcomes.now }
-    ensures { IfOk result (λ todo. todo_view todo ≡ body_after chord.now outcomes.now) }
-{
-    match failure_of(outcomes) {
-        Some(fault) => Ok(raise_body(alloc, body_of(chord), &fault)?),
-        None => {
-            let input = Input::Numbers(numbers_of(alloc, outcomes)?);
-            let text = chord.inner_text(alloc)?;
-            Ok(start_body(alloc, body_of(chord), &input, text)?)
-        }
-    }
-}
-
-/// What follows the end of a header's members, as `after_header` says, where nothing else needs
-/// what they carry: a body that nobody shares any more is moved, not copied.
+/// The same of a body of which the text may be known, and which is given up: where nobody shares it
+/// any more it is moved, not copied.
 pub fn into_body(
     alloc: Global,
     chord: ChordBody,
