@@ -1,7 +1,7 @@
 -- Messages of tasks, and what lines begin with, as the code has them.
-use Rattle.std.proofs.Common.{◌≡◌, ◌∙◌, ℕ, suc, ◌≤◌, ◌<◌, ◌+◌, arith, true, false, List, [], ◌∷◌, ◌++◌, map, drop, get_or, length, Option, Some, None, Box, Global, refl, sym, ap, ap₂, subst, append_assoc, add-one, ne_eqb, drop-cons, rules}
+use Rattle.std.proofs.Common.{◌≡◌, ◌∙◌, ℕ, suc, ◌≤◌, ◌<◌, ◌+◌, arith, true, false, List, [], ◌∷◌, ◌++◌, map, drop, get_or, length, Option, Some, None, Box, Global, refl, sym, ap, ap₂, subst, append_assoc, add-one, ne_eqb, drop-cons, true≢false, rules}
 use Rattle.std.specs.declared.sync.Arc.{Arc}
-use Rattle.std.specs.Prelude.{ℤ, ◌==◌, ◌&&◌, nat_le}
+use Rattle.std.specs.Prelude.{ℤ, ◌==◌, ◌&&◌, nat_le, not}
 use Rattle.canvas_values.proofs.ComposedLemmas.{both}
 use Rattle.canvas_semantics.specs.PlacedLine.{PTask, p_task, PTasks, and_p_task, PPlace, p_nowhere, p_group, p_chord, PLine, p_stop, p_step, p_group_end, p_chord_end, no_p_lines}
 use Rattle.canvas_rewrite.specs.FrozenView.{p_tasks_of, p_steps, p_lines_of, p_task_view, p_line_view, p_end_view}
@@ -13,13 +13,14 @@ use Rattle.canvas_rewrite.specs.declared.frozen.FrozenLine.{FrozenLine, out-Froz
 use Rattle.canvas_rewrite.specs.declared.frozen.FrozenEnd.{FrozenEnd, out-FrozenEnd}
 use Rattle.canvas_effects.specs.Carrying.{can_stand, AllStand, callbacks_ok, input_ok}
 use Rattle.canvas_message.specs.Content.{Content, place_of}
-use Rattle.canvas_effects.specs.Effects.{message, callbacks, messages_in}
+use Rattle.canvas_effects.specs.Effects.{message, callbacks, messages_in, part_of}
 use Rattle.canvas_message.specs.Fits.{parent_ok, task_ok, line_ok, line_reach, fits}
 use Rattle.canvas_effects.specs.Flowing.{Input, list_input, given, parent_for}
 use Rattle.canvas_message.specs.steps.Parts.{is_stop}
 use Rattle.canvas_effects.specs.Placing.{last_at, placed}
 use Rattle.canvas_message.specs.MessageView.{place_view, place_seen}
-use Rattle.canvas_effects.specs.steps.Walks.{at_place, tail_seen, first_message, member_place, started, all_started}
+use Rattle.canvas_effects.specs.steps.Walks.{at_place, tail_seen, begins_with_task, first_message, member_place, started, all_started}
+use Rattle.canvas_effects.proofs.Walked.{begins_seen}
 use Rattle.canvas_effects.proofs.Copied.{own_place, place_there, line_parts}
 use Rattle.canvas_effects.proofs.Entered.{started_group, started_chord}
 use Rattle.canvas_message.proofs.FitLemmas.{counted, end_stands, never_stops}
@@ -97,6 +98,25 @@ pub followed_is : (u : Option ℕ) (t : PTask) (x : Input) (p : PPlace) (l rest 
     → message u (at_place p_nowhere t) x rest ≡ first_message u t x p l
 followed_is u t x p l rest h made ok = ap₂ (λ y r. message u y x r) (followed_same u t x p l h ok) made
 
+-- the same of a task that is moved, which has no place where others follow it
+pub moved_fits : (u : Option ℕ) (t : PTask) (x : Input) (p : PPlace) (l rest : PLine) → is_stop l ≡ false → rest ≡ placed p l
+    → fits (first_message u t x p l) ≡ true
+    → fits (message u t x rest) ≡ true
+moved_fits u t x p l rest h made ok = ap₂ (λ y r. fits (message u y x r)) (sym (same_at p t l h)) made ∙ ok
+
+pub moved_is : (u : Option ℕ) (t : PTask) (x : Input) (p : PPlace) (l rest : PLine) → is_stop l ≡ false → rest ≡ placed p l
+    → message u t x rest ≡ first_message u t x p l
+moved_is u t x p l rest h made = ap₂ (λ y r. message u y x r) (sym (same_at p t l h)) made
+
+pub not_stop : (l : PLine) → (l ≡ p_stop → ⊥) → is_stop l ≡ false
+not_stop p_stop h = absurd (h refl)
+not_stop (p_step t l) h = refl
+not_stop (p_group_end g ms) h = refl
+not_stop (p_chord_end g ms b) h = refl
+
+pub place_put : (q : PPlace) (t : PTask) → place_of (at_place q t) ≡ q
+place_put q (p_task k call links errbacks place) = refl
+
 pub tail_follows : (ts : List FrozenTask) (o : Option (Box FrozenEnd Global)) (b : Box FrozenEnd Global) → o ≡ Some b
     → is_stop (p_steps (map p_task_view ts) (tail_seen o)) ≡ false
 tail_follows ts o b some = ap (λ x. is_stop (p_steps (map p_task_view ts) (tail_seen x))) some
@@ -142,6 +162,47 @@ chord_made t b p q ms n body shared some same sized there copied value =
     ∙ ap₂ (p_chord (out-FrozenEnd t).group) (sized ∙ ap length same ∙ sym (counted (out-FrozenEnd t).members))
     (ap p_line_view value ∙ copied ∙ ap (λ z. placed z (p_line_view b)) there)
     ∙ sym (ap (λ l. member_place l p) (end_some t b some))
+
+-- a line that begins with no task is the group or chord that it ends in, or nothing
+alone_by : (l : FrozenLine) (ts : List FrozenTask) → (out-FrozenLine l).tasks ≡ ts → begins_with_task (p_line_view l) ≡ false
+    → p_line_view l ≡ tail_seen (out-FrozenLine l).tail
+alone_by l [] same h = line_parts l ∙ ap (λ xs. p_steps (map p_task_view xs) (tail_seen (out-FrozenLine l).tail)) same
+alone_by l (t ∷ ts) same h =
+    let many : not (length (out-FrozenLine l).tasks == 0) ≡ true =
+    ap (λ xs. not (length xs == 0)) same ∙ ap not (ne_eqb (suc (length ts)) 0 (λ e. absurd cc)) in
+    absurd (true≢false (sym many ∙ begins_seen l ∙ h))
+
+pub end_alone : (l : FrozenLine) (b : Box FrozenEnd Global) (e : FrozenEnd) → (out-FrozenLine l).tail ≡ Some b → e ≡ b.value
+    → begins_with_task (p_line_view l) ≡ false
+    → p_line_view l ≡ p_end_view e
+end_alone l b e some there h = alone_by l (out-FrozenLine l).tasks refl h ∙ ap tail_seen some ∙ sym (ap p_end_view there)
+
+no_messages : (p : PPlace) → messages_in (part_of p 0) ≡ []
+no_messages p_nowhere = refl
+no_messages (p_group g) = refl
+no_messages (p_chord g size body) = refl
+
+pub nothing_begun : (l : FrozenLine) (x : Input) (p : PPlace) (u : Option ℕ) → (out-FrozenLine l).tail ≡ None → begins_with_task (p_line_view l) ≡ false
+    → started (p_line_view l) x p u ≡ []
+nothing_begun l x p u none h =
+    ap (λ z. started z x p u) (alone_by l (out-FrozenLine l).tasks refl h ∙ ap tail_seen none) ∙ no_messages p
+
+-- where the members of a chord end whose body is moved
+pub header_made : (g n : ℕ) (b body : FrozenLine) (shared : Arc FrozenLine Global) (p q : PPlace) → q ≡ p → p_line_view body ≡ placed q (p_line_view b)
+    → shared.value ≡ body
+    → place_view (roll-Place (record { group = g; chord = Some (roll-Carried (record { size = n; body = shared })) })) ≡ p_chord g n (placed p (p_line_view b))
+header_made g n b body shared p q there moved value =
+    chord_rolled g n shared ∙ ap (p_chord g n) (ap p_line_view value ∙ moved ∙ ap (λ z. placed z (p_line_view b)) there)
+
+pub header_is : (t : FrozenEnd) (b : FrozenLine) (p : PPlace) (ms : List FrozenLine) (n : ℕ) → (out-FrozenEnd t).body ≡ Some b
+    → ms ≡ (out-FrozenEnd t).members → n ≡ length ms
+    → p_chord (out-FrozenEnd t).group n (placed p (p_line_view b)) ≡ member_place (p_end_view t) p
+header_is t b p ms n some same sized =
+    ap (λ k. p_chord (out-FrozenEnd t).group k (placed p (p_line_view b))) (sized ∙ ap length same ∙ sym (counted (out-FrozenEnd t).members))
+    ∙ sym (ap (λ l. member_place l p) (end_some t b some))
+
+pub group_is : (t : FrozenEnd) (p : PPlace) → (out-FrozenEnd t).body ≡ None → p_group (out-FrozenEnd t).group ≡ member_place (p_end_view t) p
+group_is t p none = sym (ap (λ l. member_place l p) (end_none t none))
 
 -- ---- lines
 
@@ -200,6 +261,13 @@ header_started t b x p u ms others m some same split =
     ap (λ xs. all_started (map p_line_view xs) x (member_place (p_end_view t) p) u) split
     ∙ ap (λ l. all_started (map p_line_view (m ∷ others)) x (member_place l p) u) e
     ∙ sym (ap (λ l. started l x p u) e ∙ started_chord (out-FrozenEnd t).group (p_line_view m) (map p_line_view others) (p_line_view b) x p u)
+
+-- a header of some members
+pub begun_header : (t : FrozenEnd) (b : FrozenLine) (x : Input) (p : PPlace) (u : Option ℕ) (ms : List FrozenLine) → (out-FrozenEnd t).body ≡ Some b
+    → ms ≡ (out-FrozenEnd t).members → (length ms == 0) ≡ false
+    → all_started (map p_line_view ms) x (member_place (p_end_view t) p) u ≡ started (p_end_view t) x p u
+begun_header t b x p u [] some same h = absurd (true≢false h)
+begun_header t b x p u (m ∷ ms) some same h = header_started t b x p u (m ∷ ms) ms m some same refl
 
 no_lines : (ms : List FrozenLine) → length ms ≡ 0 → p_lines_of (map p_line_view ms) ≡ no_p_lines
 no_lines [] h = refl

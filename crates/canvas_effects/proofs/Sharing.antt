@@ -1,5 +1,5 @@
 -- The texts that messages share, when what they carry goes on to other messages.
-use Rattle.std.proofs.Common.{◌≡◌, ◌∙◌, ℕ, ◌+◌, arith, false, List, [], ◌∷◌, ◌++◌, map, Option, Some, None, Global, Vec, vec_len, length, refl, sym, ap, subst}
+use Rattle.std.proofs.Common.{◌≡◌, ◌∙◌, ℕ, ◌+◌, arith, false, List, [], ◌∷◌, ◌++◌, Option, Some, None, Global, Vec, vec_len, length, refl, sym, ap, subst}
 use Rattle.std.specs.Prelude.{reverse, option_to_list, IfSome, MatchOption}
 use Rattle.std.specs.Option.{option_map}
 use Rattle.std.specs.declared.sync.Arc.{Arc}
@@ -12,11 +12,10 @@ use Rattle.canvas_message.specs.MessageView.{carried_view, place_view}
 use Rattle.canvas_rewrite.specs.declared.frozen.Carried.{Carried}
 use Rattle.canvas_rewrite.specs.declared.frozen.Place.{Place, out-Place}
 use Rattle.canvas_effects.proofs.Ended.{carried_seen}
-use Rattle.canvas_semantics.specs.PlacedLine.{PTask, PPlace, p_nowhere, p_group, p_chord, PLine, p_stop, p_step, p_group_end, p_chord_end}
+use Rattle.canvas_semantics.specs.PlacedLine.{PTask, PPlace, p_nowhere, p_chord, PLine, p_stop, p_step, p_group_end, p_chord_end}
 use Rattle.canvas_message.specs.Content.{place_of}
-use Rattle.canvas_message.specs.SharedTexts.{AreEnds, AreTexts, IsLineText, SaysRinged, SaysCarried, core_of, inner_place, place_behind, rings_of}
+use Rattle.canvas_message.specs.SharedTexts.{AreEnds, SaysRinged, SaysCarried, core_of, inner_place, place_behind, rings_of}
 use Rattle.canvas_message.specs.declared.carried_text.CarriedText.{CarriedText}
-use Rattle.canvas_message.specs.declared.texts.LineText.{LineText}
 use Rattle.canvas_message.specs.steps.Parts.{is_stop}
 use Rattle.canvas_effects.specs.Placing.{placed, end_place}
 use Rattle.canvas_effects.specs.Carrying.{carrying_place}
@@ -78,6 +77,10 @@ of_members None e p q is h = tt
 of_members (Some t) e p q is h =
     subst (λ x. SaysCarried t.value (inner_place x)) (sym is) (inner_by t.value e (out-FrozenEnd e).body p refl h)
 
+pub of_header : (o : Known) (p q : PPlace) (g n : ℕ) (l : PLine) → q ≡ p_chord g n (placed p l) → IsOf o p → IsOf o (inner_place q)
+of_header None p q g n l is h = tt
+of_header (Some t) p q g n l is h = subst (λ x. SaysCarried t.value (inner_place x)) (sym is) (carries_on t.value p l h)
+
 -- which chord a place is of doesn't matter
 any_ringed : (rs : List (List ℕ × List ℕ)) (core : List ℕ) (g h size : ℕ) (b : PLine) → SaysRinged rs core (p_chord g size b)
     → SaysRinged rs core (p_chord h size b)
@@ -123,12 +126,6 @@ behind_all (Some t) p own l rest stop is h =
 pub at_the_end : (o : Known) (p q : PPlace) → q ≡ p → IsOf o p → IsOf o (place_behind q p_stop)
 at_the_end None p q is h = tt
 at_the_end (Some t) p q is h = subst (SaysCarried t.value) (sym is) h
-
-pub texts_next : (line next : Option LineText) (carried : Known) (own : PPlace) (t : PTask) (l : PLine)
-    → (IfSome line (λ x. IsLineText x (p_step t l)) → IfSome next (λ x. IsLineText x l))
-    → AreTexts (record { line = line; carried = carried }) own (p_step t l) → AreTexts (record { line = next; carried = carried }) (place_of t) l
-texts_next line next carried own t l ends h =
-    record { line = ends h.line; carried = of_same carried _ _ (place_after own t l) h.carried }
 
 no_items : (xs : List ℕ) → length xs ≡ 0 → xs ≡ []
 no_items [] e = refl

@@ -20,6 +20,7 @@ ghost use Rattle.canvas_effects.specs.steps.Walks.{input_seen, part_at_end, star
 mod header;
 mod lasts;
 mod moved;
+mod moved_line;
 mod order;
 mod raised;
 mod skipped;
@@ -34,6 +35,7 @@ use canvas_task::{Fault, ListOf, Memory, Outcome, TaskNo};
 use header::{failure_of, numbers_of};
 use lasts::last_task;
 pub use moved::into_todo;
+use moved_line::start_moved_whole;
 use order::{sort_messages, sort_stores};
 use raised::raise_line;
 use skipped::skip_line;
@@ -135,27 +137,53 @@ pub fn body_after(
         (λ todo. todo_view todo ≡ body_after (carried_view carried.now) outcomes.now) }
 {
     let chord = ChordBody::unwritten(carried)?;
-    after_header(alloc, &chord, outcomes)
+    into_body(alloc, chord, outcomes)
 }
 
-/// The same of a body of which the text may be known.
-pub fn after_header(
+/// The same of a body of which the text may be known, and which is given up: where nobody shares it
+/// any more it is moved, not copied.
+pub fn into_body(
     alloc: Global,
-    chord: &ChordBody,
+    chord: ChordBody,
     outcomes: &[(TaskNo, Outcome)],
 ) -> Result<Todo, Memory>
-    requires carried { carried_ok chord.now ≡ true }
+    requires carried { carried_ok chord ≡ true }
     requires outcomes { All (λ e. IsInRange e.1) outcomes.now }
-    ensures { IfOk result (λ todo. todo_view todo ≡ body_after chord.now outcomes.now) }
+    ensures { IfOk result (λ todo. todo_view todo ≡ body_after chord outcomes.now) }
 {
     match failure_of(outcomes) {
-        Some(fault) => Ok(raise_body(alloc, body_of(chord), &fault)?),
+        Some(fault) => Ok(raise_body(alloc, body_of(&chord), &fault)?),
         None => {
             let input = Input::Numbers(numbers_of(alloc, outcomes)?);
             let text = chord.inner_text(alloc)?;
-            Ok(start_body(alloc, body_of(chord), &input, text)?)
+            let ChordBody {
+                carried,
+                text: _own,
+            } = chord;
+            match Arc::try_unwrap(carried.body) {
+                Ok(body) => Ok(start_moved_body(alloc, body, &input, text)?),
+                Err(shared) => Ok(start_body(alloc, &shared, &input, text)?),
+            }
         }
     }
+}
+
+fn start_moved_body(
+    alloc: Global,
+    body: FrozenLine,
+    input: &Input,
+    text: Option<Arc<CarriedText>>,
+) -> Result<Todo, AllocError>
+    requires line { is_whole (p_line_view body) ≡ true }
+    requires input { input_ok (input_seen input.now) ≡ true }
+    requires text { IfSome text (λ t. SaysCarried t.value (end_place (p_line_view body))) }
+    ensures { IfOk result (λ todo. todo_view todo
+        ≡ effect_of (enter (p_line_view body) (run (input_seen input.now))
+        (end_place (p_line_view body)) 0 None)) }
+{
+    let mut messages = Vec::new(alloc);
+    start_moved_whole(alloc, body, input, &None, text, &mut messages)?;
+    todo_of(Vec::new(alloc), messages, None)
 }
 
 /// The body, as contracts see what is carried.

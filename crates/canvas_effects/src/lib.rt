@@ -8,9 +8,10 @@ mod destination;
 mod destinations;
 mod effects;
 mod input;
+mod moving;
 mod placing;
 mod todo;
 
 pub use chord_body::ChordBody;
-pub use effects::{after, after_header, body_after, first_messages, into_todo};
+pub use effects::{after, body_after, first_messages, into_body, into_todo};
 pub use todo::{PartCall, Todo};

@@ -194,6 +194,12 @@ impl Core {
                 self.set(Phase::Failed);
                 self.take_in(alloc, book, tasks, reply)
             }
+            // nothing is moved here, and it comes once a message
+            Phase::Acking => {
+                self.kept = None;
+                self.set(acknowledged(&reply));
+                Ok(())
+            }
             _ => self.go_on(alloc, book, &reply),
         }
     }
@@ -246,6 +252,7 @@ impl Core {
         self.set(phase);
     }
 
+    #[inline(always)]
     fn set(&mut self, phase: Phase)
         ensures value { self.new
             ≡ record {

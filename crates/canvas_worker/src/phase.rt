@@ -25,7 +25,7 @@ use crate::sealing::script_of;
 use crate::stages::{Owned, Publishing, Reading, Storing};
 use crate::{Book, Reply};
 use canvas_backend::Stored;
-use canvas_effects::{ChordBody, PartCall, after_header, into_todo};
+use canvas_effects::{ChordBody, PartCall, into_body, into_todo};
 use canvas_message::{Letter, Message};
 use canvas_task::{GroupNo, Memory, Outcome, TaskNo, Tasks};
 use std::alloc::Global;
@@ -58,6 +58,7 @@ fn part_or_ack(part: Option<PartCall>, latest: Stored) -> Phase
 }
 
 /// What is next in a script.
+#[inline(always)]
 fn settle(script: Script) -> Phase
     ensures { IsAt result (settled (enveloped_by no_tasks no_book) (jobs_of script) script.latest) }
 {
@@ -229,6 +230,17 @@ fn read_next<B: Book>(
     }
 }
 
+/// Room for the outcomes of so many members, where there is memory for it: else it grows as they
+/// are read, and memory is refused there.
+fn room_for(alloc: Global, size: usize) -> Vec<(TaskNo, Outcome)>
+    ensures { result.items ≡ [] }
+{
+    match Vec::with_capacity(alloc, size) {
+        Ok(found) => found,
+        Err(_) => Vec::new(alloc),
+    }
+}
+
 /// Where the part was the last of its header, the members are read.
 fn counted<B: Book>(alloc: Global, book: &B, part: PartCall, count: u64) -> Phase
     ensures { IsAt result (part_counted (enveloped_by no_tasks (B.book book.now)) part.group
@@ -237,7 +249,7 @@ fn counted<B: Book>(alloc: Global, book: &B, part: PartCall, count: u64) -> Phas
     let chord = ChordBody::of(part.chord, part.text);
     let size = u64::from(size_of(&chord));
     if count < size && count + 1 == size {
-        read_next(book, part.group, chord, Vec::new(alloc))
+        read_next(book, part.group, chord, room_for(alloc, size as usize))
     } else {
         Phase::Acking
     }
@@ -288,7 +300,7 @@ impl Reading {
         } = self;
         found.push((task, outcome))?;
         if found.len() == size_of(&chord) as usize {
-            let todo = after_header(alloc, &chord, &found)?;
+            let todo = into_body(alloc, chord, &found)?;
             Ok(settle(script_of(alloc, todo, Stored::Again)?))
         } else {
             Ok(read_next(book, group, chord, found))

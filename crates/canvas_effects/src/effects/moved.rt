@@ -17,6 +17,7 @@ ghost use Rattle.canvas_effects.specs.Todos.{part_view, todo_view};
 ghost use Rattle.canvas_message.specs.MessageView.{place_seen, place_view, rest_seen};
 ghost use Rattle.canvas_effects.specs.steps.Walks.{input_seen, begins_with_task};
 
+use super::moved_line::start_moved_whole;
 use super::started::message_from;
 use super::{after, called_back, todo_of};
 use crate::input::Input;
@@ -40,22 +41,30 @@ pub fn into_todo(alloc: Global, message: Message, outcome: &Outcome) -> Result<T
             Ok(hand_on(alloc, message, *number)?)
         }
         _ if is_last(&message.rest) => Ok(end_last(alloc, message, outcome)?),
-        _ => after(alloc, &message, outcome),
+        Outcome::Success(number) => Ok(start_rest(alloc, message, *number)?),
+        Outcome::Failure(_) => after(alloc, &message, outcome),
     }
 }
 
-/// Whether a task comes next on a line.
+/// Whether a task comes first on a line.
+pub(super) fn begins_with_task(line: &FrozenLine) -> bool
+    ensures { result ≡ begins_with_task (p_line_view line.now) }
+{
+    !line.tasks.get().is_empty()
+}
+
+/// Whether a task comes next.
 fn has_next(rest: &Option<FrozenLine>) -> bool
     ensures { result ≡ begins_with_task (rest_seen rest.now) }
 {
     match rest {
-        Some(line) => !line.tasks.get().is_empty(),
+        Some(line) => begins_with_task(line),
         None => false,
     }
 }
 
 /// Whether nothing comes next on a line.
-fn is_last(rest: &Option<FrozenLine>) -> bool
+pub(super) fn is_last(rest: &Option<FrozenLine>) -> bool
     ensures { MatchBool result (rest_seen rest.now ≡ p_stop) (rest_seen rest.now ≡ p_stop → ⊥) }
 {
     match following(rest) {
@@ -65,7 +74,7 @@ fn is_last(rest: &Option<FrozenLine>) -> bool
 }
 
 /// The task that comes next on a line, and what follows it.
-fn take_next(line: FrozenLine) -> Option<(FrozenTask, Option<FrozenLine>)>
+pub(super) fn take_next(line: FrozenLine) -> Option<(FrozenTask, Option<FrozenLine>)>
     ensures { MatchOption result (begins_with_task (p_line_view line) ≡ false)
         (λ p. p_line_view line ≡ p_step (p_task_view p.0) (rest_seen p.1)) }
 {
@@ -150,6 +159,25 @@ fn hand_on(alloc: Global, message: Message, number: i64) -> Result<Todo, AllocEr
         Some((next, rest)) => {
             let texts = texts_behind(texts);
             messages.push(message_from(alloc, next, &input, &parent, rest, texts)?)?;
+            todo_of(Vec::new(alloc), messages, None)
+        }
+        None => todo_of(Vec::new(alloc), messages, None),
+    }
+}
+
+/// The end of a task that succeeded and that a group or chord follows, which starts.
+fn start_rest(alloc: Global, message: Message, number: i64) -> Result<Todo, AllocError>
+    requires number { in_range number ≡ true }
+    requires follows { message.rest ≡ p_stop → ⊥ }
+    ensures { IfOk result (λ todo. todo_view todo ≡ after message (Success number)) }
+{
+    let mut messages = called_back(alloc, &message, &Outcome::Success(number))?;
+    let (task, rest, texts) = task_and_rest(message);
+    let input = Input::Number(number);
+    let parent = Some(task);
+    match rest {
+        Some(rest) => {
+            start_moved_whole(alloc, rest, &input, &parent, texts.carried, &mut messages)?;
             todo_of(Vec::new(alloc), messages, None)
         }
         None => todo_of(Vec::new(alloc), messages, None),

@@ -150,7 +150,7 @@ fn is_at_end(tasks: &[FrozenTask], tail: &Option<Box<FrozenEnd>>) -> bool
 }
 
 /// What is written of what a message carries to the end of its line.
-fn texts_of(carried: Option<Arc<CarriedText>>) -> Texts
+pub(super) fn texts_of(carried: Option<Arc<CarriedText>>) -> Texts
     ensures { (place : PPlace) (rest : PLine)
         → IfSome carried (λ t. SaysCarried t.value (place_behind place rest))
         → AreTexts result place rest }
@@ -259,7 +259,7 @@ pub(super) fn start_line(
 
 /// The same of a group or chord. An empty header starts its body at once.
 #[cycle(start)]
-fn start_end(
+pub(super) fn start_end(
     alloc: Global,
     end: &FrozenEnd,
     place: &Option<Destination>,

@@ -1,7 +1,6 @@
 use Rattle.std.proofs.Common.{rules, ◌≡◌, ◌∙◌, ◌∷◌, ◌++◌, map, refl, ap}
 use Rattle.canvas_rewrite.proofs.PlanLines.{ok_same}
 use Rattle.canvas_rewrite.specs.FrozenView.{p_line_view}
-use Rattle.canvas_message.specs.MessageView.{place_view}
 use Rattle.canvas_rewrite.specs.FrozenView.{place_or}
 use Rattle.canvas_effects.specs.Flowing.{list_input}
 use Rattle.canvas_effects.specs.steps.Walks.{input_seen, started, all_started}

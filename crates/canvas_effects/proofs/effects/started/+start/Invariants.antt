@@ -1,7 +1,6 @@
 use Rattle.std.proofs.Common.{◌≡◌, ◌++◌, map, drop}
 use Rattle.canvas_rewrite.specs.FrozenView.{p_line_view}
 use Rattle.canvas_effects.specs.Carrying.{AllStand}
-use Rattle.canvas_message.specs.MessageView.{place_view}
 use Rattle.canvas_effects.specs.steps.Walks.{input_seen, all_started}
 use Rattle.canvas_effects.proofs.effects.started.+start.Given as goal
 

@@ -1,7 +1,7 @@
 use Rattle.std.proofs.Common.{◌≡◌, ◌∙◌, sym, ap, map}
 use Rattle.std.proofs.lemmas.Result.{IfOk-weaker}
 use Rattle.canvas_rewrite.specs.FrozenView.{p_steps, p_task_view, p_line_view}
-use Rattle.canvas_semantics.specs.PlacedLine.{PLine, PPlace, p_nowhere, p_stop}
+use Rattle.canvas_semantics.specs.PlacedLine.{PLine, p_nowhere, p_stop}
 use Rattle.canvas_message.specs.Fits.{fits}
 use Rattle.canvas_message.specs.MessageView.{place_seen}
 use Rattle.canvas_effects.specs.Placing.{placed}

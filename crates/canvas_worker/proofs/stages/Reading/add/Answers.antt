@@ -14,8 +14,8 @@ use Rattle.canvas_worker.proofs.FoundMembers.{one_more}
 use Rattle.canvas_worker.proofs.Stores.{body_todo_stores}
 use Rattle.canvas_worker.proofs.stages.Reading.add.Goals as goal
 
-pub after_header-requires-clause-outcomes : goal.after_header-requires-clause-outcomes
-after_header-requires-clause-outcomes g c =
+pub into_body-requires-clause-outcomes : goal.into_body-requires-clause-outcomes
+into_body-requires-clause-outcomes g c =
     one_more c.args.self.found.items c.deref.result.now (c.args.self.task, c.args.outcome) (c.deref.ensures.value ∙ c.in_ok-push.ensures.items)
     c.args.self.numbers c.requires
 
