@@ -40,7 +40,7 @@ fn has_name(entry: &str) -> bool {
     }
 }
 
-fn has_number(entry: &str) -> bool {
+fn says_number(entry: &str) -> bool {
     match who_of(entry) {
         Some(who) => is_number(who),
         None => false,
@@ -53,7 +53,7 @@ fn has_names(list: &str) -> bool {
     for entry in list.split(',') {
         if has_name(entry) {
             found = true;
-        } else if !has_number(entry) {
+        } else if !says_number(entry) {
             return false;
         }
     }

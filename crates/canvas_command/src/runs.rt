@@ -62,77 +62,85 @@ where
     }
 }
 
-/// An answer that says, where that is asked for, how many stores answered Again.
-fn counted<'w>(answer: Answer<'w>, counts: bool, repeats: u64) -> Answer<'w> {
-    answer.with_remark(counts.then_some(Remark::Repeats(repeats)))
+/// A run by turns, as it is asked for.
+#[derive(Clone, Copy)]
+struct ByTurns<'a> {
+    workers: u32,
+    turns: &'a [u32],
+    /// What is delivered again.
+    again: &'a [(TaskNo, When)],
+    /// Whether it is told how many stores answered Again.
+    counts: bool,
+    manner: Manner,
 }
 
-/// The report of a run by turns, as it is printed where nothing else is asked for.
-fn plain_turns<'w, T: Tasks>(
-    alloc: Global,
-    workers: u32,
-    turns: &[u32],
-    again: &[(TaskNo, When)],
-    counts: bool,
-    source: &Source<'_, T>,
-) -> Result<Answer<'w>, Refusal<'w>> {
-    match run_text_again(alloc, source.text, source.tasks, workers, turns, again) {
-        Ok((report, repeats)) => {
-            Ok(counted(Answer::whole(report.into_bytes()), counts, repeats))
+impl ByTurns<'_> {
+    fn counted<'w>(&self, answer: Answer<'w>, repeats: u64) -> Answer<'w> {
+        answer.with_remark(self.counts.then_some(Remark::Repeats(repeats)))
+    }
+
+    /// The report, as it is printed where nothing else is asked for.
+    fn plain<'w, T: Tasks>(
+        &self,
+        alloc: Global,
+        source: &Source<'_, T>,
+    ) -> Result<Answer<'w>, Refusal<'w>> {
+        let (text, tasks) = (source.text, source.tasks);
+        match run_text_again(alloc, text, tasks, self.workers, self.turns, self.again) {
+            Ok((report, repeats)) => {
+                Ok(self.counted(Answer::whole(report.into_bytes()), repeats))
+            }
+            Err(fault) => early(alloc, fault),
         }
-        Err(fault) => early(alloc, fault),
     }
-}
 
-/// The report of a plan's run by turns in another manner.
-fn shown_turns<'w, T: Tasks>(
-    alloc: Global,
-    plans: &Plans,
-    workers: u32,
-    turns: &[u32],
-    again: &[(TaskNo, When)],
-    counts: bool,
-    manner: Manner,
-    source: &Source<'_, T>,
-) -> Result<Answer<'w>, Refusal<'w>> {
-    match run_turns_again(alloc, plans.run(), source.tasks, workers, turns, again) {
-        Ok((report, repeats)) => {
-            let answer = manner.whole(alloc, plans, &report, source)?;
-            Ok(counted(answer, counts, repeats))
+    /// The report in another manner.
+    fn shown<'w, T: Tasks>(
+        &self,
+        alloc: Global,
+        plans: &Plans,
+        source: &Source<'_, T>,
+    ) -> Result<Answer<'w>, Refusal<'w>> {
+        let (plan, tasks) = (plans.run(), source.tasks);
+        match run_turns_again(alloc, plan, tasks, self.workers, self.turns, self.again) {
+            Ok((report, repeats)) => {
+                let answer = self.manner.whole(alloc, plans, &report, source)?;
+                Ok(self.counted(answer, repeats))
+            }
+            Err(fault) => Ok(self.manner.early(alloc, plans, source, fault)),
         }
-        Err(fault) => Ok(manner.early(alloc, plans, source, fault)),
     }
-}
 
-/// The same, with what is delivered again by numbers.
-fn turns_by_numbers<'w, T: Tasks>(
-    alloc: Global,
-    workers: u32,
-    turns: &[u32],
-    again: &[(TaskNo, When)],
-    counts: bool,
-    manner: Manner,
-    source: &Source<'_, T>,
-) -> Result<Answer<'w>, Refusal<'w>> {
-    if manner.is_plain() && source.is_plain() {
-        return plain_turns(alloc, workers, turns, again, counts, source);
+    fn answer<'w, T: Tasks>(
+        &self,
+        alloc: Global,
+        source: &Source<'_, T>,
+    ) -> Result<Answer<'w>, Refusal<'w>> {
+        if self.manner.is_plain() && source.is_plain() {
+            return self.plain(alloc, source);
+        }
+        let plans = Plans::of(alloc, source)?;
+        self.shown(alloc, &plans, source)
     }
-    let plans = Plans::of(alloc, source)?;
-    shown_turns(alloc, &plans, workers, turns, again, counts, manner, source)
-}
 
-/// The same, with what is delivered again by names.
-fn turns_by_names<'w, T: Tasks>(
-    alloc: Global,
-    workers: u32,
-    turns: &[u32],
-    list: &str,
-    manner: Manner,
-    source: &Source<'_, T>,
-) -> Result<Answer<'w>, Refusal<'w>> {
-    let plans = Plans::of(alloc, source)?;
-    let again = named_entries(alloc, &plans.shown, list)?;
-    shown_turns(alloc, &plans, workers, turns, &again, true, manner, source)
+    /// The same, with what is delivered again by names.
+    fn answer_named<'w, T: Tasks>(
+        &self,
+        alloc: Global,
+        list: &str,
+        source: &Source<'_, T>,
+    ) -> Result<Answer<'w>, Refusal<'w>> {
+        let plans = Plans::of(alloc, source)?;
+        let again = named_entries(alloc, &plans.shown, list)?;
+        let by = ByTurns {
+            workers: self.workers,
+            turns: self.turns,
+            again: &again,
+            counts: true,
+            manner: self.manner,
+        };
+        by.shown(alloc, &plans, source)
+    }
 }
 
 /// The report of a run by turns, with what is delivered again, where that is asked for.
@@ -144,12 +152,24 @@ pub(crate) fn answer_turns<'w, T: Tasks>(
     manner: Manner,
     source: &Source<'_, T>,
 ) -> Result<Answer<'w>, Refusal<'w>> {
+    let once = ByTurns {
+        workers,
+        turns,
+        again: &[],
+        counts: false,
+        manner,
+    };
     match again {
-        Again::Nothing => turns_by_numbers(alloc, workers, turns, &[], false, manner, source),
+        Again::Nothing => once.answer(alloc, source),
         Again::Entries(entries) => {
-            turns_by_numbers(alloc, workers, turns, entries, true, manner, source)
+            let by = ByTurns {
+                again: entries,
+                counts: true,
+                ..once
+            };
+            by.answer(alloc, source)
         }
-        Again::Named(list) => turns_by_names(alloc, workers, turns, list, manner, source),
+        Again::Named(list) => once.answer_named(alloc, list, source),
     }
 }
 
