@@ -313,7 +313,8 @@ product_from_0 = one_taken product product_0 ((1, Early) ∷ (1, Late) ∷ []) (
 product_ends : AllEnded builtin_tasks product 1 product_15
 product_ends p w = let same : 1 ≡ p = omega (arith, w.0, w.1) in
     subst (HasEnded builtin_tasks product product_15) same
-    (ap (ask (worker builtin_tasks product)) (product_state_4 ((store 1 eight, stored Again) ∷ (ack, acked) ∷ (take, taken None) ∷ (core.rest, rested false) ∷ [])))
+    (ap (ask (worker builtin_tasks product))
+    (product_state_4 ((store 1 eight, stored Again) ∷ (ack, acked) ∷ (take, taken None) ∷ (core.rest, rested false) ∷ [])))
 
 pub product_stands : (r : RanAgain builtin_tasks product 1 [] both_points) × (r.steps ≡ product_steps) × (agains_in r.steps ≡ 2)
 product_stands = (
@@ -398,7 +399,8 @@ quotient_from_0 = one_taken quotient quotient_0 ((2, Early) ∷ []) ((2, Early) 
 quotient_ends : AllEnded builtin_tasks quotient 1 quotient_5
 quotient_ends p w = let same : 1 ≡ p = omega (arith, w.0, w.1) in
     subst (HasEnded builtin_tasks quotient quotient_5) same
-    (ap (ask (worker builtin_tasks quotient)) (quotient_state_1 ((store 1 no_quotient, stored First) ∷ (ack, acked) ∷ (take, taken None) ∷ (core.rest, rested false)
+    (ap (ask (worker builtin_tasks quotient))
+    (quotient_state_1 ((store 1 no_quotient, stored First) ∷ (ack, acked) ∷ (take, taken None) ∷ (core.rest, rested false)
     ∷ [])))
 
 pub quotient_stands : (r : RanAgain builtin_tasks quotient 1 [] link_entry) × (r.steps ≡ quotient_steps) × (agains_in r.steps ≡ 0)

@@ -9,4 +9,5 @@ pub returns : goal.returns
 returns c =
     IfOk-weaker c.todo_of.result _ _
     (λ todo is. is ∙ body_started (p_line_view c.args.body)
-    (input_seen c.args.input.now) _ _ _ _ c.requires.line c.new.ensures.items c.new-messages.ensures.items c.in_ok-start_moved_whole.ensures refl) c.todo_of.ensures
+    (input_seen c.args.input.now) _ _ _ _ c.requires.line c.new.ensures.items c.new-messages.ensures.items c.in_ok-start_moved_whole.ensures refl)
+    c.todo_of.ensures

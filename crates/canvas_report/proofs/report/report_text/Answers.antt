@@ -13,7 +13,8 @@ returns c =
     let rows = rows_from 1 c.args.report.now.rows in
     whole (run_line rows) (run_value rows) c.args.plan.now (gives_a_list c.ends.result) (end_tasks c.ends.result) _ _ _ _ _ c.in_ok-text.ensures.bytes
     (c.in_ok-push_rows.ensures
-    ∙ ap (λ rs. string_bytes c.in_ok-text.text ++ lines (run_line (rows_from 1 rs)) (named (tree_of c.args.plan.now))) (c.deref.ensures.value ∙ c.get-rows.ensures))
+    ∙ ap (λ rs. string_bytes c.in_ok-text.text ++ lines (run_line (rows_from 1 rs)) (named (tree_of c.args.plan.now)))
+    (c.deref.ensures.value ∙ c.get-rows.ensures))
     c.in_ok-push_str.ensures.bytes c.ends.ensures.tasks c.ends.ensures.list
     (c.in_ok-push_result.ensures
     ∙ ap (λ rs. string_bytes c.push_str.new.self ++ result_by (run_value (rows_from 1 rs)) (gives_a_list c.ends.result) (end_tasks c.ends.result))
