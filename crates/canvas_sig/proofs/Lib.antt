@@ -19,3 +19,6 @@ pub mod ArgumentLaw
 pub mod Parsed
 pub mod Conversion
 pub mod Alone
+pub mod Lexed
+pub mod Stops
+pub mod Punctuated

@@ -3,3 +3,6 @@ pub mod Tokens
 pub mod Names
 pub mod Members
 pub mod Alone
+pub mod Plain
+pub mod Place
+pub mod Source

@@ -12,8 +12,13 @@ mod number;
 mod ordered;
 mod own_fault;
 mod parsing;
+mod place;
+mod plain;
 mod primitive;
 mod reader;
+mod runs;
+mod source;
+mod unread;
 mod write;
 
 /// What messages, which carry signatures, read and write them with.

@@ -1,6 +1,6 @@
 //! Parsing JSON (RFC 8259) into borrowed values.
 
-ghost use Rattle.std.specs.Prelude.{◌≡◌, ◌<◌, ◌∷◌, length, option_map, Some, None, Err, IfOk, OnOk};
+ghost use Rattle.std.specs.Prelude.{◌≡◌, ◌<◌, ◌≤◌, ◌∷◌, length, option_map, Some, None, Err, IfOk, OnOk};
 ghost use Rattle.json.specs.Json.{value, items, members};
 ghost use Rattle.json.specs.Reads.{token_of};
 ghost use Rattle.serde_json.specs.Data.{no_members};
@@ -15,51 +15,13 @@ ghost use Rattle.canvas_values.specs.declared.fault.SigFault.TheVariants.{Memory
 use crate::datum::Datum;
 use crate::number::number_of;
 use crate::ordered::in_order;
+use crate::source::Source;
+use crate::unread::Unread;
 use bumpalo::Bump;
 use bumpalo::collections::into_bump_slice;
 use canvas_values::SigFault;
-use json::{Invalid, Reader, Scratch, Token};
-use std::alloc::{AllocError, AllocFailed, Global};
-
-/// Why nothing was read.
-#[derive(Clone, Copy, Drop)]
-pub(crate) enum Unread {
-    NotJson,
-    Memory,
-}
-
-impl From<Invalid> for Unread {
-    ghost use Rattle.std.specs.Prelude.{◌≡◌};
-    ghost use Rattle.canvas_sig.specs.declared.parsing.Unread.TheVariants.{NotJson};
-
-    ghost from_gives = { λ _ e. e ≡ NotJson };
-
-    fn from(_invalid: Invalid) -> Unread {
-        Unread::NotJson
-    }
-}
-
-impl From<AllocError> for Unread {
-    ghost use Rattle.std.specs.Prelude.{◌≡◌};
-    ghost use Rattle.canvas_sig.specs.declared.parsing.Unread.TheVariants.{Memory};
-
-    ghost from_gives = { λ _ e. e ≡ Memory };
-
-    fn from(_refused: AllocError) -> Unread {
-        Unread::Memory
-    }
-}
-
-impl<T: Drop> From<AllocFailed<T>> for Unread {
-    ghost use Rattle.std.specs.Prelude.{◌≡◌};
-    ghost use Rattle.canvas_sig.specs.declared.parsing.Unread.TheVariants.{Memory};
-
-    ghost from_gives = { λ _ e. e ≡ Memory };
-
-    fn from(_refused: AllocFailed<T>) -> Unread {
-        Unread::Memory
-    }
-}
+use json::{Scratch, Token};
+use std::alloc::Global;
 
 /// How deep arrays and objects may nest.
 const MOST_NESTED: usize = 127;
@@ -81,26 +43,28 @@ fn alone<'a>(token: Token<'a>) -> Option<Datum<'a>>
     }
 }
 
-/// The value that comes next; arrays and objects in it nest at most `left` deep. The members of the
-/// objects around it stand on the stack until their object ends, so that the arena holds each
-/// object once. It stands in the loops that call it, so that a value of one token is read with no
-/// call.
+/// The value that begins with a token; arrays and objects in it nest at most `left` deep. The
+/// members of the objects around it stand on the stack until their object ends, so that the arena
+/// holds each object once. It stands in the loops that call it, so that a value of one token is
+/// read with no call.
 #[cycle(read)]
 #[inline(always)]
 fn read_value<'a>(
     alloc: Global,
     arena: &'a Bump,
     stack: &mut Vec<(&'a str, Datum<'a>)>,
-    reader: &mut Reader<'a>,
+    reader: &mut Source<'a>,
     left: usize,
+    token: Token<'a>,
 ) -> Result<Datum<'a>, Unread>
     ensures ok { IfOk result
-        (λ v. converted of_json (value left reader.old) ≡ Some (view v, reader.new)) }
-    ensures shorter { OnOk result (length reader.new < length reader.old) }
+        (λ v. converted of_json (value left (token_of token.entry ∷ reader.old))
+        ≡ Some (view v, reader.new)) }
+    ensures shorter { OnOk result (length reader.new ≤ length reader.old) }
     ensures stack { OnOk result (stack.new.items ≡ stack.old.items) }
-    ensures err { result ≡ Err Unread.NotJson → converted of_json (value left reader.old) ≡ None }
+    ensures err { result ≡ Err Unread.NotJson
+        → converted of_json (value left (token_of token.entry ∷ reader.old)) ≡ None }
 {
-    let token = reader.next().ok_or(Unread::NotJson)?;
     match alone(token) {
         Some(value) => Ok(value),
         None => read_nested(alloc, arena, stack, reader, left, token),
@@ -114,7 +78,7 @@ fn read_nested<'a>(
     alloc: Global,
     arena: &'a Bump,
     stack: &mut Vec<(&'a str, Datum<'a>)>,
-    reader: &mut Reader<'a>,
+    reader: &mut Source<'a>,
     left: usize,
     token: Token<'a>,
 ) -> Result<Datum<'a>, Unread>
@@ -147,7 +111,7 @@ fn read_items<'a>(
     alloc: Global,
     arena: &'a Bump,
     stack: &mut Vec<(&'a str, Datum<'a>)>,
-    reader: &mut Reader<'a>,
+    reader: &mut Source<'a>,
     left: usize,
 ) -> Result<&'a [Datum<'a>], Unread>
     ensures ok { IfOk result
@@ -159,8 +123,8 @@ fn read_items<'a>(
         → converted of_items (items (value left) (length reader.old) reader.old) ≡ None }
 {
     let mut found = Vec::new(arena);
-    'items: while !reader.take_end_array() {
-        let item = read_value(alloc, arena, stack, reader, left)?;
+    'items: while let Some(token) = reader.next_item()? {
+        let item = read_value(alloc, arena, stack, reader, left, token)?;
         found.push(item)?;
     }
     Ok(into_bump_slice(found))
@@ -171,7 +135,7 @@ fn read_members<'a>(
     alloc: Global,
     arena: &'a Bump,
     stack: &mut Vec<(&'a str, Datum<'a>)>,
-    reader: &mut Reader<'a>,
+    reader: &mut Source<'a>,
     left: usize,
 ) -> Result<&'a [(&'a str, Datum<'a>)], Unread>
     ensures ok { IfOk result
@@ -185,7 +149,8 @@ fn read_members<'a>(
 {
     let start = stack.len();
     'members: while let Some(name) = reader.next_key()? {
-        let member = read_value(alloc, arena, stack, reader, left)?;
+        let token = reader.next_token()?;
+        let member = read_value(alloc, arena, stack, reader, left, token)?;
         stack.push((name, member))?;
     }
     let found = in_order(alloc, arena, &stack[start..])?;
@@ -203,10 +168,11 @@ fn read_whole<'a>(
     ensures ok { IfOk result (λ v. read_text text.now ≡ Some (view v)) }
     ensures err { result ≡ Err Unread.NotJson → read_text text.now ≡ None }
 {
-    let mut reader = Reader::new(text, scratch)?;
+    let mut reader = Source::new(text, scratch);
     let mut stack = Vec::new(alloc);
-    let value = read_value(alloc, arena, &mut stack, &mut reader, MOST_NESTED)?;
-    match reader.next() {
+    let token = reader.next_token()?;
+    let value = read_value(alloc, arena, &mut stack, &mut reader, MOST_NESTED, token)?;
+    match reader.next()? {
         None => Ok(value),
         Some(_) => Err(Unread::NotJson),
     }

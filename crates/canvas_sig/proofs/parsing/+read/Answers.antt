@@ -1,4 +1,4 @@
-use Rattle.std.proofs.Common.{◌≡◌, ◌-◌, ◌<◌, [], ◌∷◌, ◌++◌, length, refl, Some, None, IfOk, sym, ap, ◌∙◌, subst, arith}
+use Rattle.std.proofs.Common.{◌≡◌, ◌-◌, ◌<◌, [], ◌∷◌, ◌++◌, length, refl, Some, None, sym, ap, ◌∙◌, arith}
 use Rattle.std.proofs.lemmas.List.{append_assoc, append-nil}
 use Rattle.json.specs.Json.{parse_map, after_end_array, read_key, items, members, value}
 use Rattle.json.specs.Reads.{token_of}
@@ -12,27 +12,9 @@ use Rattle.canvas_sig.specs.steps.Names.{put_all}
 use Rattle.canvas_sig.proofs.Parsed.{Named, since_start, view-List, view-Object, put_pushed, items_before, all_before, one_more_item}
 use Rattle.canvas_sig.proofs.parsing.+read.Goals as goal
 
-pub read_value-returns-in_err-token-clause-err : goal.read_value-returns-in_err-token-clause-err
-read_value-returns-in_err-token-clause-err t c refused =
-    let empty : c.args.reader.now ≡ [] = grind arith in
-    ap (converted of_json) (ap (value c.args.left) empty ∙ value_is c.args.left [])
-
 pub read_value-returns-in-Some-clause-ok : goal.read_value-returns-in-Some-clause-ok
 read_value-returns-in-Some-clause-ok t c =
-    let first : c.args.reader.now ≡ token_of c.in_ok-token.token ∷ c.next.new.self = grind arith in
-    ap (λ ts. converted of_json (value c.args.left ts)) first
-    ∙ read_alone c.args.left (token_of c.in_ok-token.token) c.next.new.self (view c.in-Some.value) (sym c.in-Some.ensures)
-
-pub read_value-returns-in-None-clause-ok : goal.read_value-returns-in-None-clause-ok
-read_value-returns-in-None-clause-ok t c =
-    let first : c.args.reader.now ≡ token_of c.in_ok-token.token ∷ c.next.new.self = grind arith in
-    subst (λ ts. IfOk c.read_nested.result (λ v. converted of_json (value c.args.left ts) ≡ Some (view v, c.read_nested.new.reader)))
-    (sym first) c.read_nested.ensures.ok
-
-pub read_value-returns-in-None-clause-err : goal.read_value-returns-in-None-clause-err
-read_value-returns-in-None-clause-err t c refused =
-    let first : c.args.reader.now ≡ token_of c.in_ok-token.token ∷ c.next.new.self = grind arith in
-    ap (λ ts. converted of_json (value c.args.left ts)) first ∙ c.read_nested.ensures.err refused
+    read_alone c.args.left (token_of c.args.token) c.args.reader.now (view c.in-Some.value) (sym c.in-Some.ensures)
 
 pub read_nested-returns-then-left-eq0-clause-err : goal.read_nested-returns-then-left-eq0-clause-err
 read_nested-returns-then-left-eq0-clause-err t c never =
@@ -71,30 +53,41 @@ read_items-items-init t c =
     let all = converted of_items (items (value c.args.left) (length c.args.reader.now) c.args.reader.now) in
     (length c.args.reader.now, omega arith, nothing_before all ∙ ap (λ vs. parse_map (items_before vs) all) (sym c.new-found.ensures.items), omega arith, refl)
 
+pub read_items-returns-in_err-token-clause-err : goal.read_items-returns-in_err-token-clause-err
+read_items-returns-in_err-token-clause-err t c refused =
+    let p = value c.args.left in
+    let l = c.items in
+    let n = l.invariant.0 in
+    let empty : l.reader ≡ [] = grind arith in
+    l.invariant.2 ∙ ap (parse_map (items_before l.found.items))
+    (item_refused p n l.reader (ap after_end_array empty) (ap (converted of_json) (ap p empty ∙ value_is c.args.left [])))
+
 pub read_items-returns-in_err-item-clause-err : goal.read_items-returns-in_err-item-clause-err
 read_items-returns-in_err-item-clause-err t c refused =
     let p = value c.args.left in
     let l = c.items in
     let n = l.invariant.0 in
-    let going : (after_end_array l.reader ≡ None) × (c.take_end_array.new.self ≡ l.reader) = grind arith in
-    l.invariant.2 ∙ ap (parse_map (items_before l.found.items)) (item_refused p n l.reader going.0 (rw (← going.1) (c.read_value.ensures.err (grind arith))))
+    let going : (after_end_array l.reader ≡ None) × (l.reader ≡ token_of c.in-Some.token ∷ c.next_item.new.self) = grind arith in
+    l.invariant.2 ∙ ap (parse_map (items_before l.found.items))
+    (item_refused p n l.reader going.0 (ap (λ ts. converted of_json (p ts)) going.1 ∙ c.read_value.ensures.err (grind arith)))
 
 pub read_items-items-preserved : goal.read_items-items-preserved
 read_items-items-preserved t c =
     let p = value c.args.left in
     let l = c.items in
     let n = l.invariant.0 in
-    let going : (after_end_array l.reader ≡ None) × (c.take_end_array.new.self ≡ l.reader) = grind arith in
+    let going : (after_end_array l.reader ≡ None) × (l.reader ≡ token_of c.in-Some.token ∷ c.next_item.new.self) = grind arith in
     let done = c.in_ok-item.ensures in
     let v = c.in_ok-item.item in
     let r = c.read_value.new.reader in
-    let less : length r < length l.reader = rw (← going.1) done.shorter in
-    let turn = item_read p n l.reader r (view v) (omega (arith, l.invariant.1)) going.0 (rw (← going.1) done.ok) in (
+    let long = ap length going.1 in
+    let less : length r < length l.reader = omega (arith, long, done.shorter) in
+    let turn = item_read p n l.reader r (view v) (omega (arith, l.invariant.1, less)) going.0 (ap (λ ts. converted of_json (p ts)) going.1 ∙ done.ok) in (
       n - 1,
-      omega (arith, l.invariant.1),
+      omega (arith, l.invariant.1, less),
       l.invariant.2 ∙ ap (parse_map (items_before l.found.items)) turn ∙ one_more_item l.found.items v _
           ∙ ap (λ vs. parse_map (items_before vs) (converted of_items (items p (n - 1) r))) (sym c.in_ok-push.ensures.items),
-      omega (arith, l.invariant.3),
+      omega (arith, l.invariant.3, less),
       done.stack ∙ l.invariant.4,
     )
 
@@ -103,7 +96,7 @@ read_items-returns-clause-ok t c =
     let p = value c.args.left in
     let l = c.items in
     let n = l.invariant.0 in
-    let r = c.take_end_array.new.self in
+    let r = c.next_item.new.self in
     l.invariant.2 ∙ ap (parse_map (items_before l.found.items)) (items_over p n l.reader r l.invariant.1 (grind arith))
     ∙ ap (λ ds. Some (ds, r)) (all_before l.found.items ∙ ap (λ vs. items_view vs) (sym c.into_bump_slice.ensures))
 
@@ -116,7 +109,19 @@ read_members-returns-in_err-name-clause-err t c refused =
     let l = c.members in
     let n = l.invariant.0 in
     let old = put_all l.invariant.1 no_members in
-    l.invariant.3 ∙ key_refused old p n l.reader c.in_err-name.ensures.value
+    l.invariant.3 ∙ key_refused old p n l.reader (c.in_err-name.ensures (grind arith))
+
+pub read_members-returns-in_err-token-clause-err : goal.read_members-returns-in_err-token-clause-err
+read_members-returns-in_err-token-clause-err t c refused =
+    let p = value c.args.left in
+    let l = c.members in
+    let n = l.invariant.0 in
+    let old = put_all l.invariant.1 no_members in
+    let k = c.in-Some.name.now in
+    let s = c.next_key.new.self in
+    let named : read_key l.reader ≡ Some (Some k, s) = grind arith in
+    let empty : s ≡ [] = grind arith in
+    l.invariant.3 ∙ member_refused old p n k l.reader s named (ap (converted of_json) (ap p empty ∙ value_is c.args.left []))
 
 pub read_members-returns-in_err-member-clause-err : goal.read_members-returns-in_err-member-clause-err
 read_members-returns-in_err-member-clause-err t c refused =
@@ -127,7 +132,8 @@ read_members-returns-in_err-member-clause-err t c refused =
     let k = c.in-Some.name.now in
     let s = c.next_key.new.self in
     let named : read_key l.reader ≡ Some (Some k, s) = grind arith in
-    l.invariant.3 ∙ member_refused old p n k l.reader s named (c.read_value.ensures.err (grind arith))
+    let first : s ≡ token_of c.in_ok-token.token ∷ c.next_token.new.self = c.in_ok-token.ensures in
+    l.invariant.3 ∙ member_refused old p n k l.reader s named (ap (λ ts. converted of_json (p ts)) first ∙ c.read_value.ensures.err (grind arith))
 
 pub read_members-members-preserved : goal.read_members-members-preserved
 read_members-members-preserved t c =
@@ -139,18 +145,21 @@ read_members-members-preserved t c =
     let k = c.in-Some.name.now in
     let s = c.next_key.new.self in
     let named : read_key l.reader ≡ Some (Some k, s) = grind arith in
+    let first : s ≡ token_of c.in_ok-token.token ∷ c.next_token.new.self = c.in_ok-token.ensures in
     let done = c.in_ok-member.ensures in
     let v = c.in_ok-member.member in
     let r = c.read_value.new.reader in
     let less = read_key-shorter l.reader (Some k) s named in
     let lesser = done.shorter in
+    let long = ap length first in
     let e : Named = (c.in-Some.name, v) in (
       n - 1,
       found ++ e ∷ [],
-      omega (arith, l.invariant.2),
-      l.invariant.3 ∙ member_read old p n k l.reader s r (view v) (omega (arith, l.invariant.2)) named done.ok
+      omega (arith, l.invariant.2, less, lesser, long),
+      l.invariant.3
+          ∙ member_read old p n k l.reader s r (view v) (omega (arith, l.invariant.2, less)) named (ap (λ ts. converted of_json (p ts)) first ∙ done.ok)
           ∙ ap (λ ms. converted (λ js. of_members js ms) (members p (n - 1) r)) (sym (put_pushed found e no_members)),
-      omega (arith, l.invariant.4),
+      omega (arith, l.invariant.4, less, lesser, long),
       c.in_ok-push.ensures.items ∙ ap (λ es. es ++ e ∷ []) (done.stack ∙ l.invariant.5) ∙ append_assoc c.args.stack.now.items found (e ∷ []),
     )
 

@@ -1,0 +1,205 @@
+//! The tokens of a JSON text. Plain ones are read here in few steps, and from the first other one
+//! on the reader of `json` reads, so that what it says of a text is all that is said.
+
+ghost use Rattle.std.specs.Prelude.{◌≡◌, ◌∷◌, [], Some, None, IfOk, IfSome, option_map, MatchResult, MatchOption};
+ghost use Rattle.json.specs.Lex.{tokens, fresh, between, lex, punctuate};
+ghost use Rattle.json.specs.Json.{after_end_array, read_key};
+ghost use Rattle.json.specs.Reads.{token_of, Yields};
+ghost use Rattle.json.specs.Reader.{tokens_at};
+ghost use Rattle.canvas_sig.specs.declared.unread.Unread.TheVariants.{NotJson};
+ghost use Rattle.canvas_sig.specs.steps.Place.{as_kit};
+ghost use Rattle.canvas_sig.specs.steps.Plain.{IsSettled};
+ghost use Rattle.canvas_sig.specs.steps.Source.{Item};
+
+use crate::place::Place;
+use crate::plain::{behind_bracket, closes_or_ends, plain_key, plain_token};
+use crate::runs::{first, trimmed};
+use crate::unread::Unread;
+use json::{Reader, Scratch, Token};
+use std::alloc::AllocError;
+use std::marker::Model;
+
+/// A clause sees the tokens that are still to come.
+#[derive(Drop)]
+pub(crate) struct Source<'a> {
+    rest: &'a str,
+    place: Place,
+    /// What reads from the first token on that isn't plain.
+    reader: Option<Reader<'a>>,
+    /// What the reader takes; none once it was lent.
+    scratch: Option<&'a mut Scratch>,
+}
+
+impl<'a> Model for Source<'a> {
+    ghost use Rattle.std.specs.Prelude.{List};
+    ghost use Rattle.json.specs.Token.{Token as SpecToken, tokens_code};
+
+    ghost Value = { List SpecToken };
+
+    ghost coded = { tokens_code };
+
+    ghost use Rattle.canvas_sig.specs.steps.Source.{source_view, IsSource};
+
+    ghost view = { source_view };
+
+    ghost invariant = { IsSource };
+}
+
+/// The next token where none is plain and it is known all the same: the fault of a comma with
+/// nothing behind it, or none at the end.
+fn last_token<'a>(place: Place, text: &str) -> Option<Option<Token<'a>>>
+    requires { IsSettled place text.now }
+    ensures { MatchOption result
+        (tokens_at (as_kit place) text.now ≡ punctuate fresh (lex between text.now))
+        (λ r. Yields (tokens_at (as_kit place) text.now) r []) }
+{
+    match place {
+        Place::Fresh => None,
+        Place::AfterValue => { if text.is_empty() { Some(None) } else { None } }
+        Place::AfterComma => {
+            if closes_or_ends(text) {
+                Some(Some(Token::Bad))
+            } else {
+                None
+            }
+        }
+        Place::Failed => Some(None),
+    }
+}
+
+impl<'a> Source<'a> {
+    pub(crate) fn new(text: &'a str, scratch: &'a mut Scratch) -> Source<'a>
+        ensures { result ≡ tokens text.now }
+    {
+        Source {
+            rest: trimmed(text),
+            place: Place::Fresh,
+            reader: None,
+            scratch: Some(scratch),
+        }
+    }
+
+    /// The next token. Only refused memory is an error, after which no token is known.
+    #[inline(always)]
+    pub(crate) fn next(&mut self) -> Result<Option<Token<'a>>, AllocError>
+        ensures { IfOk result (λ r. Yields self.old r self.new) }
+    {
+        if self.place.may_begin() {
+            if let Some((token, rest, place)) = plain_token(self.rest) {
+                self.rest = rest;
+                self.place = place;
+                return Ok(Some(token));
+            }
+        }
+        self.next_slowly()
+    }
+
+    /// The token that comes next, where one has to come.
+    #[inline(always)]
+    pub(crate) fn next_token(&mut self) -> Result<Token<'a>, Unread>
+        ensures { MatchResult result (λ t. self.old ≡ token_of t ∷ self.new)
+            (λ e. e ≡ NotJson → self.old ≡ []) }
+    {
+        match self.next()? {
+            Some(token) => Ok(token),
+            None => Err(Unread::NotJson),
+        }
+    }
+
+    #[inline(never)]
+    fn next_slowly(&mut self) -> Result<Option<Token<'a>>, AllocError>
+        ensures { IfOk result (λ r. Yields self.old r self.new) }
+    {
+        if let Some(reader) = &mut self.reader {
+            return Ok(reader.next());
+        }
+        if let Some(last) = last_token(self.place, self.rest) {
+            self.place = Place::Failed;
+            return Ok(last);
+        }
+        let Some(scratch) = self.scratch.take() else {
+            return Err(AllocError);
+        };
+        match Reader::new(self.rest, scratch) {
+            Ok(mut reader) => {
+                let token = reader.next();
+                self.reader = Some(reader);
+                self.place = Place::Failed;
+                Ok(token)
+            }
+            Err(refused) => Err(refused),
+        }
+    }
+
+    /// A key, or none at the brace that closes an object.
+    #[inline(always)]
+    pub(crate) fn next_key(&mut self) -> Result<Option<&'a str>, Unread>
+        ensures { MatchResult result
+            (λ k. read_key self.old ≡ Some (option_map (λ s. s.now) k, self.new))
+            (λ e. e ≡ NotJson → read_key self.old ≡ None) }
+    {
+        if self.place.may_begin() {
+            if let Some((key, rest)) = plain_key(self.rest) {
+                self.rest = rest;
+                self.place = Place::Fresh;
+                return Ok(Some(key));
+            }
+        }
+        if self.place.may_close() && first(self.rest) == b'}' {
+            if let Some((rest, place)) = behind_bracket(self.rest) {
+                self.rest = rest;
+                self.place = place;
+                return Ok(None);
+            }
+        }
+        self.next_key_slowly()
+    }
+
+    #[inline(never)]
+    fn next_key_slowly(&mut self) -> Result<Option<&'a str>, Unread>
+        ensures { MatchResult result
+            (λ k. read_key self.old ≡ Some (option_map (λ s. s.now) k, self.new))
+            (λ e. e ≡ NotJson → read_key self.old ≡ None) }
+    {
+        match self.next_slowly()? {
+            Some(Token::Key(key)) => Ok(Some(key)),
+            Some(Token::EndObject) => Ok(None),
+            _ => Err(Unread::NotJson),
+        }
+    }
+
+    /// The token with which the next item begins, or none at the bracket that closes an array.
+    #[inline(always)]
+    pub(crate) fn next_item(&mut self) -> Result<Option<Token<'a>>, Unread>
+        ensures { MatchResult result (λ r. Item self.old (option_map token_of r) self.new)
+            (λ e. e ≡ NotJson → self.old ≡ []) }
+    {
+        if self.place.may_begin() {
+            if let Some((token, rest, place)) = plain_token(self.rest) {
+                self.rest = rest;
+                self.place = place;
+                return Ok(Some(token));
+            }
+        }
+        if self.place.may_close() && first(self.rest) == b']' {
+            if let Some((rest, place)) = behind_bracket(self.rest) {
+                self.rest = rest;
+                self.place = place;
+                return Ok(None);
+            }
+        }
+        self.next_item_slowly()
+    }
+
+    #[inline(never)]
+    fn next_item_slowly(&mut self) -> Result<Option<Token<'a>>, Unread>
+        ensures { MatchResult result (λ r. Item self.old (option_map token_of r) self.new)
+            (λ e. e ≡ NotJson → self.old ≡ []) }
+    {
+        match self.next_slowly()? {
+            Some(Token::EndArray) => Ok(None),
+            Some(token) => Ok(Some(token)),
+            None => Err(Unread::NotJson),
+        }
+    }
+}
