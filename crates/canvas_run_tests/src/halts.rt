@@ -169,8 +169,24 @@ where
     let asks = Drawing::of(rt, &stop, at, false);
     let fails = Drawing::of(rt, &other, at, true);
     let (bytes, alloc) = (text.as_bytes(), rt.alloc());
-    let stopped = run_text_threads(&asks, alloc, bytes, &BuiltinTasks, workers, &OpenGate, &stop);
-    let lost = run_text_threads(&fails, alloc, bytes, &BuiltinTasks, workers, &OpenGate, &other);
+    let stopped = run_text_threads(
+        &asks,
+        alloc,
+        bytes,
+        &BuiltinTasks,
+        workers,
+        &OpenGate,
+        &stop,
+    );
+    let lost = run_text_threads(
+        &fails,
+        alloc,
+        bytes,
+        &BuiltinTasks,
+        workers,
+        &OpenGate,
+        &other,
+    );
     (stored_rows(&stopped), is_lost(&lost) && other.asked())
 }
 
