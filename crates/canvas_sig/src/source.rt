@@ -91,6 +91,13 @@ impl<'a> Source<'a> {
                 return Ok(Some(token));
             }
         }
+        self.next_apart()
+    }
+
+    #[inline(never)]
+    fn next_apart(&mut self) -> Result<Option<Token<'a>>, AllocError>
+        ensures { IfOk result (λ r. Yields self.old r self.new) }
+    {
         self.next_slowly()
     }
 
@@ -106,7 +113,8 @@ impl<'a> Source<'a> {
         }
     }
 
-    #[inline(never)]
+    /// The next token where none is plain.
+    #[inline(always)]
     fn next_slowly(&mut self) -> Result<Option<Token<'a>>, AllocError>
         ensures { IfOk result (λ r. Yields self.old r self.new) }
     {
