@@ -1,7 +1,7 @@
 -- What a poll leaves in front of what is followed from then on.
 use Rattle.std.proofs.Common.{◌≡◌, ◌∙◌, ℕ, Bool, true, Option, Some, None, refl, sym, ap, subst}
 use Rattle.std.specs.Prelude.{IfSome, IsSomeAnd}
-use Rattle.futures.specs.Poll.{OnPending}
+use Rattle.futures.specs.Poll.{IfReady, OnPending}
 use Rattle.futures.specs.declared.task.Poll.{Poll}
 use Rattle.futures.specs.declared.task.Poll.TheVariants as poll
 use Rattle.canvas_task.specs.Apply.{Behaviour}
@@ -115,3 +115,6 @@ of_one o w P is h = subst (λ x. IfSome x P) (sym is) h
 pub pending : {A : Type 0} (p : Poll A) (P : Type 0) → P → OnPending p P
 pending (poll.Ready x) P h = tt
 pending poll.Pending P h = h
+
+pub not_ready : {A : Type 0} (p : Poll A) (P : A → Type 0) → p ≡ poll.Pending → IfReady p P
+not_ready p P e = subst (λ x. IfReady x P) (sym e) tt

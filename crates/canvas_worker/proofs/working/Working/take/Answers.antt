@@ -6,7 +6,7 @@ use Rattle.canvas_worker.specs.CoreState.{asked}
 use Rattle.canvas_worker.specs.Polls.{Work}
 use Rattle.canvas_worker.proofs.GivenEnvelope.{given_well}
 use Rattle.canvas_worker.proofs.ShownAsks.{is_take}
-use Rattle.canvas_worker.proofs.working.Working.takes.Goals as goal
+use Rattle.canvas_worker.proofs.working.Working.take.Goals as goal
 
 pub returns-in-Some-clause-acted : goal.returns-in-Some-clause-acted
 returns-in-Some-clause-acted g c =
@@ -15,7 +15,7 @@ returns-in-Some-clause-acted g c =
     let e : Envelope = c.in-Some.envelope in
     let rest : w.held ≡ e ∷ u.held = search rules in
     let took : Took w.pass [] u.pass = search rules in
-    given_well (g.T.Tasks.behaviour c.args.tasks.now) w u c.gives.new.self [] e c.gives.result c.gives.ensures c.requires.ready (record {
+    given_well (g.T.Tasks.behaviour c.args.tasks.now) w u c.give.new.self [] e c.give.result c.give.ensures c.requires.ready (record {
       asked_is = is_take w.core.task (asked w.core.left) c.requires.asks;
       broker = search rules;
       desk = search rules;

@@ -10,7 +10,7 @@ use Rattle.canvas_worker.specs.Polls.{Work}
 use Rattle.canvas_worker.proofs.GivenEnvelope.{given_well}
 use Rattle.canvas_worker.proofs.ShownAsks.{is_take, reads_back}
 use Rattle.canvas_worker.proofs.ToldAnswers.{asked_well}
-use Rattle.canvas_worker.proofs.working.Working.takes_one.Goals as goal
+use Rattle.canvas_worker.proofs.working.Working.take_one.Goals as goal
 
 pub returns-in-Some-clause-acted : goal.returns-in-Some-clause-acted
 returns-in-Some-clause-acted g c =
@@ -18,7 +18,7 @@ returns-in-Some-clause-acted g c =
     let u : Work = record { broker = c.self.inside.queue.broker.now; desk = c.self.inside.backend.now; number = c.self.inside.number; pass = c.take.new.pass; seat = c.self.inside.seat; core = c.self.inside.core; held = []; taken = c.self.inside.taken; published = c.self.inside.published; first = c.self.inside.first; parts = c.self.inside.parts } in
     let e : Envelope = c.in-Some.envelope in
     let stands : Stands w.pass (calls w.pass.name queue.take (Some e)) u.pass = search rules in
-    given_well (g.T.Tasks.behaviour c.args.tasks.now) w u c.gives.new.self (e ∷ []) e c.gives.result c.gives.ensures c.requires.ready (record {
+    given_well (g.T.Tasks.behaviour c.args.tasks.now) w u c.give.new.self (e ∷ []) e c.give.result c.give.ensures c.requires.ready (record {
       asked_is = is_take w.core.task (asked w.core.left) c.requires.asks;
       broker = search rules;
       desk = search rules;
@@ -41,8 +41,8 @@ returns-in-None-clause-acted g c =
     let asks : asked w.core.left ≡ C.to_queue queue.take = is_take w.core.task (asked w.core.left) c.requires.asks in
     let bare : u.held ≡ [] = search rules in
     let empty : Empties u.pass = search rules in
-    asked_well (g.T.Tasks.behaviour c.args.tasks.now) w u c.answers.new.self (C.to_queue queue.take) (C.from_queue None)
-    c.answers.result c.answers.ensures.value c.requires.ready
+    asked_well (g.T.Tasks.behaviour c.args.tasks.now) w u c.answer.new.self (C.to_queue queue.take) (C.from_queue None)
+    c.answer.result c.answer.ensures.value c.requires.ready
     (record {
       asked_is = asks;
       suits = tt;

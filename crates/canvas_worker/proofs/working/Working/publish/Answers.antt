@@ -10,10 +10,10 @@ use Rattle.canvas_worker.specs.CoreState.{Standing, asked, handed, after_reply}
 use Rattle.canvas_worker.specs.declared.ask.Reply.TheVariants as R
 use Rattle.canvas_worker.proofs.ShownAsks.{handed_out, handed_same, still_publishes}
 use Rattle.canvas_worker.proofs.ToldAnswers.{asked_well, ends_badly}
-use Rattle.canvas_worker.proofs.working.Working.publishes.Goals as goal
+use Rattle.canvas_worker.proofs.working.Working.publish.Goals as goal
 
-pub replies-requires-clause-suits : goal.replies-requires-clause-suits
-replies-requires-clause-suits g c =
+pub reply-requires-clause-suits : goal.reply-requires-clause-suits
+reply-requires-clause-suits g c =
     let w : Work = c.args.self.now in
     let core : c.envelope.new.self ≡ handed w.core = search rules in
     ap (λ a. suits a R.Published) (ap (λ (k : Standing). shown k.task (asked k.left)) core ∙ still_publishes w.core.task w.core.left c.requires.asks)
@@ -39,8 +39,8 @@ returns-in-Ok-clause-acted g c =
     let asks : asked w.core.left ≡ C.to_queue (queue.publish c.in-Some.envelope) =
     handed_out c.in-Some.envelope w.core c.requires.ready.inside (search rules) in
     let core : u.core ≡ handed w.core = search rules in
-    asked_well (g.T.Tasks.behaviour c.args.tasks.now) w u c.replies.new.self
-    (C.to_queue (queue.publish c.in-Some.envelope)) (C.from_queue None) c.replies.result c.replies.ensures.value c.requires.ready (record {
+    asked_well (g.T.Tasks.behaviour c.args.tasks.now) w u c.reply.new.self
+    (C.to_queue (queue.publish c.in-Some.envelope)) (C.from_queue None) c.reply.result c.reply.ensures.value c.requires.ready (record {
       asked_is = asks;
       suits = tt;
       back = c.requires.reads_back;
@@ -77,8 +77,8 @@ returns-in-Err-clause-acted g c =
     let asks : asked w.core.left ≡ C.to_queue (queue.publish c.in-Some.envelope) =
     handed_out c.in-Some.envelope w.core c.requires.ready.inside (search rules) in
     let core : u.core ≡ handed w.core = search rules in
-    ends_badly (g.T.Tasks.behaviour c.args.tasks.now) w u (C.to_queue (queue.publish c.in-Some.envelope)) C.refused c.fails.result
-    c.fails.ensures c.requires.ready (record {
+    ends_badly (g.T.Tasks.behaviour c.args.tasks.now) w u (C.to_queue (queue.publish c.in-Some.envelope)) C.refused c.fail.result
+    c.fail.ensures c.requires.ready (record {
       asked_is = asks;
       suits = tt;
       back = c.requires.reads_back;

@@ -10,7 +10,7 @@ use Rattle.canvas_worker.specs.SeatRights.{LetsAsk}
 use Rattle.canvas_worker.proofs.Asking.{may_ask}
 use Rattle.canvas_worker.proofs.ShownAsks.{is_store}
 use Rattle.canvas_worker.proofs.ToldAnswers.{asked_well}
-use Rattle.canvas_worker.proofs.working.Working.stores.Goals as goal
+use Rattle.canvas_worker.proofs.working.Working.store.Goals as goal
 
 pub store-requires-clause-task : goal.store-requires-clause-task
 store-requires-clause-task g c =
@@ -40,8 +40,8 @@ returns-in-First-clause-acted g c =
     } in
     let asks : asked w.core.left ≡ C.to_table (table.store c.args.task c.args.outcome) =
     is_store w.core.task c.args.task c.args.outcome (asked w.core.left) c.requires.asks in
-    asked_well (g.T.Tasks.behaviour c.args.tasks.now) w u c.replies.new.self (C.to_table (table.store c.args.task c.args.outcome))
-    (C.from_table (table.was First)) c.replies.result c.replies.ensures.value c.requires.ready (record {
+    asked_well (g.T.Tasks.behaviour c.args.tasks.now) w u c.reply.new.self (C.to_table (table.store c.args.task c.args.outcome))
+    (C.from_table (table.was First)) c.reply.result c.reply.ensures.value c.requires.ready (record {
       asked_is = asks;
       suits = tt;
       back = c.requires.reads_back;
@@ -76,8 +76,8 @@ returns-in-Again-clause-acted g c =
     } in
     let asks : asked w.core.left ≡ C.to_table (table.store c.args.task c.args.outcome) =
     is_store w.core.task c.args.task c.args.outcome (asked w.core.left) c.requires.asks in
-    asked_well (g.T.Tasks.behaviour c.args.tasks.now) w u c.replies-in-Again.new.self (C.to_table (table.store c.args.task c.args.outcome))
-    (C.from_table (table.was Again)) c.replies-in-Again.result c.replies-in-Again.ensures.value c.requires.ready (record {
+    asked_well (g.T.Tasks.behaviour c.args.tasks.now) w u c.reply-in-Again.new.self (C.to_table (table.store c.args.task c.args.outcome))
+    (C.from_table (table.was Again)) c.reply-in-Again.result c.reply-in-Again.ensures.value c.requires.ready (record {
       asked_is = asks;
       suits = tt;
       back = c.requires.reads_back;

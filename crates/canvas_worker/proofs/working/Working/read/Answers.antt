@@ -9,7 +9,7 @@ use Rattle.canvas_worker.specs.SeatRights.{LetsAsk}
 use Rattle.canvas_worker.proofs.Asking.{may_ask}
 use Rattle.canvas_worker.proofs.ShownAsks.{is_read}
 use Rattle.canvas_worker.proofs.ToldAnswers.{asked_well}
-use Rattle.canvas_worker.proofs.working.Working.reads.Goals as goal
+use Rattle.canvas_worker.proofs.working.Working.read.Goals as goal
 
 pub read-found-requires-clause-task : goal.read-found-requires-clause-task
 read-found-requires-clause-task g c =
@@ -36,8 +36,8 @@ returns-clause-acted g c =
       parts = c.self.inside.parts;
     } in
     let asks : asked w.core.left ≡ C.to_table (table.read c.args.task) = is_read w.core.task c.args.task (asked w.core.left) c.requires.asks in
-    asked_well (g.T.Tasks.behaviour c.args.tasks.now) w u c.replies.new.self (C.to_table (table.read c.args.task))
-    (C.from_table (table.found c.read-found.result)) c.replies.result c.replies.ensures.value c.requires.ready (record {
+    asked_well (g.T.Tasks.behaviour c.args.tasks.now) w u c.reply.new.self (C.to_table (table.read c.args.task))
+    (C.from_table (table.found c.read-found.result)) c.reply.result c.reply.ensures.value c.requires.ready (record {
       asked_is = asks;
       suits = tt;
       back = c.requires.reads_back;

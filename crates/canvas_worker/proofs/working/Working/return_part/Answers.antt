@@ -7,7 +7,7 @@ use Rattle.canvas_worker.specs.Polls.{Work}
 use Rattle.canvas_worker.proofs.Resting.{busy_never}
 use Rattle.canvas_worker.proofs.ShownAsks.{is_part}
 use Rattle.canvas_worker.proofs.ToldAnswers.{asked_well}
-use Rattle.canvas_worker.proofs.working.Working.returns.Goals as goal
+use Rattle.canvas_worker.proofs.working.Working.return_part.Goals as goal
 
 pub returns-clause-acted : goal.returns-clause-acted
 returns-clause-acted g c =
@@ -15,8 +15,8 @@ returns-clause-acted g c =
     let u : Work = record { broker = c.self.inside.queue.broker.now; desk = c.self.inside.backend.now; number = c.self.inside.number; pass = c.self.inside.pass; seat = c.part-count.new.seat; core = c.self.inside.core; held = held_in c.self.inside.source; taken = c.self.inside.taken; published = c.self.inside.published; first = c.self.inside.first; parts = c.saturating_add-self-inside.result } in
     let asks : asked w.core.left ≡ C.to_table (table.part c.args.group c.args.task) =
     is_part w.core.task c.args.group c.args.task (asked w.core.left) c.requires.asks in
-    asked_well (g.T.Tasks.behaviour c.args.tasks.now) w u c.replies.new.self (C.to_table (table.part c.args.group c.args.task))
-    (C.from_table (table.count c.part-count.result)) c.replies.result c.replies.ensures.value c.requires.ready (record {
+    asked_well (g.T.Tasks.behaviour c.args.tasks.now) w u c.reply.new.self (C.to_table (table.part c.args.group c.args.task))
+    (C.from_table (table.count c.part-count.result)) c.reply.result c.reply.ensures.value c.requires.ready (record {
       asked_is = asks;
       suits = tt;
       back = c.requires.reads_back;
