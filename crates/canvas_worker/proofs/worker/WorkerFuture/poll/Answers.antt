@@ -1,8 +1,8 @@
 use Rattle.std.proofs.Common.{rules, ◌≡◌, ℕ, Bool, Some}
 use Rattle.canvas_task.specs.Apply.{Behaviour}
 use Rattle.canvas_worker.specs.Polls.{Work, TellsOf}
-use Rattle.canvas_worker.proofs.Held.{held_back}
-use Rattle.canvas_worker.proofs.PollsFollowed.{goes_first, ends_give, ready_one, of_one, pending, not_ready}
+use Rattle.canvas_worker.proofs.Polls.Held.{held_back}
+use Rattle.canvas_worker.proofs.Polls.PollsFollowed.{goes_first, ends_give, ready_one, of_one, pending, not_ready}
 use Rattle.canvas_worker.proofs.worker.WorkerFuture.poll.Goals as goal
 
 pub returns-in-Ok-clause-same : goal.returns-in-Ok-clause-same

@@ -20,7 +20,7 @@ use Rattle.canvas_worker.specs.Finished.{Finished, WorkersStart}
 use Rattle.canvas_worker.specs.CoreState.{Left, Progress, HasFollowed}
 use Rattle.canvas_worker.specs.Polls.{IsWanted, TellsOf, working_begun}
 use Rattle.canvas_worker.specs.declared.record.Record.{Record}
-use Rattle.canvas_worker.proofs.CoreLaw.{cores_are_workers}
+use Rattle.canvas_worker.proofs.Cores.CoreLaw.{cores_are_workers}
 
 -- over together
 over_alike : (behaviour : Behaviour) (t : CoreState Content PCarried) → IsAlike behaviour over t → t ≡ over

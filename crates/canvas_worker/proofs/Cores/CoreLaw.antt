@@ -22,8 +22,8 @@ use Rattle.canvas_worker.specs.Asks.{Asked, Answer}
 use Rattle.canvas_worker.specs.Cores.{IsAlike, GoTogether, CoresAreWorkers}
 use Rattle.canvas_worker.specs.EnvelopeWorker.{Applied, said, enclosed, enveloped, applied_if as kept_envelope}
 use Rattle.canvas_worker.specs.CoreState.{Left}
-use Rattle.canvas_worker.proofs.Opening.{opened_as}
-use Rattle.canvas_worker.proofs.Sendable.{envelope_so, said_of}
+use Rattle.canvas_worker.proofs.Books.Opening.{opened_as}
+use Rattle.canvas_worker.proofs.Books.Sendable.{envelope_so, said_of}
 
 module _ (behaviour : Behaviour) (l : Line) where
   abbrev X : Protocol Envelope

@@ -31,11 +31,11 @@ use Rattle.canvas_worker.specs.SeatRights.{Carries, InBook}
 use Rattle.canvas_worker.specs.declared.ask.Reply.{Reply}
 use Rattle.canvas_worker.specs.declared.ask.Ask.TheVariants.{End}
 use Rattle.canvas_worker.specs.declared.ask.Reply.TheVariants as R
-use Rattle.canvas_worker.proofs.CorePasts.{left_one_more}
-use Rattle.canvas_worker.proofs.KnownJobs.{StoredIn, Behind as BehindTask, ended_jobs, body_jobs, ended_known, body_known}
-use Rattle.canvas_worker.proofs.KnownScripts.{script_known}
-use Rattle.canvas_worker.proofs.Opening.{opened_as}
-use Rattle.canvas_worker.proofs.Sendable.{said_of}
+use Rattle.canvas_worker.proofs.Cores.CorePasts.{left_one_more}
+use Rattle.canvas_worker.proofs.Books.KnownJobs.{StoredIn, Behind as BehindTask, ended_jobs, body_jobs, ended_known, body_known}
+use Rattle.canvas_worker.proofs.Books.KnownScripts.{script_known}
+use Rattle.canvas_worker.proofs.Books.Opening.{opened_as}
+use Rattle.canvas_worker.proofs.Books.Sendable.{said_of}
 
 abbrev is_end : Asked → Bool
 is_end C.end = true

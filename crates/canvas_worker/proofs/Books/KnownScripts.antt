@@ -18,7 +18,7 @@ use Rattle.canvas_runs.specs.Following.{Seat}
 use Rattle.canvas_worker.specs.EnvelopeWorker.{enclosed}
 use Rattle.canvas_worker.specs.Scripts as scripts
 use Rattle.canvas_worker.specs.SeatRights.{Carries, InBook, MayReturnDue}
-use Rattle.canvas_worker.proofs.KnownJobs.{Known, StoredIn}
+use Rattle.canvas_worker.proofs.Books.KnownJobs.{Known, StoredIn}
 
 abbrev Stores : Type 0
 Stores = List (ℕ × Outcome)

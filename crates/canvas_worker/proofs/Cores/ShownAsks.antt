@@ -20,7 +20,7 @@ use Rattle.canvas_worker.specs.EnvelopeWorker.{no_tasks, enveloped_by}
 use Rattle.canvas_worker.specs.CoreState.{Standing, Left, asked, unread, drops, held_out, handed, unsent, after_reply, kept_next, task_next}
 use Rattle.canvas_worker.specs.declared.ask.Ask.{Ask}
 use Rattle.canvas_worker.specs.declared.ask.Ask.TheVariants.{Take, Publish, Store, Part, Read, Rest, Ack, End}
-use Rattle.canvas_worker.proofs.CorePasts.{unsent_answered, unsent_drops}
+use Rattle.canvas_worker.proofs.Cores.CorePasts.{unsent_answered, unsent_drops}
 use Rattle.canvas_worker.proofs.Turns.{of_queue}
 
 -- ---- which ask is shown

@@ -23,11 +23,11 @@ use Rattle.canvas_worker.specs.Polls.{Work, progress, with_core, with_answer, lo
 use Rattle.canvas_worker.specs.declared.cause.Cause.TheVariants.{Memory}
 use Rattle.canvas_worker.specs.declared.record.Record.{Record}
 use Rattle.canvas_worker.specs.declared.working.End.{End}
-use Rattle.canvas_worker.proofs.Asking.{may_go_on}
+use Rattle.canvas_worker.proofs.Rights.Asking.{may_go_on}
 use Rattle.canvas_worker.proofs.InHand.{call_can, has_open}
-use Rattle.canvas_worker.proofs.Resting.{busy_never}
-use Rattle.canvas_worker.proofs.CorePasts.{book_step, task_step}
-use Rattle.canvas_worker.proofs.ShownAsks.{drops_so, rests_over}
+use Rattle.canvas_worker.proofs.Cores.Resting.{busy_never}
+use Rattle.canvas_worker.proofs.Cores.CorePasts.{book_step, task_step}
+use Rattle.canvas_worker.proofs.Cores.ShownAsks.{drops_so, rests_over}
 use Rattle.canvas_worker.proofs.Turns.{of_queue, of_table, tallied, some_none}
 
 -- ---- one ask answered by the broker or the backend

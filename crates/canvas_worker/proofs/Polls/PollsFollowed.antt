@@ -21,7 +21,7 @@ use Rattle.canvas_worker.specs.Polls.{Work, progress, Ready, IsWanted, Acts, mak
 use Rattle.canvas_worker.specs.WorkerSteps.{Delivered}
 use Rattle.canvas_worker.specs.declared.cause.Cause.TheVariants.{Memory, Stopped}
 use Rattle.canvas_worker.specs.declared.record.Record.{Record}
-use Rattle.canvas_worker.proofs.Stepping.{rests, call_first, held_first, batch_first, again_first, rests_wanted, call_wanted, held_wanted, batch_wanted, again_wanted}
+use Rattle.canvas_worker.proofs.Polls.Stepping.{rests, call_first, held_first, batch_first, again_first, rests_wanted, call_wanted, held_wanted, batch_wanted, again_wanted}
 use Rattle.canvas_worker.proofs.Turns.{ends_acting}
 
 module _ (behaviour : Behaviour) (again : ℕ → Type 0) (plan : Roster) where

@@ -23,11 +23,11 @@ use Rattle.canvas_worker.specs.Polls.{Work, progress, with_core, with_answer, lo
 use Rattle.canvas_worker.specs.declared.cause.Cause.TheVariants.{Memory}
 use Rattle.canvas_worker.specs.declared.record.Record.{Record}
 use Rattle.canvas_worker.specs.declared.working.End.{End}
-use Rattle.canvas_worker.proofs.Asking.{may_go_on}
-use Rattle.canvas_worker.proofs.CorePasts.{book_step, task_step}
-use Rattle.canvas_worker.proofs.ShownAsks.{drops_so, takes_taking}
+use Rattle.canvas_worker.proofs.Rights.Asking.{may_go_on}
+use Rattle.canvas_worker.proofs.Cores.CorePasts.{book_step, task_step}
+use Rattle.canvas_worker.proofs.Cores.ShownAsks.{drops_so, takes_taking}
 use Rattle.canvas_worker.proofs.InHand.{batch_can, but_open}
-use Rattle.canvas_worker.proofs.Resting.{given_never}
+use Rattle.canvas_worker.proofs.Cores.Resting.{given_never}
 use Rattle.canvas_worker.proofs.Turns.{of_queue, unchanged, one_more, tallied, some_none}
 
 -- ---- an envelope given to the core

@@ -31,10 +31,10 @@ use Rattle.canvas_worker.specs.EnvelopeWorker.{said, enclosed, enveloped, applie
 use Rattle.canvas_worker.specs.Scripts.{EnvelopeJobs}
 use Rattle.canvas_worker.specs.SeatRights.{Carries, InBook, MayReturnDue, Can, LetsAsk, CanAsk, CanGoOn}
 use Rattle.canvas_worker.specs.CoreState.{Left, asked}
-use Rattle.canvas_worker.proofs.KnownJobs.{StoredIn, Behind, own_known, ended_jobs, body_jobs, ended_known, body_known}
-use Rattle.canvas_worker.proofs.KnownScripts.{script_known, script_may}
-use Rattle.canvas_worker.proofs.Opening.{opened_as}
-use Rattle.canvas_worker.proofs.Sendable.{said_of}
+use Rattle.canvas_worker.proofs.Books.KnownJobs.{StoredIn, Behind, own_known, ended_jobs, body_jobs, ended_known, body_known}
+use Rattle.canvas_worker.proofs.Books.KnownScripts.{script_known, script_may}
+use Rattle.canvas_worker.proofs.Books.Opening.{opened_as}
+use Rattle.canvas_worker.proofs.Books.Sendable.{said_of}
 
 module _ (plan : Roster) where
   -- ---- where the seat has made a call

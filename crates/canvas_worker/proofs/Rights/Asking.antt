@@ -11,7 +11,7 @@ use Rattle.canvas_worker.specs.Asks.{Answer}
 use Rattle.canvas_worker.specs.EnvelopeWorker.{enveloped}
 use Rattle.canvas_worker.specs.SeatRights.{Can, LetsAsk}
 use Rattle.canvas_worker.specs.CoreState.{Left, asked}
-use Rattle.canvas_worker.proofs.Seats.{can_ask, can_go_on}
+use Rattle.canvas_worker.proofs.Rights.Seats.{can_ask, can_go_on}
 
 -- what is known of a plan
 abbrev IsOf : Roster → Type 0
