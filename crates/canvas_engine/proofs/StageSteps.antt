@@ -28,9 +28,9 @@ use Rattle.canvas_worker.specs.EnvelopeWorker.{enveloped, enveloped_by, no_tasks
 use Rattle.canvas_worker.specs.CorePast.{task_in}
 use Rattle.canvas_worker.specs.CoreState as standing
 use Rattle.canvas_worker.specs.CoreState.{Standing, Left, asked, after_reply}
-use Rattle.canvas_worker.proofs.CoreLaw.{cores_are_workers}
+use Rattle.canvas_worker.proofs.Cores.CoreLaw.{cores_are_workers}
 use Rattle.canvas_worker.proofs.InHand.{has_open}
-use Rattle.canvas_worker.proofs.CorePasts.{book_step, task_step}
+use Rattle.canvas_worker.proofs.Cores.CorePasts.{book_step, task_step}
 use Rattle.canvas_engine.specs.steps.Stages.{AnswersNow, Stepped, IsCoreAt, LeadsTo}
 use Rattle.canvas_engine.specs.declared.turns.stage.Stage.{Stage}
 

@@ -34,7 +34,7 @@ use Rattle.canvas_callers.proofs.FromCrew.{passes, seats, the_run, the_closed}
 use Rattle.canvas_callers.proofs.Rows.{rows_of_well, rows_of_any}
 use Rattle.canvas_callers.proofs.Tallies.{tallies_count}
 use Rattle.canvas_worker.specs.Finished.{Finished}
-use Rattle.canvas_worker.proofs.Stepping.{nothing_done}
+use Rattle.canvas_worker.proofs.Polls.Stepping.{nothing_done}
 use Rattle.canvas_worker.specs.declared.record.Record.{Record}
 use Rattle.canvas_worker.specs.declared.cause.Cause.{Cause}
 use Rattle.canvas_worker.specs.declared.cause.Cause.TheVariants.{Memory, Stopped}

@@ -23,8 +23,8 @@ use Rattle.canvas_worker.specs.CoreState.{Left, asked, open_of, held}
 use Rattle.canvas_worker.specs.Polls.{Work, CanDeliver, in_hand, Ready, delivers, Redelivered, Pends, EndsWith}
 use Rattle.canvas_worker.specs.declared.cause.Cause.TheVariants.{Memory}
 use Rattle.canvas_worker.specs.declared.working.End.{End}
-use Rattle.canvas_worker.proofs.Redelivering.{just_has, still_has}
-use Rattle.canvas_worker.proofs.Stepping.{taking_all, took_makes}
+use Rattle.canvas_worker.proofs.Polls.Redelivering.{just_has, still_has}
+use Rattle.canvas_worker.proofs.Polls.Stepping.{taking_all, took_makes}
 use Rattle.canvas_worker.proofs.Turns.{ends_acting}
 
 -- ---- what a pass may deliver again

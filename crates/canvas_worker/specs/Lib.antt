@@ -11,6 +11,7 @@ pub mod StepLaws
 pub mod SeatRights
 pub mod Polls
 pub mod GateAnswers
+pub mod Polled
 pub mod Finished
 pub mod codes
 pub mod steps

@@ -1,8 +1,8 @@
 //! The worker.
 
 ghost use Rattle.std.specs.Prelude.{◌≡◌, Some, None, IfSome, IsSome, IsSomeAnd};
-ghost use Rattle.canvas_worker.specs.GateAnswers.{Heeds, HeldBack, LeavesHeeding};
-ghost use Rattle.canvas_worker.specs.Polls.{Ready, Pends, Ends, TellsOf, Leaves, working_begun};
+ghost use Rattle.canvas_worker.specs.Polled.{Polled};
+ghost use Rattle.canvas_worker.specs.Polls.{Ready, TellsOf, Leaves, working_begun};
 ghost use Rattle.futures.specs.Poll.{OnPending, IfReady};
 ghost use Rattle.futures.specs.Task.{Covers, Keeps};
 
@@ -80,6 +80,7 @@ impl<R: Wait, T: Tasks, G: Gate> Future for Worker<'_, R, T, G> {
     ghost gives = { λ w r. IfSome w.working
         (λ v. TellsOf (T.behaviour w.tasks.now) (G.may_want w.gate.now) v r) };
 
+    // The first five are those of any future, at this one.
     fn poll(&mut self, cx: &mut Context<'_>) -> Poll<Record>
         requires { IsSomeAnd self.old.working Ready }
         ensures value { IfReady result
@@ -93,22 +94,9 @@ impl<R: Wait, T: Tasks, G: Gate> Future for Worker<'_, R, T, G> {
             (λ w. TellsOf (T.behaviour self.old.tasks.now) (G.may_want self.old.gate.now) w x)) }
         ensures registered { OnPending result (Covers cx.new (λ _. ⊥)) }
         ensures kept { Keeps cx.old cx.new }
-        ensures once { OnPending result (IfSome self.old.working
-            (λ w. IfSome self.new.working (λ v. Pends (T.behaviour self.old.tasks.now) w v))) }
-        ensures last { IfReady result
-            (λ r. IfSome self.old.working (λ w. Ends (T.behaviour self.old.tasks.now) w r)) }
-        ensures heeds { OnPending result (IfSome self.old.working
-            (λ w. IfSome self.new.working (λ v. Heeds (G.may_answer self.old.gate.now w.number)
-            (G.may_want self.old.gate.now w.number) (T.behaviour self.old.tasks.now) w
-            self.old.passed v self.new.passed))) }
-        ensures held_back { OnPending result (IfSome self.old.working
-            (λ w. IfSome self.new.working (λ v. HeldBack (G.may_answer self.old.gate.now w.number)
-            (G.may_want self.old.gate.now w.number) (T.behaviour self.old.tasks.now) w
-            self.old.passed v self.new.passed))) }
-        ensures ends_heeding { IfReady result (λ r. IfSome self.old.working
-            (λ w. LeavesHeeding (G.may_answer self.old.gate.now w.number)
-            (G.may_want self.old.gate.now w.number) (T.behaviour self.old.tasks.now) w
-            self.old.passed r)) }
+        ensures polled { IfSome self.old.working (λ w. Polled (T.behaviour self.old.tasks.now)
+            (G.may_answer self.old.gate.now) (G.may_want self.old.gate.now) w self.old.passed
+            result self.new.working self.new.passed) }
         ensures gate { OnPending result (self.new.gate.now ≡ self.old.gate.now) }
     {
         let (tasks, gate) = (self.tasks, self.gate);

@@ -1,11 +1,8 @@
 //! A worker in the middle of its work.
 
-ghost use Rattle.std.specs.Prelude.{◌≡◌, [], Some, Ok, None, IsSome, IsOk, IfOk, IfErr, OnErr, MatchResult, true};
-ghost use Rattle.canvas_task.specs.Apply.{IsInRange};
-ghost use Rattle.canvas_runs.specs.Core.{ReadsBack, from_queue, is_inside};
+ghost use Rattle.std.specs.Prelude.{◌≡◌, Some, Ok, IsSome, IfOk, IfErr, OnErr, MatchResult, true};
+ghost use Rattle.canvas_runs.specs.Core.{from_queue, is_inside};
 ghost use Rattle.canvas_worker.specs.Asks.{suits, shown, replied, FoundInRange, Grows};
-ghost use Rattle.canvas_worker.specs.Books.{no_book};
-ghost use Rattle.canvas_worker.specs.EnvelopeWorker.{enveloped_by, no_tasks};
 ghost use Rattle.canvas_worker.specs.GateAnswers.{asks_at, passed_after, Heard, Heeds, EndsHeeding};
 ghost use Rattle.canvas_worker.specs.CoreState.{asked, held};
 ghost use Rattle.canvas_worker.specs.Polls.{Ready, EndsFor, Acted, Pends, EndsWith, Leaves, Redelivered, working_begun, with_answer, lost, one_taken};
@@ -13,20 +10,19 @@ ghost use Rattle.canvas_worker.specs.declared.ask.Ask.TheVariants as ask;
 ghost use Rattle.canvas_worker.specs.declared.cause.Cause.TheVariants as cause;
 ghost use Rattle.canvas_worker.specs.declared.working.Said.TheVariants.{Wait, Again, On};
 
+mod answering;
+
 use crate::counted_queue::CountedQueue;
 use crate::source::Source;
-use crate::{Ask, Cause, Core, Gate, InFlight, Record, Reply, Shared, Stop};
-use canvas_backend::{Backend, BackendSeat, Stored};
+use crate::{Cause, Core, Gate, InFlight, Record, Reply, Shared, Stop};
+use canvas_backend::{Backend, BackendSeat};
 use canvas_broker::BrokerPass;
 use canvas_message::Letter;
 use canvas_runs::When;
-use canvas_task::{GroupNo, Memory, Outcome, TaskNo, Tasks};
+use canvas_task::{Memory, Tasks};
 use std::alloc::Global;
 use std::marker::Model;
 use std::sync::Wait;
-
-/// After so many takes in a row that found nothing a worker sleeps before it takes again.
-const PATIENCE: u32 = 8;
 
 /// The end of a worker: why it is early, if it is.
 #[derive(Clone, Copy, Drop)]
@@ -145,7 +141,7 @@ impl<'a, R: Wait> Working<'a, R> {
 
     /// Asks the stop of all workers, so that the others end too, and gives the end where memory was
     /// refused.
-    fn fails(&self) -> End
+    fn fail(&self) -> End
         ensures { result.fault ≡ Some cause.Memory }
     {
         self.stop.ask();
@@ -155,7 +151,7 @@ impl<'a, R: Wait> Working<'a, R> {
     }
 
     /// Answers the core.
-    fn answers<T: Tasks>(&mut self, tasks: &T, reply: Reply) -> Result<(), End>
+    fn answer<T: Tasks>(&mut self, tasks: &T, reply: Reply) -> Result<(), End>
         requires suits { suits (shown self.old.core.task (asked self.old.core.left)) reply ≡ true }
         requires in_range { FoundInRange reply }
         ensures value { MatchResult result
@@ -166,12 +162,12 @@ impl<'a, R: Wait> Working<'a, R> {
         let (alloc, backend) = (self.alloc, self.backend);
         match self.core.answer(alloc, backend.roster(), tasks, reply) {
             Ok(()) => Ok(()),
-            Err(_) => Err(self.fails()),
+            Err(_) => Err(self.fail()),
         }
     }
 
     /// Answers the core inside the script of a message, which may end with that.
-    fn replies<T: Tasks>(&mut self, tasks: &T, reply: Reply) -> Result<(), End>
+    fn reply<T: Tasks>(&mut self, tasks: &T, reply: Reply) -> Result<(), End>
         requires suits { suits (shown self.old.core.task (asked self.old.core.left)) reply ≡ true }
         requires in_range { FoundInRange reply }
         ensures value { MatchResult result
@@ -179,7 +175,7 @@ impl<'a, R: Wait> Working<'a, R> {
             (λ e. (self.new ≡ lost self.old) × (e.fault ≡ Some cause.Memory)) }
         ensures memory { OnErr result (Grows reply) }
     {
-        match self.answers(tasks, reply) {
+        match self.answer(tasks, reply) {
             Ok(()) => {
                 self.flight.done_unless(self.core.is_inside());
                 Ok(())
@@ -189,188 +185,20 @@ impl<'a, R: Wait> Working<'a, R> {
     }
 
     /// Gives an envelope to the core.
-    fn gives<T: Tasks>(&mut self, tasks: &T, envelope: Letter) -> Result<(), End>
+    fn give<T: Tasks>(&mut self, tasks: &T, envelope: Letter) -> Result<(), End>
         requires { shown self.old.core.task (asked self.old.core.left) ≡ ask.Take }
         ensures { MatchResult result (λ _. self.new
             ≡ one_taken (with_answer (T.behaviour tasks.now) self.old (from_queue (Some envelope))))
             (λ e. (self.new ≡ lost self.old) × (e.fault ≡ Some cause.Memory)) }
     {
         self.idle = 0;
-        match self.replies(tasks, Reply::Taken(Some(envelope))) {
+        match self.reply(tasks, Reply::Taken(Some(envelope))) {
             Ok(()) => {
                 self.taken = self.taken.saturating_add(1);
                 Ok(())
             }
             Err(end) => Err(end),
         }
-    }
-
-    fn takes_one<T: Tasks>(&mut self, tasks: &T) -> Result<(), End>
-        requires ready { Ready self.old }
-        requires asks { shown self.old.core.task (asked self.old.core.left) ≡ ask.Take }
-        requires bare { self.old.held ≡ [] }
-        ensures acted { MatchResult result (λ _. Acted (T.behaviour tasks.now) self.old self.new)
-            (λ e. EndsWith (T.behaviour tasks.now) self.old e.fault self.new) }
-        ensures memory { IfErr result (λ e. e.fault ≡ Some cause.Memory) }
-    {
-        let (rt, queue) = (self.rt, self.queue);
-        match queue.take(rt, &mut self.pass) {
-            Some(envelope) => {
-                self.source = Source::Next;
-                self.gives(tasks, envelope)
-            }
-            None => {
-                self.source = self.source.after_none();
-                self.idle = self.idle.saturating_add(1);
-                self.answers(tasks, Reply::Taken(None))
-            }
-        }
-    }
-
-    /// Takes a batch, and one alone where that has none: others may have come between, so a batch
-    /// of none doesn't say that there is no envelope.
-    fn takes_batch<T: Tasks>(&mut self, tasks: &T) -> Result<(), End>
-        requires ready { Ready self.old }
-        requires asks { shown self.old.core.task (asked self.old.core.left) ≡ ask.Take }
-        requires bare { self.old.held ≡ [] }
-        ensures acted { MatchResult result (λ _. Acted (T.behaviour tasks.now) self.old self.new)
-            (λ e. EndsWith (T.behaviour tasks.now) self.old e.fault self.new) }
-        ensures memory { IfErr result (λ e. e.fault ≡ Some cause.Memory) }
-    {
-        let (rt, queue) = (self.rt, self.queue);
-        let mut batch = queue.take_batch(rt, &mut self.pass);
-        match batch.next() {
-            Some(envelope) => {
-                self.source = Source::Batched(batch);
-                self.gives(tasks, envelope)
-            }
-            None => self.takes_one(tasks),
-        }
-    }
-
-    fn takes<T: Tasks>(&mut self, tasks: &T) -> Result<(), End>
-        requires ready { Ready self.old }
-        requires asks { shown self.old.core.task (asked self.old.core.left) ≡ ask.Take }
-        ensures acted { MatchResult result (λ _. Acted (T.behaviour tasks.now) self.old self.new)
-            (λ e. EndsWith (T.behaviour tasks.now) self.old e.fault self.new) }
-        ensures memory { IfErr result (λ e. e.fault ≡ Some cause.Memory) }
-    {
-        if let Some(envelope) = self.source.next() {
-            return self.gives(tasks, envelope);
-        }
-        if self.source.is_first() {
-            self.takes_one(tasks)
-        } else {
-            self.takes_batch(tasks)
-        }
-    }
-
-    fn publishes<T: Tasks>(&mut self, tasks: &T) -> Result<(), End>
-        requires ready { Ready self.old }
-        requires asks { shown self.old.core.task (asked self.old.core.left) ≡ ask.Publish }
-        requires reads_back { ReadsBack (enveloped_by no_tasks no_book) self.old.core.left }
-        ensures acted { MatchResult result (λ _. Acted (T.behaviour tasks.now) self.old self.new)
-            (λ e. EndsWith (T.behaviour tasks.now) self.old e.fault self.new) }
-        ensures memory { IfErr result (λ e. e.fault ≡ Some cause.Memory) }
-    {
-        let (rt, queue) = (self.rt, self.queue);
-        match self.core.envelope() {
-            Some(envelope) => {
-                let counted = self.flight.add();
-                match queue.publish(rt, &mut self.pass, envelope, counted) {
-                    Ok(()) => {
-                        self.published = self.published.saturating_add(1);
-                        self.replies(tasks, Reply::Published)
-                    }
-                    Err(_refused) => Err(self.fails()),
-                }
-            }
-            None => unreachable!(),
-        }
-    }
-
-    fn stores<T: Tasks>(&mut self, tasks: &T, task: TaskNo, outcome: Outcome) -> Result<(), End>
-        requires ready { Ready self.old }
-        requires asks { shown self.old.core.task (asked self.old.core.left)
-            ≡ ask.Store task outcome }
-        requires reads_back { ReadsBack (enveloped_by no_tasks no_book) self.old.core.left }
-        requires in_range { IsInRange outcome }
-        ensures acted { MatchResult result (λ _. Acted (T.behaviour tasks.now) self.old self.new)
-            (λ e. EndsWith (T.behaviour tasks.now) self.old e.fault self.new) }
-        ensures lasts { IsOk result }
-    {
-        let backend = self.backend;
-        match backend.store(&mut self.seat, task, &outcome) {
-            Stored::First => {
-                self.first = self.first.saturating_add(1);
-                self.replies(tasks, Reply::Stored(Stored::First))
-            }
-            Stored::Again => self.replies(tasks, Reply::Stored(Stored::Again)),
-        }
-    }
-
-    fn returns<T: Tasks>(&mut self, tasks: &T, group: GroupNo, task: TaskNo) -> Result<(), End>
-        requires ready { Ready self.old }
-        requires asks { shown self.old.core.task (asked self.old.core.left) ≡ ask.Part group task }
-        requires reads_back { ReadsBack (enveloped_by no_tasks no_book) self.old.core.left }
-        ensures acted { MatchResult result (λ _. Acted (T.behaviour tasks.now) self.old self.new)
-            (λ e. EndsWith (T.behaviour tasks.now) self.old e.fault self.new) }
-        ensures lasts { IsOk result }
-    {
-        let backend = self.backend;
-        let count = backend.part(&mut self.seat, group, task);
-        self.parts = self.parts.saturating_add(1);
-        self.replies(tasks, Reply::Counted(count))
-    }
-
-    fn reads<T: Tasks>(&mut self, tasks: &T, task: TaskNo) -> Result<(), End>
-        requires ready { Ready self.old }
-        requires asks { shown self.old.core.task (asked self.old.core.left) ≡ ask.Read task }
-        requires reads_back { ReadsBack (enveloped_by no_tasks no_book) self.old.core.left }
-        ensures acted { MatchResult result (λ _. Acted (T.behaviour tasks.now) self.old self.new)
-            (λ e. EndsWith (T.behaviour tasks.now) self.old e.fault self.new) }
-        ensures memory { IfErr result (λ e. e.fault ≡ Some cause.Memory) }
-    {
-        let backend = self.backend;
-        let found = backend.read(&mut self.seat, task);
-        self.replies(tasks, Reply::Found(found))
-    }
-
-    fn acknowledges<T: Tasks>(&mut self, tasks: &T) -> Result<(), End>
-        requires ready { Ready self.old }
-        requires asks { shown self.old.core.task (asked self.old.core.left)
-            ≡ ask.Ack self.old.core.task }
-        requires reads_back { ReadsBack (enveloped_by no_tasks no_book) self.old.core.left }
-        ensures acted { MatchResult result (λ _. Acted (T.behaviour tasks.now) self.old self.new)
-            (λ e. EndsWith (T.behaviour tasks.now) self.old e.fault self.new) }
-        ensures lasts { IsOk result }
-    {
-        self.replies(tasks, Reply::Acked)
-    }
-
-    fn rests<T: Tasks>(&mut self, tasks: &T) -> Result<(), End>
-        requires ready { Ready self.old }
-        requires asks { shown self.old.core.task (asked self.old.core.left) ≡ ask.Rest }
-        requires reads_back { ReadsBack (enveloped_by no_tasks no_book) self.old.core.left }
-        ensures acted { MatchResult result (λ _. Acted (T.behaviour tasks.now) self.old self.new)
-            (λ e. EndsWith (T.behaviour tasks.now) self.old e.fault self.new) }
-        ensures by_itself { IfErr result (λ e. e.fault ≡ None) }
-    {
-        if self.has_more() {
-            return self.answers(tasks, Reply::Rested { more: true });
-        }
-        match self.answers(tasks, Reply::Rested { more: false }) {
-            Ok(()) => Err(End { fault: None }),
-            Err(end) => Err(end),
-        }
-    }
-
-    /// Whether a message is in flight. A worker that has been patient sleeps before it is told so.
-    fn has_more(&self) -> bool {
-        if self.idle >= PATIENCE {
-            self.flight.nap(self.rt);
-        }
-        self.flight.is_some()
     }
 
     /// A copy of the envelope of the open script.
@@ -386,7 +214,7 @@ impl<'a, R: Wait> Working<'a, R> {
 
     /// Delivers the envelope of the open script again, and does nothing else. Where memory is
     /// refused nothing is delivered.
-    fn delivers_again(&mut self) -> Result<(), End>
+    fn deliver_again(&mut self) -> Result<(), End>
         requires ready { Ready self.old }
         requires inside { is_inside self.old.core.left ≡ true }
         ensures { MatchResult result (λ _. Redelivered self.old self.new)
@@ -398,10 +226,10 @@ impl<'a, R: Wait> Working<'a, R> {
                 let counted = self.flight.add();
                 match queue.redeliver(rt, &mut self.pass, envelope, counted) {
                     Ok(()) => Ok(()),
-                    Err(_refused) => Err(self.fails()),
+                    Err(_refused) => Err(self.fail()),
                 }
             }
-            Err(_) => Err(self.fails()),
+            Err(_) => Err(self.fail()),
         }
     }
 
@@ -433,31 +261,10 @@ impl<'a, R: Wait> Working<'a, R> {
         }
     }
 
-    /// One ask of the core is answered, unless the worker ends for want of memory.
-    #[tactic(auto, using(crate::proofs::Turns::ends_acting, crate::proofs::Ending::ends_at))]
-    fn goes_on<T: Tasks>(&mut self, tasks: &T) -> Result<(), End>
-        requires { Ready self.old }
-        ensures acted { MatchResult result (λ _. Acted (T.behaviour tasks.now) self.old self.new)
-            (λ e. EndsWith (T.behaviour tasks.now) self.old e.fault self.new) }
-        ensures ends { IfErr result
-            (λ e. EndsFor (shown self.old.core.task (asked self.old.core.left)) e.fault) }
-    {
-        match self.core.next() {
-            Ask::Take => self.takes(tasks),
-            Ask::Publish => self.publishes(tasks),
-            Ask::Store(task, outcome) => self.stores(tasks, task, outcome),
-            Ask::Part(group, task) => self.returns(tasks, group, task),
-            Ask::Read(task) => self.reads(tasks, task),
-            Ask::Ack(_) => self.acknowledges(tasks),
-            Ask::Rest => self.rests(tasks),
-            Ask::End => Err(self.fails()),
-        }
-    }
-
     /// One step, as the gate says: where it holds the worker back nothing is done, and where it
     /// wants the envelope of the open script delivered again that is all.
     #[tactic(auto, using(crate::proofs::Turns::acted_well, crate::proofs::InHand::delivered_well))]
-    fn steps<T: Tasks>(&mut self, tasks: &T, said: Said) -> Result<(), End>
+    fn step<T: Tasks>(&mut self, tasks: &T, said: Said) -> Result<(), End>
         requires ready { Ready self.old }
         requires inside { said ≡ Again → is_inside self.old.core.left ≡ true }
         ensures turned { MatchResult result (λ _. Pends (T.behaviour tasks.now) self.old self.new)
@@ -474,8 +281,8 @@ impl<'a, R: Wait> Working<'a, R> {
     {
         match said {
             Said::Wait => Ok(()),
-            Said::Again => self.delivers_again(),
-            Said::On => self.goes_on(tasks),
+            Said::Again => self.deliver_again(),
+            Said::On => self.go_on(tasks),
         }
     }
 
@@ -504,6 +311,6 @@ impl<'a, R: Wait> Working<'a, R> {
             });
         }
         let said = self.ask_gate(gate, passed);
-        self.steps(tasks, said)
+        self.step(tasks, said)
     }
 }

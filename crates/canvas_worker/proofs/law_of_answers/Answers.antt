@@ -1,4 +1,4 @@
-use Rattle.canvas_worker.proofs.CorePasts.{none_lead, one_more_leads, handed_leads, hands_out}
+use Rattle.canvas_worker.proofs.Cores.CorePasts.{none_lead, one_more_leads, handed_leads, hands_out}
 use Rattle.canvas_worker.proofs.law_of_answers.Goals as goal
 
 pub returns-clause-none : goal.returns-clause-none

@@ -1,4 +1,4 @@
-use Rattle.canvas_worker.proofs.CoreLaw.{cores_are_workers}
+use Rattle.canvas_worker.proofs.Cores.CoreLaw.{cores_are_workers}
 use Rattle.canvas_worker.proofs.law_of_cores.Goals as goal
 
 pub returns : goal.returns

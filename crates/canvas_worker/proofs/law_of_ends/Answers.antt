@@ -1,4 +1,4 @@
-use Rattle.canvas_worker.proofs.EndLaw.{end_stays, failing_ends, ends_behind, fails_behind}
+use Rattle.canvas_worker.proofs.Cores.EndLaw.{end_stays, failing_ends, ends_behind, fails_behind}
 use Rattle.canvas_worker.proofs.law_of_ends.Goals as goal
 
 pub returns-clause-stays : goal.returns-clause-stays

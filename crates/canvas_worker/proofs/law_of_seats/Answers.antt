@@ -1,4 +1,4 @@
-use Rattle.canvas_worker.proofs.Seats.{can_ask, can_go_on}
+use Rattle.canvas_worker.proofs.Rights.Seats.{can_ask, can_go_on}
 use Rattle.canvas_worker.proofs.law_of_seats.Goals as goal
 
 pub returns-clause-allows : goal.returns-clause-allows

@@ -1,5 +1,5 @@
 use Rattle.std.proofs.Common.{◌≡◌, true}
-use Rattle.canvas_worker.proofs.Finishing.{workers_start, workers_finish}
+use Rattle.canvas_worker.proofs.Polls.Finishing.{workers_start, workers_finish}
 use Rattle.canvas_worker.proofs.law_of_workers.Goals as goal
 
 pub returns-clause-starts : goal.returns-clause-starts

@@ -1,6 +1,6 @@
 use Rattle.std.proofs.Common.{◌∙◌, ap}
 use Rattle.canvas_runs.specs.Book.{message_known}
-use Rattle.canvas_worker.proofs.Opening.{opens_known, opens_unknown, opens_refused}
+use Rattle.canvas_worker.proofs.Books.Opening.{opens_known, opens_unknown, opens_refused}
 use Rattle.canvas_worker.proofs.core_run.open.Goals as goal
 
 pub returns-then-message_known-clause-value : goal.returns-then-message_known-clause-value

@@ -1,5 +1,5 @@
 use Rattle.std.proofs.Common.{◌∙◌, sym}
-use Rattle.canvas_worker.proofs.Dues.{some_due, none_due}
+use Rattle.canvas_worker.proofs.Books.Dues.{some_due, none_due}
 use Rattle.canvas_worker.proofs.due.is_due.Goals as goal
 
 pub returns-in-Some : goal.returns-in-Some

@@ -1,4 +1,4 @@
-use Rattle.canvas_worker.proofs.Sendable.{written_texts}
+use Rattle.canvas_worker.proofs.Books.Sendable.{written_texts}
 use Rattle.canvas_worker.proofs.sealed.seal.Goals as goal
 
 pub invariant_of-result : goal.invariant_of-result

@@ -3,7 +3,7 @@ use Rattle.std.specs.Prelude.{option_map}
 use Rattle.canvas_effects.specs.Effects.{part_jobs}
 use Rattle.canvas_effects.specs.Todos.{part_view}
 use Rattle.canvas_worker.specs.EnvelopeWorker.{envelope_of}
-use Rattle.canvas_worker.proofs.ScriptsMade.{jobs_made}
+use Rattle.canvas_worker.proofs.Cores.ScriptsMade.{jobs_made}
 use Rattle.canvas_worker.proofs.sealing.script_of.Goals as goal
 
 pub returns-clause-jobs : goal.returns-clause-jobs

@@ -1,5 +1,5 @@
 use Rattle.std.proofs.Common.{rules, sym, subst}
-use Rattle.canvas_worker.proofs.Finishing.{workers_finish}
+use Rattle.canvas_worker.proofs.Polls.Finishing.{workers_finish}
 use Rattle.canvas_worker.specs.Finished.{Finished}
 use Rattle.canvas_worker.specs.Polls.{TellsOf, working_begun}
 use Rattle.canvas_engine.proofs.threads.gathered.work_alone.Goals as goal

@@ -3,7 +3,7 @@ use Rattle.canvas_history.specs.Queue as queue
 use Rattle.canvas_runs.specs.Core as C
 use Rattle.canvas_runs.specs.Book.{book_on}
 use Rattle.canvas_worker.specs.CoreState.{after_reply}
-use Rattle.canvas_worker.proofs.ShownAsks.{handed_out, handed_same}
+use Rattle.canvas_worker.proofs.Cores.ShownAsks.{handed_out, handed_same}
 use Rattle.canvas_engine.specs.Traced.{sent_by}
 use Rattle.canvas_engine.specs.steps.Noting.{Noted}
 use Rattle.canvas_engine.specs.steps.Stages.{Stepped}

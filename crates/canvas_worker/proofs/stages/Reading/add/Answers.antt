@@ -10,8 +10,8 @@ use Rattle.canvas_runs.specs.Core.{settled, reads_next}
 use Rattle.canvas_runs.specs.Protocol.{Protocol}
 use Rattle.canvas_worker.specs.EnvelopeWorker.{enclosed, enveloped_by, no_tasks}
 use Rattle.canvas_worker.specs.Scripts.{jobs_of}
-use Rattle.canvas_worker.proofs.FoundMembers.{one_more}
-use Rattle.canvas_worker.proofs.Stores.{body_todo_stores}
+use Rattle.canvas_worker.proofs.Cores.FoundMembers.{one_more}
+use Rattle.canvas_worker.proofs.Cores.Stores.{body_todo_stores}
 use Rattle.canvas_worker.proofs.stages.Reading.add.Goals as goal
 
 pub into_body-requires-clause-outcomes : goal.into_body-requires-clause-outcomes

@@ -1,0 +1,191 @@
+-- An ask of a core that is answered with an envelope.
+use Rattle.std.proofs.Common.{◌≡◌, ◌∙◌, ℕ, ◌+◌, min, false, List, [], ◌∷◌, ◌++◌, Some, Result, Ok, Err, refl, sym, ap, subst}
+use Rattle.std.specs.Prelude.{MatchResult, true, IsSome}
+use Rattle.canvas_task.specs.Apply.{Behaviour}
+use Rattle.canvas_message.specs.declared.envelope.Envelope.{Envelope}
+use Rattle.canvas_history.specs.Seats.{Desk}
+use Rattle.canvas_history.specs.Roster.{Roster}
+use Rattle.canvas_history.specs.Queue as queue
+use Rattle.canvas_history.specs.Passes.{Took}
+use Rattle.canvas_runs.specs.Book.{book_on}
+use Rattle.canvas_runs.specs.Calls.{backend_call, held_by}
+use Rattle.canvas_runs.specs.Core as C
+use Rattle.canvas_runs.specs.Core.{answered, is_inside, Suits, ReadsBack}
+use Rattle.canvas_runs.specs.Following.{Seat, Serves}
+use Rattle.canvas_history.specs.Lists.{Each}
+use Rattle.canvas_runs.specs.Tally.{Tally, Counted, dropping, greatest_count}
+use Rattle.canvas_worker.specs.EnvelopeWorker.{enveloped}
+use Rattle.canvas_worker.specs.CorePast.{task_in}
+use Rattle.canvas_worker.specs.SeatRights.{Can}
+use Rattle.canvas_worker.specs.CoreState.{Standing, Progress, asked, drops, after_reply, held, kept_next, task_next}
+use Rattle.canvas_worker.specs.WorkerSteps.{Batched, FromHeld}
+use Rattle.canvas_worker.specs.Polls.{Work, progress, with_core, with_answer, lost, one_taken, CanDeliver, in_hand, Ready, gives_held, keeps_batch, Acted, Leaves, Ends, EndsWith}
+use Rattle.canvas_worker.specs.declared.cause.Cause.TheVariants.{Memory}
+use Rattle.canvas_worker.specs.declared.record.Record.{Record}
+use Rattle.canvas_worker.specs.declared.working.End.{End}
+use Rattle.canvas_worker.proofs.Rights.Asking.{may_go_on}
+use Rattle.canvas_worker.proofs.Cores.CorePasts.{book_step, task_step}
+use Rattle.canvas_worker.proofs.Cores.ShownAsks.{drops_so, takes_taking}
+use Rattle.canvas_worker.proofs.InHand.{batch_can, but_open}
+use Rattle.canvas_worker.proofs.Cores.Resting.{given_never}
+use Rattle.canvas_worker.proofs.Turns.{of_queue, unchanged, one_more, tallied, some_none}
+
+-- ---- an envelope given to the core
+
+same_tallies : {a b c d n p q r s m : ℕ} → a ≡ p → b ≡ q → c ≡ r → d ≡ s → n ≡ m
+    → ◌≡◌ {A = Tally} (record { taken = a; published = b; first = c; parts = d; dropped = n })
+    (record { taken = p; published = q; first = r; parts = s; dropped = m })
+same_tallies e f g h i = cc
+
+-- Where from w on es were taken, and e is the first of all that is held then; u is the worker before its core is given it.
+pub record Takes (w u : Work) (es : List Envelope) (e : Envelope) : Type 0 where
+  pub asked_is : asked w.core.left ≡ C.to_queue queue.take
+  pub broker : u.broker ≡ w.broker
+  pub desk : u.desk ≡ w.desk
+  pub number : u.number ≡ w.number
+  pub of : u.pass.of ≡ w.broker
+  pub seat : u.seat ≡ w.seat
+  pub core : u.core ≡ w.core
+  pub took : Took w.pass es u.pass
+  pub held : w.held ++ es ≡ e ∷ u.held
+  pub taken : u.taken ≡ w.taken
+  pub published : u.published ≡ w.published
+  pub first : u.first ≡ w.first
+  pub parts : u.parts ≡ w.parts
+
+module _ (behaviour : Behaviour) (w u : Work) (es : List Envelope) (e : Envelope) (ready : Ready w) (x : Takes w u es e) where
+  abbrev plan : Roster
+  plan = w.desk.plan
+
+  -- with what was taken, before the core is given any of it
+  abbrev between : Progress
+  between = record { pass = u.pass; seat = w.seat; left = w.core.left; current = held w.core; held = w.held ++ es; tally = (progress w).tally }
+
+  batched : Batched (progress w) between es
+  batched = (refl, x.took, refl, refl, refl, refl)
+
+  abbrev core : Standing
+  core = record {
+    left = answered (enveloped behaviour plan) w.core.left (C.from_queue (Some e));
+    is_out = false;
+    dropped = min greatest_count
+        (w.core.dropped + of_queue (dropping plan) (C.to_queue queue.take) (C.from_queue (Some e)));
+    kept = kept_next (book_on plan) w.core.left w.core.kept (C.from_queue (Some e));
+    task =
+        task_next (book_on plan) w.core.left w.core.task (C.from_queue (Some e));
+  }
+
+  core_is : after_reply behaviour (book_on u.desk.plan) u.core (C.from_queue (Some e)) ≡ core
+  core_is =
+      let so : drops (book_on plan) w.core.left (C.from_queue (Some e)) ≡ of_queue (dropping plan) (C.to_queue queue.take) (C.from_queue (Some e)) =
+      drops_so plan w.core.left (C.from_queue (Some e)) ∙ ap (λ b. of_queue (dropping plan) b (C.from_queue (Some e))) x.asked_is in
+      ap (λ (d : Desk). after_reply behaviour (book_on d.plan) u.core (C.from_queue (Some e))) x.desk
+      ∙ ap (λ c. after_reply behaviour (book_on plan) c (C.from_queue (Some e))) x.core
+      ∙ ap (λ (n : ℕ). record {
+        left = answered (enveloped behaviour plan) w.core.left (C.from_queue (Some e));
+        is_out = false;
+        dropped = min greatest_count
+            (w.core.dropped + n);
+        kept = kept_next (book_on plan) w.core.left w.core.kept (C.from_queue (Some e));
+        task =
+            task_next (book_on plan) w.core.left w.core.task (C.from_queue (Some e));
+      }) so
+
+  abbrev given : Work
+  given = one_taken (with_core u core)
+
+  counted : Counted plan ((C.to_queue queue.take, C.from_queue (Some e)) ∷ []) (progress w).tally (progress given).tally
+  counted = record {
+    taken = one_more w.taken (min greatest_count (u.taken + 1)) (ap (λ n. min greatest_count (n + 1)) x.taken);
+    published = unchanged w.published u.published ready.counts.1 x.published;
+    first = unchanged w.first u.first ready.counts.2 x.first;
+    parts = unchanged w.parts u.parts ready.counts.3 x.parts;
+    dropped = refl;
+  }
+
+  back : ReadsBack (enveloped behaviour plan) w.core.left
+  back = subst (λ s. ReadsBack (enveloped behaviour plan) s) (sym (takes_taking w.core.left x.asked_is)) tt
+
+  current : held core ≡ Some e
+  current =
+      book_step behaviour (book_on plan) w.core.left w.core.kept (C.from_queue (Some e)) (subst (λ b. Suits b (C.from_queue (Some e))) (sym x.asked_is) tt)
+      ∙ ap (λ b. held_by (held w.core) b (C.from_queue (Some e))) x.asked_is
+
+  suits_left : Suits (asked w.core.left) (C.from_queue (Some e))
+  suits_left = subst (λ b. Suits b (C.from_queue (Some e))) (sym x.asked_is) tt
+
+  names_task : is_inside core.left ≡ true → core.task ≡ task_in (book_on plan) (held core)
+  names_task i =
+      task_step behaviour (book_on plan) w.core.left w.core.kept w.core.task (C.from_queue (Some e)) suits_left ready.task i
+      ∙ ap (task_in (book_on plan)) (sym (book_step behaviour (book_on plan) w.core.left w.core.kept (C.from_queue (Some e)) suits_left))
+
+  from_held : FromHeld behaviour plan between (progress given) e
+  from_held = (record { asked = sym x.asked_is; suits = tt; back = back; counts = counted; left = refl; current = current }, x.held, refl, x.seat)
+
+  again : Each (CanDeliver u.pass) (in_hand (held core) u.held)
+  again =
+      subst (λ h. Each (CanDeliver u.pass) (in_hand h u.held)) (sym current)
+      (subst (Each (CanDeliver u.pass)) x.held (batch_can es w.held w.pass u.pass x.took (but_open w.pass (held w.core) w.held ready.again)))
+
+  can : Can plan u.seat core.left
+  can =
+      may_go_on behaviour plan ready.plan w.seat u.seat w.core.left (C.from_queue (Some e)) ready.can
+      (subst (λ b. Suits b (C.from_queue (Some e))) (sym x.asked_is) tt)
+      (subst (λ b. Serves plan w.seat (backend_call b (C.from_queue (Some e))) u.seat) (sym x.asked_is) x.seat)
+
+  goes : Acted behaviour w given
+  goes = record {
+    broker = x.broker;
+    desk = x.desk;
+    number = x.number;
+    ready = record {
+      of = x.of ∙ sym x.broker;
+      home = ap (λ (s : Seat). s.of) x.seat ∙ ready.home ∙ sym (ap (λ (d : Desk). d.id) x.desk);
+      plan = (ready.plan.0, ready.plan.1, ap (λ (d : Desk). d.plan) x.desk ∙ ready.plan.2);
+      inside = refl;
+      can = subst (λ (d : Desk). Can d.plan u.seat core.left) (sym x.desk) can;
+      rested = λ rests. absurd (given_never behaviour plan e
+          (subst (λ s. answered (enveloped behaviour plan) s (C.from_queue (Some e)) ≡ C.resting) (takes_taking w.core.left x.asked_is) rests));
+      current = λ _. subst (λ h. IsSome h) (sym current) refl;
+      task = λ i. subst (λ (d : Desk). core.task ≡ task_in (book_on d.plan) (held core)) (sym x.desk) (names_task i);
+      again = again;
+      counts = tallied plan (C.to_queue queue.take) (C.from_queue (Some e)) (progress w).tally (progress given).tally counted;
+    };
+    moved = gives_held es e between batched from_held;
+  }
+
+  told_is : (v : Work) → v ≡ one_taken (with_answer behaviour u (C.from_queue (Some e))) → Acted behaviour w v
+  told_is v is = subst (λ z. Acted behaviour w z) (sym (is ∙ ap (λ c. one_taken (with_core u c)) core_is)) goes
+
+  same_tally : (progress (lost u)).tally ≡ (progress w).tally
+  same_tally = same_tallies x.taken x.published x.first x.parts (ap (λ (c : Standing). c.dropped) x.core)
+
+  fails : (s : Record) → Leaves (lost u) (Some Memory) s → Ends behaviour w s
+  fails s leaves = record {
+    ended = between;
+    counted = ready.counts;
+    moved = keeps_batch es batched;
+    is_of = record {
+      same_number = leaves.same_number ∙ x.number;
+      pass = leaves.pass;
+      seat = leaves.seat ∙ x.seat;
+      counts = leaves.counts
+          ∙ same_tally;
+      whole = λ none. absurd (some_none Memory (sym leaves.fault_is ∙ none));
+    };
+  }
+
+  lost_is : (v : Work) → v ≡ lost u → EndsWith behaviour w (Some Memory) v
+  lost_is v is s leaves = fails s (subst (λ z. Leaves z (Some Memory) s) is leaves)
+
+  well : {A : Type 0} (result : Result A End) (v : Work)
+      → MatchResult result (λ _. v ≡ one_taken (with_answer behaviour u (C.from_queue (Some e)))) (λ end. (v ≡ lost u) × (end.fault ≡ Some Memory))
+      → MatchResult result (λ _. Acted behaviour w v) (λ end. EndsWith behaviour w end.fault v)
+  well (Ok _) v is = told_is v is
+  well (Err end) v is = subst (λ f. EndsWith behaviour w f v) (sym is.1) (lost_is v is.0)
+
+pub given_well : {A : Type 0} (behaviour : Behaviour) (w u v : Work) (es : List Envelope) (e : Envelope) (result : Result A End)
+    → MatchResult result (λ _. v ≡ one_taken (with_answer behaviour u (C.from_queue (Some e)))) (λ end. (v ≡ lost u) × (end.fault ≡ Some Memory)) → Ready w
+    → Takes w u es e
+    → MatchResult result (λ _. Acted behaviour w v) (λ end. EndsWith behaviour w end.fault v)
+given_well behaviour w u v es e result is ready x = well behaviour w u es e ready x result v is

@@ -1,0 +1,298 @@
+-- An ask of a core that its broker or its backend answered.
+use Rattle.std.proofs.Common.{◌≡◌, ◌∙◌, ℕ, zero, suc, ◌+◌, ◌≤◌, min, Bool, false, [], ◌∷◌, Some, None, Result, Ok, Err, refl, sym, ap, subst, arith}
+use Rattle.std.specs.Prelude.{MatchResult, true, IsSome}
+use Rattle.canvas_task.specs.Apply.{Behaviour}
+use Rattle.canvas_history.specs.Seats.{Desk}
+use Rattle.canvas_history.specs.Roster.{Roster}
+use Rattle.canvas_history.specs.Passes.{Empties}
+use Rattle.canvas_runs.specs.Book.{book_on}
+use Rattle.canvas_runs.specs.Calls.{broker_call, backend_call, held_by, takes_one}
+use Rattle.canvas_runs.specs.Core as C
+use Rattle.canvas_runs.specs.Core.{answered, is_inside, Suits, ReadsBack}
+use Rattle.canvas_runs.specs.Following.{Makes, Serves}
+use Rattle.canvas_history.specs.Lists.{Each}
+use Rattle.canvas_runs.specs.Tally.{Counted, CountsMore, publishing, storing, returning, dropping, greatest_count}
+use Rattle.canvas_worker.specs.Asks.{Asked, Answer}
+use Rattle.canvas_worker.specs.Books.{no_book}
+use Rattle.canvas_worker.specs.EnvelopeWorker.{enveloped, enveloped_by, no_tasks}
+use Rattle.canvas_worker.specs.CorePast.{task_in}
+use Rattle.canvas_worker.specs.SeatRights.{Can}
+use Rattle.canvas_worker.specs.CoreState.{Standing, Progress, asked, drops, after_reply, open_of, kept_next, task_next}
+use Rattle.canvas_worker.specs.WorkerSteps.{OnlyBare, AnsweredByCall}
+use Rattle.canvas_worker.specs.Polls.{Work, progress, with_core, with_answer, lost, CanDeliver, in_hand, Ready, makes_call, acts_last, Acted, Leaves, Ends, EndsWith}
+use Rattle.canvas_worker.specs.declared.cause.Cause.TheVariants.{Memory}
+use Rattle.canvas_worker.specs.declared.record.Record.{Record}
+use Rattle.canvas_worker.specs.declared.working.End.{End}
+use Rattle.canvas_worker.proofs.Rights.Asking.{may_go_on}
+use Rattle.canvas_worker.proofs.InHand.{call_can, has_open}
+use Rattle.canvas_worker.proofs.Cores.Resting.{busy_never}
+use Rattle.canvas_worker.proofs.Cores.CorePasts.{book_step, task_step}
+use Rattle.canvas_worker.proofs.Cores.ShownAsks.{drops_so, rests_over}
+use Rattle.canvas_worker.proofs.Turns.{of_queue, of_table, tallied, some_none}
+
+-- ---- one ask answered by the broker or the backend
+
+-- what an ask leaves of a worker as it was
+abbrev pub Beside : Work → Work → Type 0
+Beside w u =
+    (u.broker ≡ w.broker) × (u.desk ≡ w.desk) × (u.number ≡ w.number) × (u.pass.of ≡ w.broker) × (u.seat.of ≡ w.desk.id) × (u.held ≡ w.held)
+    × (u.core.dropped ≡ w.core.dropped)
+
+-- a count that stays, or rises up to what it can hold
+abbrev pub risen : ℕ → ℕ → ℕ
+risen n zero = n
+risen n (suc k) = min greatest_count (n + suc k)
+
+abbrev pub Counts : Work → Work → Asked → Answer → Type 0
+Counts w u a r =
+    (u.taken ≡ risen w.taken (of_queue takes_one a r)) × (u.published ≡ risen w.published (of_queue publishing a r))
+    × (u.first ≡ risen w.first (of_table storing a r)) × (u.parts ≡ risen w.parts (of_table returning a r))
+
+-- Where from w on its broker or its backend was asked a, and answered r; u is the worker before its core is told.
+pub record Asks (behaviour : Behaviour) (w u : Work) (a : Asked) (r : Answer) : Type 0 where
+  pub asked_is : asked w.core.left ≡ a
+  pub suits : Suits a r
+  pub back : ReadsBack (enveloped_by no_tasks no_book) w.core.left
+  pub beside : Beside w u
+  pub bare : OnlyBare a r w.held
+  pub makes : Makes w.pass (broker_call a r) u.pass
+  pub serves : Serves w.desk.plan w.seat (backend_call a r) u.seat
+  pub counts : Counts w u a r
+  pub still : answered (enveloped behaviour w.desk.plan) w.core.left r ≡ C.resting → (u.held ≡ []) × Empties u.pass
+  pub none_dropped : of_queue (dropping w.desk.plan) a r ≡ 0
+  pub core : after_reply behaviour (book_on w.desk.plan) u.core r ≡ after_reply behaviour (book_on w.desk.plan) w.core r
+
+counts_more : (n k m : ℕ) → n ≤ greatest_count → m ≡ risen n k → CountsMore n k m
+counts_more n zero m h e = omega (arith, h, e)
+counts_more n (suc k) m h e = omega (arith, e)
+
+-- a core whose script is done is answered without a call
+pub ack_asks : (behaviour : Behaviour) (w : Work) → Ready w → asked w.core.left ≡ C.ack → ReadsBack (enveloped_by no_tasks no_book) w.core.left
+    → Asks behaviour w w C.ack C.acked
+ack_asks behaviour w ready asks back = record {
+  asked_is = asks;
+  suits = tt;
+  back = back;
+  beside = (refl, refl, refl, ready.of, ready.home, refl, refl);
+  bare = tt;
+  makes = refl;
+  serves = refl;
+  counts = (refl, refl, refl, refl);
+  still = λ rests. absurd (busy_never behaviour w.desk.plan w.core.left C.acked C.ack asks tt rests);
+  none_dropped = refl;
+  core = refl;
+}
+
+-- a core that rests is answered without a call
+pub rest_asks : (behaviour : Behaviour) (w : Work) (more : Bool) → Ready w → asked w.core.left ≡ C.rest → ReadsBack (enveloped_by no_tasks no_book) w.core.left
+    → Asks behaviour w w C.rest (C.rested more)
+rest_asks behaviour w more ready asks back = record {
+  asked_is = asks;
+  suits = tt;
+  back = back;
+  beside = (refl, refl, refl, ready.of, ready.home, refl, refl);
+  bare = tt;
+  makes = refl;
+  serves = refl;
+  counts = (refl, refl, refl, refl);
+  still = λ rests. absurd (busy_never behaviour w.desk.plan w.core.left (C.rested more) C.rest asks tt rests);
+  none_dropped = refl;
+  core = refl;
+}
+
+module _ (behaviour : Behaviour) (w u : Work) (a : Asked) (r : Answer) (ready : Ready w) (x : Asks behaviour w u a r) where
+  abbrev plan : Roster
+  plan = w.desk.plan
+
+  broker : u.broker ≡ w.broker
+  broker = x.beside.0
+
+  desk : u.desk ≡ w.desk
+  desk = x.beside.1
+
+  number : u.number ≡ w.number
+  number = x.beside.2
+
+  held : u.held ≡ w.held
+  held = x.beside.5
+
+  same_drops : u.core.dropped ≡ w.core.dropped
+  same_drops = x.beside.6
+
+  -- where the worker is once its core is told
+  abbrev after : Progress
+  after = record {
+    pass = u.pass;
+    seat = u.seat;
+    left = answered (enveloped behaviour plan) w.core.left r;
+    current = open_of (answered (enveloped behaviour plan) w.core.left r) (kept_next (book_on plan) w.core.left w.core.kept r);
+    held = u.held;
+    tally = record { taken = u.taken; published = u.published; first = u.first; parts = u.parts; dropped = u.core.dropped };
+  }
+
+  no_more : (n m k : ℕ) → n ≤ greatest_count → m ≡ n → k ≡ 0 → min greatest_count (n + k) ≡ m
+  no_more n m k h e z = omega (arith, h, e, z)
+
+  none_lost : (n m k : ℕ) → n ≤ greatest_count → m ≡ n → k ≡ 0 → CountsMore n k m
+  none_lost n m k h e z = omega (arith, h, e, z)
+
+  counted : Counted plan ((a, r) ∷ []) (progress w).tally after.tally
+  counted = record {
+    taken = counts_more w.taken (of_queue takes_one a r) u.taken ready.counts.0 x.counts.0;
+    published = counts_more w.published (of_queue publishing a r) u.published ready.counts.1 x.counts.1;
+    first = counts_more w.first (of_table storing a r) u.first ready.counts.2 x.counts.2;
+    parts = counts_more w.parts (of_table returning a r) u.parts ready.counts.3 x.counts.3;
+    dropped = none_lost w.core.dropped u.core.dropped (of_queue (dropping plan) a r) ready.counts.4 same_drops x.none_dropped;
+  }
+
+  suits_left : Suits (asked w.core.left) r
+  suits_left = subst (λ b. Suits b r) (sym x.asked_is) x.suits
+
+  current : after.current ≡ held_by (open_of w.core.left w.core.kept) a r
+  current = book_step behaviour (book_on plan) w.core.left w.core.kept r suits_left ∙ ap (λ b. held_by (open_of w.core.left w.core.kept) b r) x.asked_is
+
+  pub called : AnsweredByCall behaviour plan (progress w) after a r
+  called = (
+    record { asked = sym x.asked_is; suits = x.suits; back = x.back; counts = counted; left = refl; current = current },
+    held,
+    x.bare,
+    x.makes,
+    x.serves,
+  )
+
+  -- the envelopes in hand
+  again : Each (CanDeliver u.pass) (in_hand after.current u.held)
+  again =
+      let all : Each (CanDeliver u.pass) (in_hand (held_by (open_of w.core.left w.core.kept) a r) w.held) =
+      call_can a r (open_of w.core.left w.core.kept) w.held w.pass u.pass x.suits x.makes ready.again in
+      subst (λ h. Each (CanDeliver u.pass) (in_hand h u.held)) (sym current)
+      (subst (λ es. Each (CanDeliver u.pass) (in_hand (held_by (open_of w.core.left w.core.kept) a r) es)) (sym held) all)
+
+  has_current : is_inside after.left ≡ true → IsSome after.current
+  has_current i =
+      subst (λ h. IsSome h) (sym (book_step behaviour (book_on plan) w.core.left w.core.kept r suits_left))
+      (has_open behaviour plan w.core.left w.core.kept r suits_left ready.current i)
+
+  names_task : is_inside after.left ≡ true → task_next (book_on plan) w.core.left w.core.task r ≡ task_in (book_on plan) after.current
+  names_task i =
+      task_step behaviour (book_on plan) w.core.left w.core.kept w.core.task r suits_left ready.task i
+      ∙ ap (task_in (book_on plan)) (sym (book_step behaviour (book_on plan) w.core.left w.core.kept r suits_left))
+
+  can : Can plan u.seat (answered (enveloped behaviour plan) w.core.left r)
+  can =
+      may_go_on behaviour plan ready.plan w.seat u.seat w.core.left r ready.can (subst (λ b. Suits b r) (sym x.asked_is) x.suits)
+      (subst (λ b. Serves plan w.seat (backend_call b r) u.seat) (sym x.asked_is) x.serves)
+
+  -- the core that was told
+  abbrev core : Standing
+  core = record {
+    left = answered (enveloped behaviour plan) w.core.left r;
+    is_out = false;
+    dropped = u.core.dropped;
+    kept = kept_next
+        (book_on plan) w.core.left w.core.kept r;
+    task = task_next (book_on plan) w.core.left w.core.task r;
+  }
+
+  core_is : after_reply behaviour (book_on u.desk.plan) u.core r ≡ core
+  core_is =
+      let so : drops (book_on plan) w.core.left r ≡ of_queue (dropping plan) a r =
+      drops_so plan w.core.left r ∙ ap (λ b. of_queue (dropping plan) b r) x.asked_is in
+      let dropped : min greatest_count (w.core.dropped + drops (book_on plan) w.core.left r) ≡ u.core.dropped =
+      no_more w.core.dropped u.core.dropped (drops (book_on plan) w.core.left r) ready.counts.4 same_drops (so ∙ x.none_dropped) in
+      ap (λ (d : Desk). after_reply behaviour (book_on d.plan) u.core r) desk ∙ x.core
+      ∙ ap (λ (n : ℕ). record {
+        left = answered (enveloped behaviour plan) w.core.left r;
+        is_out = false;
+        dropped = n;
+        kept = kept_next
+            (book_on plan) w.core.left w.core.kept r;
+        task = task_next (book_on plan) w.core.left w.core.task r;
+      }) dropped
+
+  ready_then : Ready (with_core u core)
+  ready_then = record {
+    of = x.beside.3 ∙ sym broker;
+    home = x.beside.4 ∙ sym (ap (λ (d : Desk). d.id) desk);
+    plan = (ready.plan.0, ready.plan.1, ap (λ (d : Desk). d.plan) desk ∙ ready.plan.2);
+    inside = refl;
+    can = subst (λ (d : Desk). Can d.plan u.seat core.left) (sym desk) can;
+    rested = x.still;
+    current = has_current;
+    task = λ i. subst (λ (d : Desk). core.task ≡ task_in (book_on d.plan) after.current) (sym desk) (names_task i);
+    again = again;
+    counts = tallied plan a r (progress w).tally after.tally counted;
+  }
+
+  told_is : (v : Work) → v ≡ with_answer behaviour u r → Acted behaviour w v
+  told_is v e =
+      subst (λ z. Acted behaviour w z) (sym (e ∙ ap (λ c. with_core u c) core_is))
+      (record { broker = broker; desk = desk; number = number; ready = ready_then; moved = makes_call a r called })
+
+  fails : (s : Record) → Leaves (lost u) (Some Memory) s → Ends behaviour w s
+  fails s leaves = record {
+    ended = after;
+    counted = tallied plan a r (progress w).tally after.tally counted;
+    moved = acts_last (makes_call a r called);
+    is_of = record {
+      same_number = leaves.same_number ∙ number;
+      pass = leaves.pass;
+      seat = leaves.seat;
+      counts = leaves.counts;
+      whole = λ none. absurd
+          (some_none Memory (sym leaves.fault_is ∙ none));
+    };
+  }
+
+  lost_is : (v : Work) → v ≡ lost u → EndsWith behaviour w (Some Memory) v
+  lost_is v e s leaves = fails s (subst (λ z. Leaves z (Some Memory) s) e leaves)
+
+  well : {A : Type 0} (result : Result A End) (v : Work) → MatchResult result (λ _. v ≡ with_answer behaviour u r) (λ e. (v ≡ lost u) × (e.fault ≡ Some Memory))
+      → MatchResult result (λ _. Acted behaviour w v) (λ e. EndsWith behaviour w e.fault v)
+  well (Ok _) v is = told_is v is
+  well (Err e) v is = subst (λ f. EndsWith behaviour w f v) (sym is.1) (lost_is v is.0)
+
+  -- a worker that ends without a fault
+  ends_so : (v : Work) → v ≡ with_answer behaviour u r → (s : Record) → Leaves v None s → (after.left ≡ C.over) × (after.held ≡ []) × Empties after.pass
+      → Ends behaviour w s
+  ends_so v e s leaves whole =
+      let is : v ≡ with_core u core = e ∙ ap (λ c. with_core u c) core_is in
+      record {
+        ended = after;
+        counted = tallied plan a r (progress w).tally after.tally counted;
+        moved = acts_last (makes_call a r called);
+        is_of = record {
+          same_number = leaves.same_number ∙ ap (λ (z : Work). z.number) is ∙ number;
+          pass = leaves.pass ∙ ap (λ (z : Work). z.pass) is;
+          seat = leaves.seat ∙ ap (λ (z : Work). z.seat) is;
+          counts = leaves.counts ∙ ap (λ (z : Work). (progress z).tally) is;
+          whole = λ _. whole;
+        };
+      }
+
+pub asked_well : {A : Type 0} (behaviour : Behaviour) (w u v : Work) (a : Asked) (r : Answer) (result : Result A End)
+    → MatchResult result (λ _. v ≡ with_answer behaviour u r) (λ e. (v ≡ lost u) × (e.fault ≡ Some Memory))
+    → Ready w → Asks behaviour w u a r → MatchResult result (λ _. Acted behaviour w v) (λ e. EndsWith behaviour w e.fault v)
+asked_well behaviour w u v a r result is ready x = well behaviour w u a r ready x result v is
+
+-- where memory was refused, to the queue or to the core
+pub ends_badly : (behaviour : Behaviour) (w u : Work) (a : Asked) (r : Answer) (e : End) → e.fault ≡ Some Memory → Ready w → Asks behaviour w u a r
+    → EndsWith behaviour w e.fault u
+ends_badly behaviour w u a r e is ready x s leaves =
+    let so : Leaves u (Some Memory) s = subst (λ f. Leaves u f s) is leaves in
+    fails behaviour w u a r ready x s (record { same_number = so.same_number; pass = so.pass; seat = so.seat; counts = so.counts; fault_is = so.fault_is })
+
+pub asked_badly : (behaviour : Behaviour) (w u v : Work) (a : Asked) (r : Answer) (e : End) → (v ≡ lost u) × (e.fault ≡ Some Memory) → Ready w
+    → Asks behaviour w u a r → EndsWith behaviour w e.fault v
+asked_badly behaviour w u v a r e is ready x = subst (λ f. EndsWith behaviour w f v) (sym is.1) (lost_is behaviour w u a r ready x v is.0)
+
+-- a worker that is told that no more will come
+pub rests_well : (behaviour : Behaviour) (w u v : Work) → v ≡ with_answer behaviour u (C.rested false) → Ready w → Asks behaviour w u C.rest (C.rested false)
+    → EndsWith behaviour w None v
+rests_well behaviour w u v is ready x s leaves =
+    let rests : w.core.left ≡ C.resting = rests_over w.core.left x.asked_is in
+    ends_so behaviour w u C.rest (C.rested false) ready x v is s leaves (
+      ap (λ l. answered (enveloped behaviour w.desk.plan) l (C.rested false)) rests,
+      x.beside.5 ∙ (ready.rested rests).0,
+      subst (λ p. Empties p) (sym x.makes) (ready.rested rests).1,
+    )

@@ -1,0 +1,95 @@
+use Rattle.std.proofs.Common.{rules, ◌≡◌, None, refl, ap, ◌∙◌}
+use Rattle.canvas_history.specs.Queue as queue
+use Rattle.canvas_runs.specs.Core as C
+use Rattle.canvas_worker.specs.steps.Held.{held_in}
+use Rattle.canvas_worker.specs.Polls.{Work}
+use Rattle.canvas_worker.proofs.Cores.Resting.{busy_never}
+use Rattle.canvas_runs.specs.Book.{book_on}
+use Rattle.canvas_worker.specs.Asks.{suits, shown}
+use Rattle.canvas_worker.specs.CoreState.{Standing, asked, handed, after_reply}
+use Rattle.canvas_worker.specs.declared.ask.Reply.TheVariants as R
+use Rattle.canvas_worker.proofs.Cores.ShownAsks.{handed_out, handed_same, still_publishes}
+use Rattle.canvas_worker.proofs.Polls.ToldAnswers.{asked_well, ends_badly}
+use Rattle.canvas_worker.proofs.working.Working.publish.Goals as goal
+
+pub reply-requires-clause-suits : goal.reply-requires-clause-suits
+reply-requires-clause-suits g c =
+    let w : Work = c.args.self.now in
+    let core : c.envelope.new.self ≡ handed w.core = search rules in
+    ap (λ a. suits a R.Published) (ap (λ (k : Standing). shown k.task (asked k.left)) core ∙ still_publishes w.core.task w.core.left c.requires.asks)
+
+pub returns-in-Ok-clause-acted : goal.returns-in-Ok-clause-acted
+returns-in-Ok-clause-acted g c =
+    let w : Work = c.args.self.now in
+    let u : Work = record {
+      broker = c.self.inside.queue.broker.now;
+      desk = c.self.inside.backend.now;
+      number = c.self.inside.number;
+      pass =
+          c.publish.new.pass;
+      seat = c.self.inside.seat;
+      core = c.envelope.new.self;
+      held = held_in c.self.inside.source;
+      taken = c.self.inside.taken;
+      published =
+          c.saturating_add-self-inside.result;
+      first = c.self.inside.first;
+      parts = c.self.inside.parts;
+    } in
+    let asks : asked w.core.left ≡ C.to_queue (queue.publish c.in-Some.envelope) =
+    handed_out c.in-Some.envelope w.core c.requires.ready.inside (search rules) in
+    let core : u.core ≡ handed w.core = search rules in
+    asked_well (g.T.Tasks.behaviour c.args.tasks.now) w u c.reply.new.self
+    (C.to_queue (queue.publish c.in-Some.envelope)) (C.from_queue None) c.reply.result c.reply.ensures.value c.requires.ready (record {
+      asked_is = asks;
+      suits = tt;
+      back = c.requires.reads_back;
+      beside = search rules;
+      bare = tt;
+      makes = search rules;
+      serves = search rules;
+      counts = search rules;
+      still = λ rests. absurd (busy_never (g.T.Tasks.behaviour c.args.tasks.now) w.desk.plan w.core.left (C.from_queue None)
+          (C.to_queue (queue.publish c.in-Some.envelope)) asks tt rests);
+      none_dropped = refl;
+      core = ap (λ z. after_reply (g.T.Tasks.behaviour c.args.tasks.now) (book_on w.desk.plan) z (C.from_queue None)) core
+          ∙ handed_same (g.T.Tasks.behaviour c.args.tasks.now) (book_on w.desk.plan) w.core (C.from_queue None);
+    })
+
+pub returns-in-Err-clause-acted : goal.returns-in-Err-clause-acted
+returns-in-Err-clause-acted g c =
+    let w : Work = c.args.self.now in
+    let u : Work = record {
+      broker = c.self.inside.queue.broker.now;
+      desk = c.self.inside.backend.now;
+      number = c.self.inside.number;
+      pass =
+          c.publish.new.pass;
+      seat = c.self.inside.seat;
+      core = c.envelope.new.self;
+      held = held_in c.self.inside.source;
+      taken = c.self.inside.taken;
+      published =
+          c.self.inside.published;
+      first = c.self.inside.first;
+      parts = c.self.inside.parts;
+    } in
+    let asks : asked w.core.left ≡ C.to_queue (queue.publish c.in-Some.envelope) =
+    handed_out c.in-Some.envelope w.core c.requires.ready.inside (search rules) in
+    let core : u.core ≡ handed w.core = search rules in
+    ends_badly (g.T.Tasks.behaviour c.args.tasks.now) w u (C.to_queue (queue.publish c.in-Some.envelope)) C.refused c.fail.result
+    c.fail.ensures c.requires.ready (record {
+      asked_is = asks;
+      suits = tt;
+      back = c.requires.reads_back;
+      beside = search rules;
+      bare = tt;
+      makes = search rules;
+      serves = search rules;
+      counts = search rules;
+      still = λ rests. absurd (busy_never (g.T.Tasks.behaviour c.args.tasks.now) w.desk.plan w.core.left C.refused
+          (C.to_queue (queue.publish c.in-Some.envelope)) asks tt rests);
+      none_dropped = refl;
+      core = ap (λ z. after_reply (g.T.Tasks.behaviour c.args.tasks.now) (book_on w.desk.plan) z C.refused) core
+          ∙ handed_same (g.T.Tasks.behaviour c.args.tasks.now) (book_on w.desk.plan) w.core C.refused;
+    })

@@ -1,0 +1,53 @@
+use Rattle.std.proofs.Common.{rules, ◌≡◌, refl, subst, ◌≤◌}
+use Rattle.canvas_history.specs.Table as table
+use Rattle.canvas_runs.specs.Core as C
+use Rattle.canvas_worker.specs.steps.Held.{held_in}
+use Rattle.canvas_worker.specs.CoreState.{asked}
+use Rattle.canvas_worker.specs.Polls.{Work}
+use Rattle.canvas_worker.proofs.Cores.Resting.{busy_never}
+use Rattle.canvas_worker.specs.SeatRights.{LetsAsk}
+use Rattle.canvas_worker.proofs.Rights.Asking.{may_ask}
+use Rattle.canvas_worker.proofs.Cores.ShownAsks.{is_read}
+use Rattle.canvas_worker.proofs.Polls.ToldAnswers.{asked_well}
+use Rattle.canvas_worker.proofs.working.Working.read.Goals as goal
+
+pub read-found-requires-clause-task : goal.read-found-requires-clause-task
+read-found-requires-clause-task g c =
+    let w : Work = c.args.self.now in
+    let same : w.desk ≡ c.self.inside.backend.now = search rules in
+    subst (λ d. c.args.task ≤ d.plan.tasks) same
+    (subst (LetsAsk w.desk.plan w.seat) (is_read w.core.task c.args.task (asked w.core.left) c.requires.asks)
+    (may_ask w.desk.plan c.requires.ready.plan w.seat w.core.left c.requires.ready.can))
+
+pub returns-clause-acted : goal.returns-clause-acted
+returns-clause-acted g c =
+    let w : Work = c.args.self.now in
+    let u : Work = record {
+      broker = c.self.inside.queue.broker.now;
+      desk = c.self.inside.backend.now;
+      number = c.self.inside.number;
+      pass = c.self.inside.pass;
+      seat = c.read-found.new.seat;
+      core = c.self.inside.core;
+      held = held_in c.self.inside.source;
+      taken = c.self.inside.taken;
+      published = c.self.inside.published;
+      first = c.self.inside.first;
+      parts = c.self.inside.parts;
+    } in
+    let asks : asked w.core.left ≡ C.to_table (table.read c.args.task) = is_read w.core.task c.args.task (asked w.core.left) c.requires.asks in
+    asked_well (g.T.Tasks.behaviour c.args.tasks.now) w u c.reply.new.self (C.to_table (table.read c.args.task))
+    (C.from_table (table.found c.read-found.result)) c.reply.result c.reply.ensures.value c.requires.ready (record {
+      asked_is = asks;
+      suits = tt;
+      back = c.requires.reads_back;
+      beside = search rules;
+      bare = tt;
+      makes = search rules;
+      serves = search rules;
+      counts = search rules;
+      still = λ rests. absurd (busy_never (g.T.Tasks.behaviour c.args.tasks.now) w.desk.plan w.core.left (C.from_table (table.found c.read-found.result))
+          (C.to_table (table.read c.args.task)) asks tt rests);
+      none_dropped = refl;
+      core = search rules;
+    })

@@ -1,0 +1,93 @@
+use Rattle.std.proofs.Common.{rules, ◌≡◌, refl, subst, ◌≤◌}
+use Rattle.canvas_history.specs.declared.stored.Stored.TheVariants.{First, Again}
+use Rattle.canvas_history.specs.Table as table
+use Rattle.canvas_runs.specs.Core as C
+use Rattle.canvas_worker.specs.steps.Held.{held_in}
+use Rattle.canvas_worker.specs.CoreState.{asked}
+use Rattle.canvas_worker.specs.Polls.{Work}
+use Rattle.canvas_worker.proofs.Cores.Resting.{busy_never}
+use Rattle.canvas_worker.specs.SeatRights.{LetsAsk}
+use Rattle.canvas_worker.proofs.Rights.Asking.{may_ask}
+use Rattle.canvas_worker.proofs.Cores.ShownAsks.{is_store}
+use Rattle.canvas_worker.proofs.Polls.ToldAnswers.{asked_well}
+use Rattle.canvas_worker.proofs.working.Working.store.Goals as goal
+
+pub store-requires-clause-task : goal.store-requires-clause-task
+store-requires-clause-task g c =
+    let w : Work = c.args.self.now in
+    let same : w.desk ≡ c.self.inside.backend.now = search rules in
+    subst (λ d. c.args.task ≤ d.plan.tasks) same
+    (subst (LetsAsk w.desk.plan w.seat) (is_store w.core.task c.args.task c.args.outcome (asked w.core.left) c.requires.asks)
+    (may_ask w.desk.plan c.requires.ready.plan w.seat w.core.left c.requires.ready.can))
+
+pub returns-in-First-clause-acted : goal.returns-in-First-clause-acted
+returns-in-First-clause-acted g c =
+    let w : Work = c.args.self.now in
+    let u : Work = record {
+      broker = c.self.inside.queue.broker.now;
+      desk = c.self.inside.backend.now;
+      number = c.self.inside.number;
+      pass =
+          c.self.inside.pass;
+      seat = c.store.new.seat;
+      core = c.self.inside.core;
+      held = held_in c.self.inside.source;
+      taken = c.self.inside.taken;
+      published =
+          c.self.inside.published;
+      first = c.saturating_add-self-inside.result;
+      parts = c.self.inside.parts;
+    } in
+    let asks : asked w.core.left ≡ C.to_table (table.store c.args.task c.args.outcome) =
+    is_store w.core.task c.args.task c.args.outcome (asked w.core.left) c.requires.asks in
+    asked_well (g.T.Tasks.behaviour c.args.tasks.now) w u c.reply.new.self (C.to_table (table.store c.args.task c.args.outcome))
+    (C.from_table (table.was First)) c.reply.result c.reply.ensures.value c.requires.ready (record {
+      asked_is = asks;
+      suits = tt;
+      back = c.requires.reads_back;
+      beside = search rules;
+      bare = tt;
+      makes = search rules;
+      serves = search rules;
+      counts = search rules;
+      still = λ rests. absurd (busy_never (g.T.Tasks.behaviour c.args.tasks.now) w.desk.plan w.core.left (C.from_table (table.was First))
+          (C.to_table (table.store c.args.task c.args.outcome)) asks tt rests);
+      none_dropped = refl;
+      core = search rules;
+    })
+
+pub returns-in-Again-clause-acted : goal.returns-in-Again-clause-acted
+returns-in-Again-clause-acted g c =
+    let w : Work = c.args.self.now in
+    let u : Work = record {
+      broker = c.self.inside.queue.broker.now;
+      desk = c.self.inside.backend.now;
+      number = c.self.inside.number;
+      pass =
+          c.self.inside.pass;
+      seat = c.store.new.seat;
+      core = c.self.inside.core;
+      held = held_in c.self.inside.source;
+      taken = c.self.inside.taken;
+      published =
+          c.self.inside.published;
+      first = c.self.inside.first;
+      parts = c.self.inside.parts;
+    } in
+    let asks : asked w.core.left ≡ C.to_table (table.store c.args.task c.args.outcome) =
+    is_store w.core.task c.args.task c.args.outcome (asked w.core.left) c.requires.asks in
+    asked_well (g.T.Tasks.behaviour c.args.tasks.now) w u c.reply-in-Again.new.self (C.to_table (table.store c.args.task c.args.outcome))
+    (C.from_table (table.was Again)) c.reply-in-Again.result c.reply-in-Again.ensures.value c.requires.ready (record {
+      asked_is = asks;
+      suits = tt;
+      back = c.requires.reads_back;
+      beside = search rules;
+      bare = tt;
+      makes = search rules;
+      serves = search rules;
+      counts = search rules;
+      still = λ rests. absurd (busy_never (g.T.Tasks.behaviour c.args.tasks.now) w.desk.plan w.core.left (C.from_table (table.was Again))
+          (C.to_table (table.store c.args.task c.args.outcome)) asks tt rests);
+      none_dropped = refl;
+      core = search rules;
+    })

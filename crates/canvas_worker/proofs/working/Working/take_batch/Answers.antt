@@ -1,0 +1,32 @@
+use Rattle.std.proofs.Common.{rules, ◌≡◌, ap, ◌∙◌, ◌∷◌, ◌++◌, List}
+use Rattle.canvas_message.specs.declared.envelope.Envelope.{Envelope}
+use Rattle.canvas_history.specs.Passes.{Took}
+use Rattle.canvas_worker.specs.CoreState.{asked}
+use Rattle.canvas_worker.specs.Polls.{Work}
+use Rattle.canvas_worker.proofs.Polls.GivenEnvelope.{given_well}
+use Rattle.canvas_worker.proofs.Cores.ShownAsks.{is_take}
+use Rattle.canvas_worker.proofs.working.Working.take_batch.Goals as goal
+
+pub returns-in-Some-clause-acted : goal.returns-in-Some-clause-acted
+returns-in-Some-clause-acted g c =
+    let w : Work = c.args.self.now in
+    let u : Work = record { broker = c.self.inside.queue.broker.now; desk = c.self.inside.backend.now; number = c.self.inside.number; pass = c.take_batch-batch.new.pass; seat = c.self.inside.seat; core = c.self.inside.core; held = c.next.new.self; taken = c.self.inside.taken; published = c.self.inside.published; first = c.self.inside.first; parts = c.self.inside.parts } in
+    let e : Envelope = c.in-Some.envelope in
+    let es : List Envelope = c.take_batch-batch.result in
+    let took : Took w.pass es u.pass = search rules in
+    let rest : es ≡ e ∷ u.held = search rules in
+    given_well (g.T.Tasks.behaviour c.args.tasks.now) w u c.give.new.self es e c.give.result c.give.ensures c.requires.ready (record {
+      asked_is = is_take w.core.task (asked w.core.left) c.requires.asks;
+      broker = search rules;
+      desk = search rules;
+      number = search rules;
+      of = search rules;
+      seat = search rules;
+      core = search rules;
+      took = took;
+      held = ap (λ h. h ++ es) c.requires.bare ∙ rest;
+      taken = search rules;
+      published = search rules;
+      first = search rules;
+      parts = search rules;
+    })
