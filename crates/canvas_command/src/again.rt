@@ -1,7 +1,8 @@
 //! `--again`: what is delivered again, by the numbers and names of tasks.
 
 use crate::refusal::Refusal;
-use canvas_engine::{EntryFault, When, read_again};
+use canvas_engine::When;
+use canvas_lists::{EntryFault, read_again};
 use canvas_rewrite::Plan;
 use canvas_task::{TaskNo, name_ok};
 use clap::ArgMatches;

@@ -1,7 +1,8 @@
 //! Refusals that no run of the program shows, with their statuses and texts.
 
 use canvas_command::{Refusal, refuse_words};
-use canvas_engine::{Cause, EntryFault, RunFault};
+use canvas_engine::{Cause, RunFault};
+use canvas_lists::EntryFault;
 use std::alloc::Global;
 use std::io::{self, ErrorKind};
 use std::test::Fail;

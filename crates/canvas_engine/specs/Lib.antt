@@ -3,15 +3,14 @@ pub mod Traced
 pub mod Evidence
 pub mod Headline
 pub mod RecordLaws
-pub mod CommaList
-pub mod EntryList
 pub mod Texts
-pub mod TurnList
+pub mod TurnFaults
 pub mod steps
 pub use Rattle.canvas_backend.specs.Plain
 pub use Rattle.canvas_history.specs.Callers
 pub use Rattle.canvas_history.specs.Roster
 pub use Rattle.canvas_history.specs.Table
+pub use Rattle.canvas_lists.specs.TurnList
 pub use Rattle.canvas_rewrite.specs.Ends
 pub use Rattle.canvas_rewrite.specs.Planned
 pub use Rattle.canvas_runs.specs.Tally

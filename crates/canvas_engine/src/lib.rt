@@ -3,21 +3,21 @@
 
 mod fault;
 mod firsts;
-mod lists;
 mod report;
 mod report_rows;
 mod text;
 mod threads;
+mod turn_list;
 mod turns;
 
 ghost use Rattle.canvas_engine.specs.RecordLaws.{FewEntries, AllArePlain};
 
 pub use canvas_worker::{Cause, Gate, OpenGate, Stop, When};
 pub use fault::{MOST_WORKERS, RunFault};
-pub use lists::{EntryFault, read_again, read_turns};
 pub use report::{Report, report_text};
 pub use text::{TextFault, run_text, run_text_again, run_text_recorded, run_text_threads};
 pub use threads::{Records, Tally, run};
+pub use turn_list::read_turns;
 pub use turns::{run_turns, run_turns_again, run_turns_traced, run_turns_within};
 
 /// What follows from what `run` leaves. Whatever the number of workers and their interleaving, its

@@ -1,7 +1,0 @@
-//! Texts of lists, with a comma between two: of turns, and of what is delivered again.
-mod comma_list;
-mod entry_list;
-mod turn_list;
-
-pub use entry_list::{EntryFault, read_again};
-pub use turn_list::read_turns;

@@ -1,0 +1,2 @@
+mod CommaTexts
+mod EntryTexts
