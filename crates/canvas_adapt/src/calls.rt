@@ -7,9 +7,9 @@ use crate::member::with_member;
 use crate::work::Work;
 use bumpalo::Bump;
 use bumpalo::collections::into_bump_slice;
+use canvas_semantics::MOST_TASKS;
 use canvas_sig::SigFault;
 use canvas_sig::parts::{Datum, kwarg_of, listed};
-use canvas_values::MOST_TASKS;
 use std::alloc::AllocError;
 
 const MOST_CALLS: usize = MOST_TASKS as usize;

@@ -7,9 +7,6 @@ use crate::{Cause, Report};
 use canvas_task::{ListOf, Outcome};
 use thiserror::Error;
 
-/// How many workers a run has at most.
-pub const MOST_WORKERS: u32 = 16;
-
 /// Why a run has no whole report.
 #[derive(Debug, Drop, Error)]
 pub enum RunFault {

@@ -12,8 +12,9 @@ mod turns;
 
 ghost use Rattle.canvas_engine.specs.RecordLaws.{FewEntries, AllArePlain};
 
+pub use canvas_semantics::MOST_WORKERS;
 pub use canvas_worker::{Cause, Gate, OpenGate, Stop, When};
-pub use fault::{MOST_WORKERS, RunFault};
+pub use fault::RunFault;
 pub use report::{Report, report_text};
 pub use text::{TextFault, run_text, run_text_again, run_text_recorded, run_text_threads};
 pub use threads::{Records, Tally, run};

@@ -15,15 +15,13 @@ use crate::listing::{Place, places_of};
 use crate::notes::note_of;
 use crate::step::{Step, read_indices};
 use bumpalo::Bump;
+use canvas_semantics::{MOST_GROUPS, MOST_TASKS};
 use canvas_sig::parts::{Datum, MOST_LEVELS, is_name, parse, text_of};
 use canvas_sig::{SigFault, read_canvas};
 use canvas_task::Memory;
-use canvas_values::MOST_TASKS;
 use json::Scratch;
 use serde_json::Value;
 use std::alloc::{AllocError, Global};
-
-const MOST_GROUPS: u32 = 1024;
 
 /// A place in a text.
 #[derive(Drop)]

@@ -10,10 +10,9 @@ ghost use Rattle.canvas_finding.specs.Limits.{kind_of, is_too_deep, steps_to_mem
 
 use crate::listing::Place;
 use crate::step::{Field, Step};
+use canvas_semantics::MOST_NESTING;
 use canvas_sig::parts::{Datum, MOST_LEVELS, kwarg_of, listed, own_fault, primitive_of};
 use canvas_values::Primitive;
-
-const MOST_NESTING: usize = 8;
 
 fn kind_of(value: &Datum<'_>) -> Option<Primitive>
     ensures { result ≡ kind_of (view value.now) }
@@ -24,7 +23,7 @@ fn kind_of(value: &Datum<'_>) -> Option<Primitive>
 fn is_too_deep(place: &Place<'_>) -> bool
     ensures { result ≡ is_too_deep (shown place.now) }
 {
-    place.steps.iter().filter(|step| step.goes_deeper()).count() >= MOST_NESTING
+    place.steps.iter().filter(|step| step.goes_deeper()).count() >= MOST_NESTING as usize
 }
 
 fn leads_to_member(steps: &[Step]) -> bool

@@ -1,7 +1,9 @@
 //! What a canvas means, as plain data: its tree, its normal line, and the states and the report
-//! that evaluating it gives. There is no running code here: each function has an empty body, and
-//! its contract is a law.
+//! that evaluating it gives. There is no running code here but limits: each function has an empty
+//! body, and its contract is a law.
 #![tactic(auto)]
+
+mod limits;
 
 ghost use Rattle.std.specs.Prelude.{◌≡◌};
 ghost use Rattle.canvas_task.specs.Apply.{Behaviour};
@@ -12,6 +14,8 @@ ghost use Rattle.canvas_semantics.specs.Report.{report, report_of};
 ghost use Rattle.canvas_semantics.specs.SameMeaning.{IsSame};
 ghost use Rattle.canvas_semantics.specs.States.{rows_from, states};
 ghost use Rattle.canvas_semantics.specs.Tree.{Tree, IsFull, count, count_groups, numbered};
+
+pub use limits::{MOST_GROUPS, MOST_NESTING, MOST_REACH, MOST_TASKS, MOST_WORKERS};
 
 /// The law of the normal line. Where no chain is empty, the normal line of a canvas means what the
 /// canvas means, whatever its tasks do: for every flow each task has the same state by its number,

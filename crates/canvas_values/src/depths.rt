@@ -7,10 +7,10 @@ ghost use Rattle.canvas_semantics.specs.NormalLine.{normal};
 ghost use Rattle.canvas_semantics.specs.Reach.{reach};
 ghost use Rattle.canvas_values.specs.SignatureView.{view};
 
-use crate::limits::MOST_NESTING;
 use crate::nesting::nests_within;
 use crate::reach::{LineReach, onto_reach, whole};
 use crate::{Canvas, Node};
+use canvas_semantics::MOST_NESTING;
 
 /// How deeply signatures of a canvas stand in each other.
 #[derive(Clone, Copy, Debug, PartialEq, Eq)]

@@ -22,7 +22,6 @@ pub use composed::{args_fit, kwargs_fit};
 pub use copy::{copy_sig, copy_sigs};
 pub use depths::Depths;
 pub use fault::SigFault;
-pub use limits::{MOST_REACH, MOST_TASKS};
 pub use node::Node;
 pub use primitive::Primitive;
 pub use task_sig::TaskSig;

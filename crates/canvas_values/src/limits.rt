@@ -10,16 +10,7 @@ use crate::group_nesting::ending;
 use crate::nesting::nests_within;
 use crate::reach::{LineReach, onto_reach, whole};
 use crate::{Node, SigFault};
-
-pub(crate) const MOST_NESTING: u32 = 8;
-
-/// How deeply signatures stand in each other in a message, at most.
-pub const MOST_REACH: u32 = 32;
-
-/// How many tasks a canvas has at most, and so how many members a header.
-pub const MOST_TASKS: u32 = 1024;
-
-const MOST_GROUPS: u32 = 1024;
+use canvas_semantics::{MOST_GROUPS, MOST_NESTING, MOST_REACH, MOST_TASKS};
 
 fn is_too_deep(node: &Node) -> bool
     ensures { result ≡ is_too_deep (view node.now) }

@@ -5,8 +5,8 @@ ghost use Rattle.std.specs.Prelude.{◌≡◌, ◌+◌, max, map};
 ghost use Rattle.canvas_values.specs.steps.LineReach.{past, above, reach_of_line, sig_reach, sigs_reach, chord_reach, task_onto, group_reach, onto_reach, all_onto_reach, greatest};
 ghost use Rattle.canvas_values.specs.SignatureView.{view, task_view, tasks_of, trees_of};
 
-use crate::limits::MOST_REACH;
 use crate::{Node, TaskSig};
+use canvas_semantics::MOST_REACH;
 
 /// The elements of a line, known by the greatest of their reaches.
 #[derive(Clone, Copy, Drop)]

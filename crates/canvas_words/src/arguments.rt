@@ -1,11 +1,9 @@
 //! The arguments of the commands.
 
+use canvas_semantics::MOST_WORKERS;
 use clap::builder::ValueParser;
 use clap::{Arg, ArgAction};
 use std::alloc::{AllocError, Global};
-
-/// How many workers a run has at most.
-pub const MOST_WORKERS: u32 = 16;
 
 /// What stands behind an argument's name.
 #[derive(Clone, Copy)]

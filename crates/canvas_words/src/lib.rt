@@ -7,7 +7,6 @@ mod help;
 mod program;
 mod subcommand;
 
-pub use arguments::MOST_WORKERS;
 pub use help::{NOTES, SHORT_NOTES};
 pub use program::{bad_text, read_words};
 pub use subcommand::Subcommand;

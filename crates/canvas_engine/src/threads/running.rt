@@ -9,7 +9,6 @@ ghost use Rattle.canvas_engine.specs.Evidence.{IsRun};
 ghost use Rattle.canvas_engine.specs.Headline.{Headline, OnlyWanted};
 ghost use Rattle.canvas_engine.specs.steps.Crews.{HaveWorked, IsStart};
 
-use crate::fault::MOST_WORKERS;
 use crate::firsts::{first_envelopes, publish_all};
 use crate::threads::crew::{Hands, Site, are_done, fault_of, join_all, split_all, tally_all};
 use crate::threads::gathered::Gathered;
@@ -21,6 +20,7 @@ use canvas_backend::Backend;
 use canvas_broker::Broker;
 use canvas_message::Letter;
 use canvas_rewrite::Plan;
+use canvas_semantics::MOST_WORKERS;
 use canvas_task::{Fault, Memory, Outcome, Tasks};
 use canvas_worker::{Gate, InFlight, Shared, Stop};
 use std::alloc::{AllocGlobal, Global};

@@ -13,11 +13,11 @@ ghost use Rattle.canvas_engine.specs.Traced.{IsTraced};
 ghost use Rattle.canvas_engine.specs.steps.AgainRuns.{IsKeptWithin, IsAgainFault};
 ghost use Rattle.canvas_engine.specs.steps.Stages.{rows_of, Given, Reached, HasReached, IsNew, IsPartOfRound, IsHaltInRound, IsRunThrough, IsEarlyEnd};
 
-use crate::fault::MOST_WORKERS;
 use crate::turns::stage::Stage;
 use crate::{Cause, Report, RunFault};
 use canvas_message::Envelope;
 use canvas_rewrite::Plan;
+use canvas_semantics::MOST_WORKERS;
 use canvas_task::{Fault, ListOf, Memory, Outcome, TaskNo, Tasks};
 use canvas_worker::When;
 use std::alloc::Global;
