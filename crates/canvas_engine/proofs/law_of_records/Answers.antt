@@ -1,4 +1,4 @@
-use Rattle.canvas_engine.proofs.RecordLaws.{few_entries, all_are_plain}
+use Rattle.canvas_engine.proofs.OnThreads.RecordLaws.{few_entries, all_are_plain}
 use Rattle.canvas_engine.proofs.law_of_records.Goals as goal
 
 pub returns-clause-few : goal.returns-clause-few

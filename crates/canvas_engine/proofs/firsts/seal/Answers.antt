@@ -1,4 +1,4 @@
-use Rattle.canvas_engine.proofs.Opening.{reads_as}
+use Rattle.canvas_engine.proofs.ByTurns.Opening.{reads_as}
 use Rattle.canvas_engine.proofs.firsts.seal.Goals as goal
 
 pub returns-in-Ok-clause-back : goal.returns-in-Ok-clause-back

@@ -1,6 +1,6 @@
 use Rattle.std.proofs.Common.{rules, ◌≡◌, ◌∙◌, ◌+◌, [], ◌∷◌, ◌++◌, All, length, sym, ap, subst, arith}
 use Rattle.std.proofs.lemmas.List.Elements.{All-nil, All-cons, All-append}
-use Rattle.canvas_engine.proofs.Slots.{part_more, one_longer}
+use Rattle.canvas_engine.proofs.OnThreads.Slots.{part_more, one_longer}
 use Rattle.canvas_engine.specs.steps.Slots.{IsReadySlot, IsSplitOff, SplitsOff}
 use Rattle.canvas_engine.proofs.threads.crew.split_all.Goals as goal
 

@@ -9,8 +9,8 @@ use Rattle.canvas_worker.specs.declared.cause.Cause.TheVariants.{Memory}
 use Rattle.canvas_engine.specs.Correct.{IsThreadFault}
 use Rattle.canvas_engine.specs.steps.Slots.{AllRan, AreOf, LeftARecord, TakesIn, tally_in}
 use Rattle.canvas_engine.specs.declared.threads.slot.Slot.{Slot}
-use Rattle.canvas_engine.proofs.Slots.{are_of, each_ran}
-use Rattle.canvas_engine.proofs.ThreadRuns.{gathered, halted_may, if_none, long_envelopes, long_states, pending_may, well_gathered, why_well}
+use Rattle.canvas_engine.proofs.OnThreads.Slots.{are_of, each_ran}
+use Rattle.canvas_engine.proofs.OnThreads.ThreadRuns.{gathered, halted_may, if_none, long_envelopes, long_states, pending_may, well_gathered, why_well}
 use Rattle.canvas_engine.proofs.threads.running.gather.Goals as goal
 
 pub returns-in-Err-clause-err : goal.returns-in-Err-clause-err

@@ -1,4 +1,4 @@
-use Rattle.canvas_engine.proofs.Headlines.{headline_ok}
+use Rattle.canvas_engine.proofs.OnThreads.Headlines.{headline_ok}
 use Rattle.canvas_engine.proofs.threads.running.run.Goals as goal
 
 pub returns-in-Ok-clause-headline : goal.returns-in-Ok-clause-headline

@@ -8,7 +8,7 @@ use Rattle.canvas_backend.specs.contracts.backend.Backend as Backend
 use Rattle.canvas_broker.specs.contracts.broker.Broker as Broker
 use Rattle.canvas_worker.specs.contracts.in_flight.InFlight as InFlight
 use Rattle.canvas_worker.specs.contracts.stop.Stop as Stop
-use Rattle.canvas_engine.proofs.Crosses.{slot, broker, backend, stop, flight, lent, captured}
+use Rattle.canvas_engine.proofs.OnThreads.Crosses.{slot, broker, backend, stop, flight, lent, captured}
 use Rattle.canvas_engine.proofs.threads.workers.work_on_threads.Goals as goal
 
 pub for_each_mut-requires-send-T : goal.for_each_mut-requires-send-T

@@ -2,7 +2,7 @@ use Rattle.std.proofs.Common.{◌≡◌, false, Some, refl, sym, ◌∙◌, subs
 use Rattle.std.specs.Prelude.{slice_get}
 use Rattle.std.proofs.lemmas.Option.{slice_get_read}
 use Rattle.canvas_turns.specs.Spending.{has}
-use Rattle.canvas_engine.proofs.EntryPlaces.{none_more, is_first}
+use Rattle.canvas_engine.proofs.ByTurns.EntryPlaces.{none_more, is_first}
 use Rattle.canvas_engine.proofs.turns.entries.first_for.Goals as goal
 
 pub returns-then-is_for : goal.returns-then-is_for

@@ -1,6 +1,6 @@
 use Rattle.std.proofs.Common.{take, drop}
 use Rattle.std.proofs.lemmas.List.{take-append-drop}
-use Rattle.canvas_engine.proofs.RoundTurns.{all_taken, halt_in_list, list_more}
+use Rattle.canvas_engine.proofs.ByTurns.RoundTurns.{all_taken, halt_in_list, list_more}
 use Rattle.canvas_engine.proofs.turns.running.run_list.Goals as goal
 
 pub turn-requires : goal.turn-requires

@@ -1,6 +1,6 @@
 use Rattle.std.proofs.Common.{arith, subst}
 use Rattle.canvas_engine.specs.steps.Stages.{IsPartOfRound}
-use Rattle.canvas_engine.proofs.RoundTurns.{one_more_turn, part_reached, halt_in_round}
+use Rattle.canvas_engine.proofs.ByTurns.RoundTurns.{one_more_turn, part_reached, halt_in_round}
 use Rattle.canvas_engine.proofs.turns.running.run_round.Goals as goal
 
 pub turn-requires : goal.turn-requires

@@ -1,7 +1,7 @@
 use Rattle.std.proofs.Common.{suc, ◌++◌, subst}
 use Rattle.canvas_turns.specs.Turns.{rounds}
 use Rattle.canvas_engine.specs.steps.Stages.{IsPartOfRound}
-use Rattle.canvas_engine.proofs.RoundTurns.{another_round, halt_in_rounds, last_round}
+use Rattle.canvas_engine.proofs.ByTurns.RoundTurns.{another_round, halt_in_rounds, last_round}
 use Rattle.canvas_engine.proofs.turns.running.run_rounds.Goals as goal
 
 pub run_round-requires : goal.run_round-requires

@@ -1,5 +1,5 @@
 use Rattle.canvas_engine.specs.steps.Stages.{HasReached, IsRunThrough, IsEarlyEnd}
-use Rattle.canvas_engine.proofs.WholeRuns.{starts, ok_at, err_at}
+use Rattle.canvas_engine.proofs.ByTurns.WholeRuns.{starts, ok_at, err_at}
 use Rattle.canvas_engine.proofs.turns.running.run_stage.Goals as goal
 
 pub run_list-requires-clause-reached : goal.run_list-requires-clause-reached

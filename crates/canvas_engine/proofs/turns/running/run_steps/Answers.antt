@@ -1,7 +1,7 @@
 use Rattle.std.proofs.Common.{refl, sym, subst}
 use Rattle.canvas_engine.specs.steps.AgainRuns.{IsKeptWithin}
 use Rattle.canvas_engine.specs.steps.Stages.{IsRunThrough, IsEarlyEnd}
-use Rattle.canvas_engine.proofs.WholeRuns.{kept_rows, early_fault}
+use Rattle.canvas_engine.proofs.ByTurns.WholeRuns.{kept_rows, early_fault}
 use Rattle.canvas_engine.proofs.turns.running.run_steps.Goals as goal
 
 pub returns-in-Ok-run_stage-clause-ok : goal.returns-in-Ok-run_stage-clause-ok

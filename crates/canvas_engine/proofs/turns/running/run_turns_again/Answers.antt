@@ -1,4 +1,4 @@
-use Rattle.canvas_engine.proofs.WholeRuns.{never_stopped}
+use Rattle.canvas_engine.proofs.ByTurns.WholeRuns.{never_stopped}
 use Rattle.canvas_engine.proofs.turns.running.run_turns_again.Goals as goal
 
 pub returns-in-Ok-clause-ok : goal.returns-in-Ok-clause-ok

@@ -1,5 +1,5 @@
 use Rattle.std.proofs.Common.{[]}
-use Rattle.canvas_engine.proofs.WholeRuns.{never_stopped, traced_run}
+use Rattle.canvas_engine.proofs.ByTurns.WholeRuns.{never_stopped, traced_run}
 use Rattle.canvas_engine.proofs.turns.running.run_turns_traced.Goals as goal
 
 pub returns-in-Ok-clause-ok : goal.returns-in-Ok-clause-ok

@@ -1,4 +1,4 @@
-use Rattle.canvas_engine.proofs.WholeRuns.{plain_within, plain_fault}
+use Rattle.canvas_engine.proofs.ByTurns.WholeRuns.{plain_within, plain_fault}
 use Rattle.canvas_engine.proofs.turns.running.run_turns_within.Goals as goal
 
 pub returns-in-Ok-clause-ok : goal.returns-in-Ok-clause-ok

@@ -7,8 +7,8 @@ use Rattle.canvas_worker.proofs.Cores.ShownAsks.{handed_out, handed_same}
 use Rattle.canvas_engine.specs.Traced.{sent_by}
 use Rattle.canvas_engine.specs.steps.Noting.{Noted}
 use Rattle.canvas_engine.specs.steps.Stages.{Stepped}
-use Rattle.canvas_engine.proofs.Sending.{on_ok}
-use Rattle.canvas_engine.proofs.StageAsks.{answered_ok, of_each}
+use Rattle.canvas_engine.proofs.ByTurns.Sending.{on_ok}
+use Rattle.canvas_engine.proofs.ByTurns.StageAsks.{answered_ok, of_each}
 use Rattle.canvas_engine.proofs.turns.stage.publish.Goals as goal
 
 pub returns-in-Ok-clause-ok : goal.returns-in-Ok-clause-ok

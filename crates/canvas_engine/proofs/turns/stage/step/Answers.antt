@@ -6,8 +6,8 @@ use Rattle.canvas_worker.specs.CoreState.{asked}
 use Rattle.canvas_worker.specs.declared.ask.Ask.TheVariants as A
 use Rattle.canvas_engine.specs.steps.Stages.{MayAsk}
 use Rattle.canvas_worker.proofs.Cores.ShownAsks.{is_store, is_part, is_read}
-use Rattle.canvas_engine.proofs.Sending.{silent, on_ok}
-use Rattle.canvas_engine.proofs.StageAsks.{answered_err, none_counted}
+use Rattle.canvas_engine.proofs.ByTurns.Sending.{silent, on_ok}
+use Rattle.canvas_engine.proofs.ByTurns.StageAsks.{answered_err, none_counted}
 use Rattle.canvas_engine.proofs.turns.stage.step.Goals as goal
 
 pub returns-in-Store-clause-err : goal.returns-in-Store-clause-err

@@ -14,9 +14,9 @@ use Rattle.canvas_engine.specs.Correct.{IsThreadFault}
 use Rattle.canvas_engine.specs.Evidence.{IsRun}
 use Rattle.canvas_engine.specs.steps.Crews.{tallies_from}
 use Rattle.canvas_engine.specs.declared.threads.records.Tally.{Tally}
-use Rattle.canvas_engine.proofs.Slots.{finished_of}
-use Rattle.canvas_engine.proofs.ThreadRuns.{halted_may, worked_may, is_run}
-use Rattle.canvas_engine.proofs.Wanted.{only_wanted}
+use Rattle.canvas_engine.proofs.OnThreads.Slots.{finished_of}
+use Rattle.canvas_engine.proofs.OnThreads.ThreadRuns.{halted_may, worked_may, is_run}
+use Rattle.canvas_engine.proofs.OnThreads.Wanted.{only_wanted}
 use Rattle.canvas_engine.proofs.threads.gathered.Gathered.conclude.Goals as goal
 
 pub read_rows-requires-clause-own : goal.read_rows-requires-clause-own

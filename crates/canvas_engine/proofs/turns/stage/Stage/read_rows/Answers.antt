@@ -1,7 +1,7 @@
 use Rattle.std.proofs.Common.{◌≡◌, ◌+◌, ap, rules, arith}
 use Rattle.canvas_backend.specs.Plain.{held}
 use Rattle.canvas_history.specs.Roster.{Roster}
-use Rattle.canvas_engine.proofs.ReadRows.{row_more}
+use Rattle.canvas_engine.proofs.ByTurns.ReadRows.{row_more}
 use Rattle.canvas_engine.proofs.turns.stage.Stage.read_rows.Goals as goal
 
 pub read-requires : goal.read-requires

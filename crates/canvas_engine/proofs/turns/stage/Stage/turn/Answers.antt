@@ -5,8 +5,8 @@ use Rattle.canvas_worker.specs.Books.{no_book}
 use Rattle.canvas_worker.specs.EnvelopeWorker.{enveloped_by, no_tasks}
 use Rattle.canvas_worker.specs.CoreState.{Standing, asked}
 use Rattle.canvas_engine.specs.steps.Stages.{MayAsk, AreInRange}
-use Rattle.canvas_engine.proofs.StageTurns.{here_first, others, place_then, core_then, core_now, unchanged}
-use Rattle.canvas_engine.proofs.StageTurns.{not_out, has_open, skipped, stopped, may_ask, held_in_range, went, halfway, one_fewer}
+use Rattle.canvas_engine.proofs.ByTurns.StageTurns.{here_first, others, place_then, core_then, core_now, unchanged}
+use Rattle.canvas_engine.proofs.ByTurns.StageTurns.{not_out, has_open, skipped, stopped, may_ask, held_in_range, went, halfway, one_fewer}
 use Rattle.canvas_engine.proofs.turns.stage.Stage.turn.Goals as goal
 
 pub returns-then-has_ended-clause-ok : goal.returns-then-has_ended-clause-ok

@@ -23,8 +23,8 @@ use Rattle.canvas_engine.specs.Traced.{sent_by}
 use Rattle.canvas_engine.specs.steps.Noting.{Noted}
 use Rattle.canvas_engine.specs.steps.Stages.{MayAsk, AreInRange, Stepped, IsTried, Tried, store_answer, counted_on, Redelivers, LeadsTo, Given, Reached, HasReached, IsTurn, IsHalfway, IsStopped}
 use Rattle.canvas_engine.specs.declared.turns.stage.Stage.{Stage}
-use Rattle.canvas_engine.proofs.StageAgain.{one_turn, stood}
-use Rattle.canvas_engine.proofs.StageSteps.{each_more, has_ended, not_ended, same_ask, more_is, turned_so}
+use Rattle.canvas_engine.proofs.ByTurns.StageAgain.{one_turn, stood}
+use Rattle.canvas_engine.proofs.ByTurns.StageSteps.{each_more, has_ended, not_ended, same_ask, more_is, turned_so}
 
 -- what is there after a core was put back at its place
 put_at : (cores : List Standing) (i : ℕ) (d : Standing) (j : ℕ) (e : Standing) → slice_get (slice_set cores i d) j ≡ Some e

@@ -32,8 +32,8 @@ use Rattle.canvas_worker.specs.Polls.{IsWanted}
 use Rattle.canvas_worker.specs.declared.record.Record.{Record}
 use Rattle.canvas_engine.specs.Headline.{task_in, OnlyWanted}
 use Rattle.canvas_engine.specs.steps.Crews.{Crew, AreWanted}
-use Rattle.canvas_engine.proofs.EnvelopeTasks.{opened_names}
-use Rattle.canvas_engine.proofs.ThreadRuns.{ran_with}
+use Rattle.canvas_engine.proofs.OnThreads.EnvelopeTasks.{opened_names}
+use Rattle.canvas_engine.proofs.OnThreads.ThreadRuns.{ran_with}
 
 -- ---- the entries of one caller
 

@@ -31,7 +31,7 @@ use Rattle.canvas_engine.specs.Evidence.{IsRun}
 use Rattle.canvas_engine.specs.Headline.{of_task, publications, Headline}
 use Rattle.canvas_engine.specs.declared.threads.records.Records.{Records}
 use Rattle.canvas_report.specs.declared.report.Report.{Report}
-use Rattle.canvas_engine.proofs.EnvelopeTasks.{opened_names}
+use Rattle.canvas_engine.proofs.OnThreads.EnvelopeTasks.{opened_names}
 use Rattle.canvas_runs.proofs.Laws.Causes.{by_in}
 
 along : {X : Type 0} (k : ℕ) (xs : List X) → numbers_along k xs ≡ numbers_from k (length xs)

@@ -40,9 +40,9 @@ use Rattle.canvas_engine.specs.Traced.{sent_by, sent_after}
 use Rattle.canvas_engine.specs.steps.Noting.{Noted, kept}
 use Rattle.canvas_engine.specs.steps.Stages.{AnswersNow, Stepped, store_answer, counted_on, Redelivers, IsCoreAt, LeadsTo, Given, Reached, IsTurn}
 use Rattle.canvas_engine.specs.declared.turns.stage.Stage.{Stage}
-use Rattle.canvas_engine.proofs.Sending.{sent_then, sent_too}
-use Rattle.canvas_engine.proofs.StageAsks.{stored_says}
-use Rattle.canvas_engine.proofs.StageSteps.{together, more_is, same_ask, worker_back, answered_so, stepped}
+use Rattle.canvas_engine.proofs.ByTurns.Sending.{sent_then, sent_too}
+use Rattle.canvas_engine.proofs.ByTurns.StageAsks.{stored_says}
+use Rattle.canvas_engine.proofs.ByTurns.StageSteps.{together, more_is, same_ask, worker_back, answered_so, stepped}
 
 -- ---- the point to which a core has come
 

@@ -44,7 +44,7 @@ use Rattle.canvas_engine.specs.steps.Crews.{Crew, IsStart, IsWellGathered, AreWa
 use Rattle.canvas_engine.specs.steps.Slots.{AllRan, IsWell, IsWhy, TakesIn, nothing_counted, tally_in}
 use Rattle.canvas_engine.specs.declared.threads.running.Start.{Start}
 use Rattle.canvas_engine.specs.declared.threads.slot.Slot.{Slot}
-use Rattle.canvas_engine.proofs.Slots.{each_ran, crew_of}
+use Rattle.canvas_engine.proofs.OnThreads.Slots.{each_ran, crew_of}
 use Rattle.canvas_engine.specs.declared.fault.RunFault.TheVariants.{Halted}
 use Rattle.canvas_engine.specs.declared.threads.records.Records.{Records}
 use Rattle.canvas_engine.specs.declared.threads.records.Tally.{Tally}
