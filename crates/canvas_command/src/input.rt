@@ -5,7 +5,7 @@ use crate::celery::CeleryRefusal;
 use crate::refusal::Refusal;
 use crate::unread::Unread;
 use canvas_sig::{MOST_BYTES, SigFault};
-use std::alloc::Global;
+use std::alloc::{AllocError, Global};
 use std::fs;
 use std::io::{self, ErrorKind, Read};
 use std::rt::Files;
@@ -17,6 +17,17 @@ const MOST_RESULTS: usize = 67_108_864;
 const MOST_LINES: usize = 67_108_864;
 
 const CHUNK: usize = 8192;
+
+/// The greatest block that malloc is made to keep, in bytes.
+const KEPT: usize = 4_194_304;
+
+/// Has malloc keep what reading a canvas gives back, so that the run is laid into pages that are
+/// there. glibc's takes each block over 128 KiB from the system and returns it as soon as it is
+/// freed, until one as large was freed (mallopt(3), `M_MMAP_THRESHOLD`): so one is, unused.
+fn keep_blocks(alloc: Global) {
+    let block: Result<Vec<u8>, AllocError> = Vec::with_capacity(alloc, KEPT);
+    drop(block);
+}
 
 /// Reads at most so many bytes in at most that many reads, of which those that are interrupted are
 /// some. Where these end before the text does, that is a fault.
@@ -72,6 +83,7 @@ pub(crate) fn text_of<'w, S, R: Read>(
 where
     S: Files + AllocGlobal,
 {
+    keep_blocks(rt.alloc());
     bytes_of(rt, file, input, MOST_BYTES + 1)
 }
 

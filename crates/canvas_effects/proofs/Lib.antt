@@ -11,3 +11,4 @@ pub mod Begun
 pub mod Raised
 pub mod Ended
 pub mod PlanStands
+pub mod FirstInOrder

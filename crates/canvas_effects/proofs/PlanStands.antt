@@ -65,13 +65,13 @@ mutual
   task_span : (t : Task) (low high : ℕ) → TaskIn t low high → low < high
   task_span (task k call ls es) low high h = omega (arith, h.0, tasks_span ls (suc k) h.1 h.2, tasks_span es h.1 high h.3)
 
-  tasks_span : (ts : Tasks) (low high : ℕ) → TasksIn ts low high → low ≤ high
+  pub tasks_span : (ts : Tasks) (low high : ℕ) → TasksIn ts low high → low ≤ high
   tasks_span no_tasks low high h = h
   tasks_span (and_task t ts) low high h = omega (arith, task_span t low h.0 h.1, tasks_span ts h.0 high h.2)
 
 module _ (table : ℕ → List ℕ) where
   mutual
-    line_span : (l : Line) (low high : ℕ) → LineIn table l low high → low ≤ high
+    pub line_span : (l : Line) (low high : ℕ) → LineIn table l low high → low ≤ high
     line_span stop low high h = h
     line_span (step t l) low high h = omega (arith, task_span t low h.0 h.1, line_span l h.0 high h.2)
     line_span (group_end g ms) low high h = omega (arith, lines_span ms low high h.0)

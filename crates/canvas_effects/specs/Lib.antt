@@ -6,5 +6,6 @@ pub mod Effects
 pub mod Events
 pub mod Carrying
 pub mod Todos
+pub mod Portions
 pub mod codes
 pub mod steps

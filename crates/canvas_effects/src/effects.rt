@@ -17,6 +17,7 @@ ghost use Rattle.canvas_effects.specs.Placing.{end_place};
 ghost use Rattle.canvas_effects.specs.Todos.{part_view, todo_view};
 ghost use Rattle.canvas_effects.specs.steps.Walks.{input_seen, part_at_end, started};
 
+mod first;
 mod header;
 mod lasts;
 mod moved;
@@ -32,6 +33,7 @@ use crate::{ChordBody, PartCall, Todo};
 use canvas_message::{CarriedText, Message, following, share_carried, share_text};
 use canvas_rewrite::{Carried, FrozenLine, Place, Plan};
 use canvas_task::{Fault, ListOf, Memory, Outcome, TaskNo};
+pub use first::FirstMessages;
 use header::{failure_of, numbers_of};
 use lasts::last_task;
 pub use moved::into_todo;

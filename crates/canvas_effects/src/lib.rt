@@ -13,5 +13,5 @@ mod placing;
 mod todo;
 
 pub use chord_body::ChordBody;
-pub use effects::{after, body_after, first_messages, into_body, into_todo};
+pub use effects::{FirstMessages, after, body_after, first_messages, into_body, into_todo};
 pub use todo::{PartCall, Todo};

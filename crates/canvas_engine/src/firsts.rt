@@ -9,7 +9,7 @@ ghost use Rattle.canvas_effects.specs.Effects.{first_messages};
 ghost use Rattle.canvas_turns.specs.Turns.{FirstsRead};
 
 use canvas_broker::{Broker, BrokerPass};
-use canvas_effects::first_messages;
+use canvas_effects::FirstMessages;
 use canvas_message::{Letter, Message};
 use canvas_rewrite::Plan;
 use canvas_task::Memory;
@@ -27,17 +27,21 @@ fn seal(alloc: Global, message: Message) -> Result<Letter, Memory>
     }
 }
 
-/// The envelopes of messages.
-fn seal_all(alloc: Global, messages: Vec<Message>) -> Result<Vec<Letter>, Memory>
-    ensures value { IfOk result (λ es. es.items ≡ map sealed messages.items) }
+/// Puts the envelopes of messages behind others.
+fn seal_all(
+    alloc: Global,
+    messages: Vec<Message>,
+    envelopes: &mut Vec<Letter>,
+) -> Result<(), Memory>
+    ensures value { OnOk result
+        (envelopes.new.items ≡ envelopes.old.items ++ map sealed messages.items) }
     ensures back { OnOk result (Each ReadsAs messages.items) }
 {
-    let mut envelopes = Vec::with_capacity(alloc, messages.len())?;
     for message in messages {
         let envelope = seal(alloc, message)?;
         envelopes.push(envelope)?;
     }
-    Ok(envelopes)
+    Ok(())
 }
 
 /// The envelopes of the messages of the tasks that start at once.
@@ -45,10 +49,12 @@ pub(crate) fn first_envelopes(alloc: Global, plan: &Plan) -> Result<Vec<Letter>,
     ensures value { IfOk result (λ es. es.items ≡ map sealed (first_messages plan.now)) }
     ensures back { OnOk result (FirstsRead plan.now) }
 {
-    match first_messages(alloc, plan) {
-        Ok(messages) => seal_all(alloc, messages),
-        Err(Memory) => Err(Memory),
+    let mut firsts = FirstMessages::of(alloc, plan)?;
+    let mut envelopes = Vec::new(alloc);
+    'portions: while let Some(messages) = firsts.next(alloc)? {
+        seal_all(alloc, messages, &mut envelopes)?;
     }
+    Ok(envelopes)
 }
 
 /// Publishes envelopes in their order.

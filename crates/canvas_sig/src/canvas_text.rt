@@ -22,12 +22,24 @@ pub const MOST_LEVELS: u32 = 128;
 
 /// How many bytes the lists of a text take at most for each byte of it: an item has 24, and two
 /// bytes spell one, and a list that grows has twice the room that it needs.
-const LISTS_ROOM: usize = 24;
+const MOST_LISTS_ROOM: usize = 24;
+
+/// How many they take for each byte of a canvas as most are.
+const LISTS_ROOM: usize = 4;
+
+/// A text up to so many bytes gets the room that most canvases need: malloc keeps a block of that
+/// size, and what follows the reading is laid into the pages that the lists have touched.
+const SHORT_TEXT: usize = 131_072;
 
 /// An arena for the lists of a text, in one piece where there is memory for it, since a list grows
 /// in its place there and else leaves behind what it was. What isn't used of it stays untouched.
 fn new_arena(alloc: Global, length: usize) -> Bump {
-    match Bump::try_with_capacity(alloc, length.saturating_mul(LISTS_ROOM)) {
+    let room = if length <= SHORT_TEXT {
+        LISTS_ROOM
+    } else {
+        MOST_LISTS_ROOM
+    };
+    match Bump::try_with_capacity(alloc, length.saturating_mul(room)) {
         Ok(arena) => arena,
         Err(_) => Bump::new(alloc),
     }

@@ -26,6 +26,9 @@ use std::alloc::Global;
 /// How deep arrays and objects may nest.
 const MOST_NESTED: usize = 127;
 
+/// How many items a list has room for at first: most lists of arguments have one or two.
+const FEW_ITEMS: usize = 2;
+
 /// The value that a token is by itself.
 #[inline(always)]
 fn alone<'a>(token: Token<'a>) -> Option<Datum<'a>>
@@ -60,7 +63,7 @@ fn read_value<'a>(
     ensures ok { IfOk result
         (λ v. converted of_json (value left (token_of token.entry ∷ reader.old))
         ≡ Some (view v, reader.new)) }
-    ensures shorter { OnOk result (length reader.new ≤ length reader.old) }
+    ensures not_longer { OnOk result (length reader.new ≤ length reader.old) }
     ensures stack { OnOk result (stack.new.items ≡ stack.old.items) }
     ensures err { result ≡ Err Unread.NotJson
         → converted of_json (value left (token_of token.entry ∷ reader.old)) ≡ None }
@@ -122,7 +125,7 @@ fn read_items<'a>(
     ensures err { result ≡ Err Unread.NotJson
         → converted of_items (items (value left) (length reader.old) reader.old) ≡ None }
 {
-    let mut found = Vec::new(arena);
+    let mut found = Vec::with_capacity(arena, FEW_ITEMS)?;
     'items: while let Some(token) = reader.next_item()? {
         let item = read_value(alloc, arena, stack, reader, left, token)?;
         found.push(item)?;

@@ -1,6 +1,5 @@
 //! Why no value was read.
 
-use json::Invalid;
 use std::alloc::{AllocError, AllocFailed};
 
 /// Why nothing was read.
@@ -8,17 +7,6 @@ use std::alloc::{AllocError, AllocFailed};
 pub(crate) enum Unread {
     NotJson,
     Memory,
-}
-
-impl From<Invalid> for Unread {
-    ghost use Rattle.std.specs.Prelude.{◌≡◌};
-    ghost use Rattle.canvas_sig.specs.declared.unread.Unread.TheVariants.{NotJson};
-
-    ghost from_gives = { λ _ e. e ≡ NotJson };
-
-    fn from(_invalid: Invalid) -> Unread {
-        Unread::NotJson
-    }
 }
 
 impl From<AllocError> for Unread {

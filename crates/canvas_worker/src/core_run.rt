@@ -204,9 +204,10 @@ impl Core {
         }
     }
 
-    /// The answer to what isn't a take, for which no task is called.
+    /// The answer to what is neither a take nor an acknowledgement, for which no task is called.
     fn go_on<B: Book>(&mut self, alloc: Global, book: &B, reply: &Reply) -> Result<(), Memory>
         requires asks { asked self.old.left ≢ to_queue take }
+        requires holds { self.old.left ≢ acking }
         requires suits { suits (shown self.old.task (asked self.old.left)) reply.now ≡ true }
         requires in_range { FoundInRange reply.now }
         ensures ok { OnOk result ((behaviour : Behaviour)
@@ -215,15 +216,11 @@ impl Core {
         ensures memory { OnErr result (Grows reply.now) }
     {
         match mem::replace(&mut self.phase, Phase::Failed) {
-            Phase::Taking => unreachable!(),
+            Phase::Taking | Phase::Acking => unreachable!(),
             Phase::Resting => self.set(rested(reply)),
             Phase::Over => self.set(Phase::Failed),
             Phase::Failed => self.set(Phase::Failed),
             Phase::Owning(owned) => self.keep(owned.answered(reply)),
-            Phase::Acking => {
-                self.kept = None;
-                self.set(acknowledged(reply));
-            }
             Phase::Storing(storing) => self.set(storing.answered(reply)),
             Phase::Publishing(publishing) => self.set(publishing.answered(reply)),
             Phase::Returning(part) => self.set(returned(alloc, book, part, reply)),

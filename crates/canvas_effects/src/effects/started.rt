@@ -188,7 +188,7 @@ fn first_message(
 }
 
 /// The place of a member, where the end of the whole goes to another.
-fn member_place(
+pub(super) fn member_place(
     alloc: Global,
     end: &FrozenEnd,
     place: &Option<Destination>,
@@ -218,7 +218,10 @@ fn member_place(
 
 /// The members of a group or chord. It is a function for its contract's sake: each of them can
 /// stand where its end goes.
-fn standing_members<'a>(end: &'a FrozenEnd, place: &Option<Destination>) -> &'a [FrozenLine]
+pub(super) fn standing_members<'a>(
+    end: &'a FrozenEnd,
+    place: &Option<Destination>,
+) -> &'a [FrozenLine]
     requires { can_stand (p_end_view end.now) (place_or place.now) ≡ true }
     ensures value { result.now ≡ (out-FrozenEnd end.now).members }
     ensures stand { AllStand (member_place (p_end_view end.now) (place_or place.now))

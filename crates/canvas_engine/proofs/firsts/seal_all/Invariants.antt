@@ -7,5 +7,5 @@ use Rattle.canvas_engine.proofs.firsts.seal_all.Given as goal
 -- the envelopes so far with those that are still to come; and the messages so far read back
 abbrev pub invariant-loop-message : goal.invariant-loop-message
 invariant-loop-message l =
-    (l.envelopes.items ++ map sealed l.message-iterator.rest.items ≡ map sealed l.fn.messages.items) ×
+    (l.envelopes.items ++ map sealed l.message-iterator.rest.items ≡ l.fn.envelopes.items ++ map sealed l.fn.messages.items) ×
     (Each ReadsAs l.message-iterator.rest.items → Each ReadsAs l.fn.messages.items)

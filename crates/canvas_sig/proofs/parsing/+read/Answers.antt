@@ -81,7 +81,7 @@ read_items-items-preserved t c =
     let v = c.in_ok-item.item in
     let r = c.read_value.new.reader in
     let long = ap length going.1 in
-    let less : length r < length l.reader = omega (arith, long, done.shorter) in
+    let less : length r < length l.reader = omega (arith, long, done.not_longer) in
     let turn = item_read p n l.reader r (view v) (omega (arith, l.invariant.1, less)) going.0 (ap (λ ts. converted of_json (p ts)) going.1 ∙ done.ok) in (
       n - 1,
       omega (arith, l.invariant.1, less),
@@ -150,7 +150,7 @@ read_members-members-preserved t c =
     let v = c.in_ok-member.member in
     let r = c.read_value.new.reader in
     let less = read_key-shorter l.reader (Some k) s named in
-    let lesser = done.shorter in
+    let lesser = done.not_longer in
     let long = ap length first in
     let e : Named = (c.in-Some.name, v) in (
       n - 1,

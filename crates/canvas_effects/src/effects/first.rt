@@ -1,0 +1,126 @@
+//! The messages that a run begins with, a line's after another's.
+
+ghost use Rattle.std.specs.Prelude.{◌≡◌, ◌∷◌, ◌==◌, [], false, length, map, IfOk, IfSome, MatchOption, None, true};
+ghost use Rattle.canvas_semantics.specs.PlacedLine.{p_nowhere};
+ghost use Rattle.canvas_rewrite.specs.FrozenView.{p_end_view, p_line_view};
+ghost use Rattle.canvas_rewrite.specs.declared.frozen.FrozenEnd.{out-FrozenEnd};
+ghost use Rattle.canvas_effects.specs.Carrying.{AllStand, can_stand};
+ghost use Rattle.canvas_effects.specs.Effects.{first_messages};
+ghost use Rattle.canvas_effects.specs.Flowing.{no_input};
+ghost use Rattle.canvas_effects.specs.Portions.{together, portions};
+ghost use Rattle.canvas_effects.specs.steps.Walks.{started};
+
+use super::started::{member_place, standing_members, start_line};
+use crate::destination::Destination;
+use crate::destinations::share_destination;
+use crate::input::Input;
+use canvas_message::Message;
+use canvas_rewrite::{FrozenEnd, FrozenLine, Plan};
+use canvas_task::Memory;
+use std::alloc::{AllocError, Global};
+use std::marker::Model;
+use std::slice::from_ref;
+
+/// What `first_messages` answers, a portion at a time: of each member of the group or chord that a
+/// plan begins with, or of the whole line of any other plan. Who seals a portion before it takes
+/// the next never has all messages beside all letters. Contracts see the portions that are left.
+#[derive(Drop)]
+pub struct FirstMessages<'p> {
+    /// The lines that aren't begun.
+    lines: &'p [FrozenLine],
+    /// Where their ends go.
+    place: Option<Destination>,
+}
+
+impl<'p> Model for FirstMessages<'p> {
+    ghost use Rattle.std.specs.Prelude.{List, map};
+    ghost use Rattle.std.specs.Coded.{coded_list};
+    ghost use Rattle.canvas_rewrite.specs.FrozenView.{p_line_view, place_or};
+    ghost use Rattle.canvas_message.specs.Content.{Content};
+    ghost use Rattle.canvas_message.specs.codes.ContentCode.{content_code};
+    ghost use Rattle.canvas_effects.specs.Carrying.{AllStand};
+    ghost use Rattle.canvas_effects.specs.Portions.{portions};
+
+    ghost Value = { List (List Content) };
+
+    ghost coded = { coded_list (coded_list content_code) };
+
+    ghost view = { λ f. portions (map p_line_view f.lines.now) (place_or f.place) };
+
+    ghost invariant = { λ f. AllStand (place_or f.place) (map p_line_view f.lines.now) };
+}
+
+/// The header that a plan begins with, where it begins with one that has members.
+fn header_first(plan: &Plan) -> Option<&FrozenEnd>
+    ensures members { IfSome result
+        (λ e. (length (out-FrozenEnd e.now).members == 0) ≡ false) }
+    ensures stand { IfSome result (λ e. can_stand (p_end_view e.now) p_nowhere ≡ true) }
+    ensures value { IfSome result
+        (λ e. started (p_end_view e.now) no_input p_nowhere None ≡ first_messages plan.now) }
+{
+    let line = plan.line();
+    match &line.tail {
+        Some(end) => {
+            if line.tasks.get().is_empty() && !end.members.get().is_empty() {
+                Some(end)
+            } else {
+                None
+            }
+        }
+        None => None,
+    }
+}
+
+/// A plan's line, alone.
+fn whole_line(plan: &Plan) -> &[FrozenLine]
+    ensures stand { AllStand p_nowhere (map p_line_view result.now) }
+    ensures value { together (portions (map p_line_view result.now) p_nowhere)
+        ≡ first_messages plan.now }
+{
+    from_ref(plan.line())
+}
+
+/// The members of a header, begun from nothing.
+fn of_header<'p>(alloc: Global, end: &'p FrozenEnd) -> Result<FirstMessages<'p>, AllocError>
+    requires members { (length (out-FrozenEnd end.now).members == 0) ≡ false }
+    requires stand { can_stand (p_end_view end.now) p_nowhere ≡ true }
+    ensures { IfOk result
+        (λ f. together f ≡ started (p_end_view end.now) no_input p_nowhere None) }
+{
+    let lines = standing_members(end, &None);
+    let place = member_place(alloc, end, &None)?;
+    let place = Some(Destination::written(alloc, place, &None)?);
+    Ok(FirstMessages { lines, place })
+}
+
+impl<'p> FirstMessages<'p> {
+    /// All portions of a plan.
+    pub fn of(alloc: Global, plan: &'p Plan) -> Result<FirstMessages<'p>, Memory>
+        ensures { IfOk result (λ f. together f ≡ first_messages plan.now) }
+    {
+        match header_first(plan) {
+            Some(end) => Ok(of_header(alloc, end)?),
+            None => Ok(FirstMessages {
+                lines: whole_line(plan),
+                place: None,
+            }),
+        }
+    }
+
+    /// The next portion, or none where all were taken. Where memory is refused nothing is lost.
+    pub fn next(&mut self, alloc: Global) -> Result<Option<Vec<Message>>, Memory>
+        ensures { IfOk result (λ o. MatchOption o (self.old ≡ [])
+            (λ messages. self.old ≡ messages.items ∷ self.new)) }
+    {
+        match self.lines.split_first() {
+            Some((line, others)) => {
+                let place = share_destination(&self.place)?;
+                let mut messages = Vec::with_capacity(alloc, 1)?;
+                start_line(alloc, line, place, &Input::Nothing, &None, &mut messages)?;
+                self.lines = others;
+                Ok(Some(messages))
+            }
+            None => Ok(None),
+        }
+    }
+}

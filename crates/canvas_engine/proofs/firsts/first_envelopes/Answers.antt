@@ -1,0 +1,11 @@
+use Rattle.std.proofs.Common.{◌∙◌, ap}
+use Rattle.canvas_engine.proofs.Portions.{portion_sealed, portion_read}
+use Rattle.canvas_engine.specs.steps.Stages.{ReadsAs}
+use Rattle.canvas_engine.proofs.firsts.first_envelopes.Goals as goal
+
+pub portions-preserved : goal.portions-preserved
+portions-preserved c =
+    let l = c.portions in (
+      portion_sealed l.envelopes.items _ _ l.firsts c.next.new.self _ l.invariant.0 c.in-Some.is c.in_ok-seal_all.ensures.value,
+      portion_read ReadsAs l.firsts _ c.next.new.self l.invariant.1 c.in-Some.is c.in_ok-seal_all.ensures.back,
+    )
