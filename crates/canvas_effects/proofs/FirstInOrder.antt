@@ -12,7 +12,7 @@ use Rattle.canvas_rewrite.specs.FrozenView.{p_steps, p_task_view, p_line_view, p
 use Rattle.canvas_message.specs.Content.{Content, number_of}
 use Rattle.canvas_message.specs.Fits.{how_many}
 use Rattle.canvas_effects.specs.Carrying.{is_whole, can_stand, AllStand}
-use Rattle.canvas_effects.specs.Effects.{enter, enter_all, first_messages, messages_in, part_of, when_empty}
+use Rattle.canvas_effects.specs.Effects.{Jobs, enter, enter_all, first_messages, messages_in, part_of, when_empty}
 use Rattle.canvas_effects.specs.Flowing.{Input, no_input, list_input, run}
 use Rattle.canvas_effects.specs.Placing.{end_place, placed}
 use Rattle.canvas_effects.specs.Portions.{portions, together}
@@ -26,7 +26,7 @@ use Rattle.canvas_effects.proofs.Standing.{stands_there}
 
 -- ---- numbers that rise, from a bound on and below another
 
-Rising : ℕ → ℕ → List Content → Type 0
+abbrev Rising : ℕ → ℕ → List Content → Type 0
 Rising low high [] = low ≤ high
 Rising low high (m ∷ ms) = (low ≤ number_of m.own) × Rising (suc (number_of m.own)) high ms
 
@@ -56,6 +56,12 @@ step_rises : (t : Task) (p : PPlace) (l : Line) (x : Input) (k : ℕ) (u : Optio
 step_rises (task n call ls es) p l x k u low middle high h more =
     (h.0, omega (arith, tasks_span ls (suc n) h.1 h.2, tasks_span es h.1 middle h.3, more))
 
+-- what a header with no member begins
+body_rises : (ms : Lines) (js : Jobs) (low high : ℕ) → low ≤ high → Rising low high (messages_in js)
+    → Rising low high (messages_in (when_empty (all_bare ms) js))
+body_rises no_lines js low high l h = h
+body_rises (and_line m ms) js low high l h = l
+
 module _ (table : ℕ → List ℕ) where
   mutual
     line_rises : (l : Line) (x : Input) (p : PPlace) (k : ℕ) (u : Option ℕ) (low high : ℕ) → LineIn table l low high
@@ -67,12 +73,8 @@ module _ (table : ℕ → List ℕ) where
         let inner : PPlace = p_chord g (how_many (all_bare ms)) (placed p (bare b)) in
         subst (Rising low high)
         (sym (messages_on (enter_all (all_bare ms) (run x) inner u) (when_empty (all_bare ms) (enter (bare b) (run (list_input [])) p 0 u))))
-        (rising_on low h.0 high _ _ (lines_rise ms x inner u low h.0 h.1) (body_rises ms b p u h.0 high h.2))
-
-    body_rises : (ms : Lines) (b : Line) (p : PPlace) (u : Option ℕ) (low high : ℕ) → LineIn table b low high
-        → Rising low high (messages_in (when_empty (all_bare ms) (enter (bare b) (run (list_input [])) p 0 u)))
-    body_rises no_lines b p u low high h = line_rises b (list_input []) p 0 u low high h
-    body_rises (and_line m ms) b p u low high h = line_span table b low high h
+        (rising_on low h.0 high _ _ (lines_rise ms x inner u low h.0 h.1)
+        (body_rises ms _ h.0 high (line_span table b h.0 high h.2) (line_rises b (list_input []) p 0 u h.0 high h.2)))
 
     lines_rise : (ms : Lines) (x : Input) (p : PPlace) (u : Option ℕ) (low high : ℕ) → LinesIn table ms low high
         → Rising low high (messages_in (enter_all (all_bare ms) (run x) p u))
@@ -112,5 +114,31 @@ header_begins e p ms same some its =
     by_body None none = group_started e no_input p_nowhere None ms none same
     by_body (Some b) is = begun_header e b no_input p_nowhere None ms is same some
 
-pub plan_can_stand : (l : Line) → is_whole (bare l) ≡ true → can_stand (bare l) p_nowhere ≡ true
+plan_can_stand : (l : Line) → is_whole (bare l) ≡ true → can_stand (bare l) p_nowhere ≡ true
 plan_can_stand l whole = ap (can_stand (bare l)) (sym (bare_place l)) ∙ stands_there (bare l) whole
+
+line_stands : (l : Line) (v : PLine) → v ≡ bare l → is_whole (bare l) ≡ true → can_stand v p_nowhere ≡ true
+line_stands l v same whole = ap (λ w. can_stand w p_nowhere) same ∙ plan_can_stand l whole
+
+-- a line alone
+pub alone_stands : (l : Line) (f : FrozenLine) (ls : List FrozenLine) → p_line_view f ≡ bare l → is_whole (bare l) ≡ true → ls ≡ f ∷ []
+    → AllStand p_nowhere (map p_line_view ls)
+alone_stands l f ls same whole is = subst (λ xs. AllStand p_nowhere (map p_line_view xs)) (sym is) (line_stands l (p_line_view f) same whole, tt)
+
+pub alone_begins : (table : ℕ → List ℕ) (l : Line) (low high : ℕ) (f : FrozenLine) (ls : List FrozenLine) → p_line_view f ≡ bare l → LineIn table l low high
+    → ls ≡ f ∷ []
+    → together (portions (map p_line_view ls) p_nowhere) ≡ first_messages l
+alone_begins table l low high f ls same order is =
+    ap (λ xs. together (portions (map p_line_view xs) p_nowhere)) is ∙ append-nil (started (p_line_view f) no_input p_nowhere None)
+    ∙ ap (λ v. started v no_input p_nowhere None) same ∙ first_started table l low high order
+
+-- a group or chord that a line begins with
+pub end_stands : (l : Line) (f : FrozenLine) (e : FrozenEnd) → p_end_view e ≡ p_line_view f → p_line_view f ≡ bare l → is_whole (bare l) ≡ true
+    → can_stand (p_end_view e) p_nowhere ≡ true
+end_stands l f e begins same whole = line_stands l (p_end_view e) (begins ∙ same) whole
+
+pub end_begins : (table : ℕ → List ℕ) (l : Line) (low high : ℕ) (f : FrozenLine) (e : FrozenEnd) → p_end_view e ≡ p_line_view f → p_line_view f ≡ bare l
+    → LineIn table l low high
+    → started (p_end_view e) no_input p_nowhere None ≡ first_messages l
+end_begins table l low high f e begins same order =
+    ap (λ v. started v no_input p_nowhere None) (begins ∙ same) ∙ first_started table l low high order
