@@ -96,7 +96,8 @@ portions_together [] p = refl
 portions_together (l ∷ ls) p = ap (λ ms. started l no_input p None ++ ms) (portions_together ls p)
 
 -- a line of which nothing stands in front of its group or chord
-pub begins_there : (l : FrozenLine) (ts : List FrozenTask) (b : Box FrozenEnd Global) (e : FrozenEnd) → ts ≡ (out-FrozenLine l).tasks → length ts ≡ 0
+pub begins_there : (l : FrozenLine) (ts : List FrozenTask) (b : Box FrozenEnd Global) (e : FrozenEnd) → ts ≡ (out-FrozenLine l).tasks
+    → length ts ≡ 0
     → (out-FrozenLine l).tail ≡ Some b → e ≡ b.value
     → p_end_view e ≡ p_line_view l
 begins_there l [] b e same few some its =
@@ -104,7 +105,8 @@ begins_there l [] b e same few some its =
 begins_there l (t ∷ ts) b e same few some its = absurd cc
 
 -- a header that has members, begun from nothing
-pub header_begins : (e : FrozenEnd) (p : PPlace) (ms : List FrozenLine) → ms ≡ (out-FrozenEnd e).members → (length ms == 0) ≡ false → p ≡ member_place (p_end_view e) p_nowhere
+pub header_begins : (e : FrozenEnd) (p : PPlace) (ms : List FrozenLine) → ms ≡ (out-FrozenEnd e).members → (length ms == 0) ≡ false
+    → p ≡ member_place (p_end_view e) p_nowhere
     → together (portions (map p_line_view ms) p) ≡ started (p_end_view e) no_input p_nowhere None
 header_begins e p ms same some its =
     portions_together (map p_line_view ms) p ∙ ap (λ q. all_started (map p_line_view ms) no_input q None) its ∙ by_body (out-FrozenEnd e).body refl
