@@ -126,16 +126,20 @@ fn push_said<'w>(out: &mut String, plan: &Plan, entry: &str) -> Result<(), Refus
     Ok(())
 }
 
+fn push_list<'w>(out: &mut String, plan: &Plan, list: &str) -> Result<(), Refusal<'w>> {
+    if list == "all" {
+        return Ok(push_all(out, plan)?);
+    }
+    for entry in list.split(',') {
+        push_said(out, plan, entry)?;
+    }
+    Ok(())
+}
+
 /// A list with numbers in place of names.
 fn numbered<'w>(alloc: Global, plan: &Plan, list: &str) -> Result<String, Refusal<'w>> {
     let mut out = String::new(alloc);
-    if list == "all" {
-        push_all(&mut out, plan)?;
-        return Ok(out);
-    }
-    for entry in list.split(',') {
-        push_said(&mut out, plan, entry)?;
-    }
+    push_list(&mut out, plan, list)?;
     Ok(out)
 }
 

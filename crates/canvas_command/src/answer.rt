@@ -108,24 +108,21 @@ impl<'w> Answer<'w> {
     /// program was refused or can't print, 2 where it ended early, and 3 where that is asked for
     /// and the canvas's result is a failure.
     pub fn print<W: Write, E: Write>(&self, out: &mut W, err: &mut E) -> u8 {
-        let written = write_bytes(out, &self.out);
+        let is_written = write_bytes(out, &self.out).is_ok();
         match &self.refusal {
             Some(refusal) => refusal.print(err),
-            None => match written {
-                Ok(()) => self.print_remark(err),
-                Err(_) => Refusal::CannotWrite.print(err),
-            },
+            None if is_written => self.print_remark(err),
+            None => Refusal::CannotWrite.print(err),
         }
     }
 
     fn print_remark<E: Write>(&self, err: &mut E) -> u8 {
-        match &self.remark {
-            None => self.status,
-            Some(remark) => match write_and_flush(err, remark) {
-                Ok(()) => self.status,
-                Err(_) => Refusal::CannotWrite.print(err),
-            },
+        if let Some(remark) = &self.remark
+            && write_and_flush(err, remark).is_err()
+        {
+            return Refusal::CannotWrite.print(err);
         }
+        self.status
     }
 }
 

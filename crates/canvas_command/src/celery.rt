@@ -21,55 +21,80 @@ use std::alloc::Global;
 use std::io::Read;
 use std::rt::Files;
 
-/// The commands for Redis that start a canvas, and what of it they ignore.
-pub(crate) fn answer_export<'w>(
-    alloc: Global,
-    run: &Run,
-    target: &Target<'_>,
-    text: &[u8],
-) -> Result<Answer<'w>, Refusal<'w>> {
-    let start = start_of(alloc, run, target, text)?;
-    let remark = ignored_remark(alloc, text)?;
-    Ok(Answer::whole(start).with_remark(remark))
+/// What is asked for of a run on Celery's own workers.
+#[derive(Clone, Copy, Drop)]
+pub(crate) enum OnCelery<'w> {
+    /// Its start, as commands for Redis.
+    Export(Target<'w>),
+    /// The keys of its results on Redis.
+    Keys { prefix: &'w str },
+    /// The report of the results that Celery's workers stored.
+    Collect(Collecting),
 }
 
-fn start_of<'w>(
-    alloc: Global,
-    run: &Run,
-    target: &Target<'_>,
-    text: &[u8],
-) -> Result<Vec<u8>, Refusal<'w>> {
-    let plan = plan_of(alloc, text)?;
-    Ok(export(alloc, &plan, run, target)?)
+/// How stored results are reported.
+#[derive(Clone, Copy, Drop)]
+pub(crate) struct Collecting {
+    /// Whether the report also has the tasks that a failure reaches.
+    pub(crate) completes: bool,
+    pub(crate) manner: Manner,
 }
 
-/// The keys of a canvas's results, a line each.
-pub(crate) fn answer_keys<'w>(
-    alloc: Global,
-    run: &Run,
-    prefix: &str,
-    text: &[u8],
-) -> Result<Answer<'w>, Refusal<'w>> {
-    let plan = plan_of(alloc, text)?;
-    Ok(Answer::whole(keys(alloc, &plan, run, prefix)?))
-}
-
-/// The report of a canvas from the results that the input gives.
-pub(crate) fn answer_collect<'w, S, R: Read>(
+/// What is asked for of a canvas's run, whose results the input gives.
+pub(crate) fn answer_celery<'w, S, R: Read>(
     rt: &S,
     run: &Run,
-    completes: bool,
-    manner: Manner,
+    asked: OnCelery<'w>,
     text: &[u8],
     input: &mut R,
 ) -> Result<Answer<'w>, Refusal<'w>>
 where
     S: Files + AllocGlobal,
 {
-    let alloc = rt.alloc();
-    let plan = plan_of(alloc, text)?;
+    let plan = plan_of(rt.alloc(), text)?;
+    match asked {
+        OnCelery::Export(target) => answer_export(rt.alloc(), &plan, run, &target, text),
+        OnCelery::Keys { prefix } => answer_keys(rt.alloc(), &plan, run, prefix),
+        OnCelery::Collect(collecting) => answer_collect(rt, &plan, run, collecting, input),
+    }
+}
+
+/// The commands for Redis that start a canvas, and what of it they ignore.
+fn answer_export<'w>(
+    alloc: Global,
+    plan: &Plan,
+    run: &Run,
+    target: &Target<'_>,
+    text: &[u8],
+) -> Result<Answer<'w>, Refusal<'w>> {
+    let start = export(alloc, plan, run, target)?;
+    let remark = ignored_remark(alloc, text)?;
+    Ok(Answer::whole(start).with_remark(remark))
+}
+
+/// The keys of a canvas's results, a line each.
+fn answer_keys<'w>(
+    alloc: Global,
+    plan: &Plan,
+    run: &Run,
+    prefix: &str,
+) -> Result<Answer<'w>, Refusal<'w>> {
+    Ok(Answer::whole(keys(alloc, plan, run, prefix)?))
+}
+
+/// The report of a canvas from the results that the input gives.
+fn answer_collect<'w, S, R: Read>(
+    rt: &S,
+    plan: &Plan,
+    run: &Run,
+    collecting: Collecting,
+    input: &mut R,
+) -> Result<Answer<'w>, Refusal<'w>>
+where
+    S: Files + AllocGlobal,
+{
     let results = results_of(rt, "-", input)?;
-    answer_results(alloc, &plan, run, completes, manner, &results)
+    answer_results(rt.alloc(), plan, run, collecting, &results)
 }
 
 /// The report that these results give.
@@ -77,17 +102,27 @@ fn answer_results<'w>(
     alloc: Global,
     plan: &Plan,
     run: &Run,
-    completes: bool,
-    manner: Manner,
+    collecting: Collecting,
     results: &[u8],
 ) -> Result<Answer<'w>, Refusal<'w>> {
+    let Collecting { completes, manner } = collecting;
     match collected(alloc, plan, run, results, completes)? {
         Some(report) => manner.untold(alloc, plan, &report),
-        None => {
-            let rows = stored_rows(alloc, plan, run, results, completes)?;
-            answer_rows(alloc, plan, &rows, manner.form)
-        }
+        None => answer_stored(alloc, plan, run, collecting, results),
     }
+}
+
+/// The same where the tasks may have returned or raised anything.
+fn answer_stored<'w>(
+    alloc: Global,
+    plan: &Plan,
+    run: &Run,
+    collecting: Collecting,
+    results: &[u8],
+) -> Result<Answer<'w>, Refusal<'w>> {
+    let Collecting { completes, manner } = collecting;
+    let rows = stored_rows(alloc, plan, run, results, completes)?;
+    answer_rows(alloc, plan, &rows, manner.form)
 }
 
 /// The report of rows of any kind.

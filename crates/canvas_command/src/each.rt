@@ -43,6 +43,10 @@ fn object_text<'w, T: Tasks>(
     source: &Source<'_, T>,
 ) -> Result<String, Refusal<'w>> {
     let text = source.json_of(alloc, plans, report)?;
+    object_of_lines(alloc, &text)
+}
+
+fn object_of_lines<'w>(alloc: Global, text: &str) -> Result<String, Refusal<'w>> {
     let lines: Vec<&str> = text.lines().collect(alloc)?;
     let mut object = String::new(alloc);
     if let Some((canvas, rows)) = lines.split_last() {
@@ -62,8 +66,22 @@ where
     T: Tasks + Sync,
 {
     let plans = Plans::of(rt.alloc(), source)?;
+    ran_by(rt, workers, &plans, source)
+}
+
+/// The same of a run by these plans.
+fn ran_by<'w, S, T>(
+    rt: &S,
+    workers: u32,
+    plans: &Plans,
+    source: &Source<'_, T>,
+) -> Result<(String, bool), Refusal<'w>>
+where
+    S: Threads + Wait + RandomSource + AllocGlobal + Sync,
+    T: Tasks + Sync,
+{
     let report = report_of(rt, plans.run(), source.tasks, workers)?;
-    let object = object_text(rt.alloc(), &plans, &report, source)?;
+    let object = object_text(rt.alloc(), plans, &report, source)?;
     Ok((object, is_failure(&plans.shown, &report)))
 }
 

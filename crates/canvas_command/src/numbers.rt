@@ -56,11 +56,9 @@ fn add_number<'w>(
         let why = "the number is there twice";
         return Err(Refusal::BadNumber { text, why });
     }
-    let stub = stub_of(alloc, text, stands)?;
-    push_error(alloc, &mut answers.errors, text)?;
     answers.renames.push(rename)?;
-    answers.stubs.push(stub)?;
-    Ok(())
+    answers.stubs.push(stub_of(alloc, text, stands)?)?;
+    Ok(push_error(alloc, &mut answers.errors, text)?)
 }
 
 /// Adds what the tasks of numbers answer.

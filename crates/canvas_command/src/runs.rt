@@ -13,6 +13,7 @@ use canvas_engine::{
 use canvas_rewrite::{Plan, node_of, normalise};
 use canvas_sig::{Canvas, read_canvas, write_node};
 use canvas_task::{Memory, TaskNo, Tasks};
+use canvas_values::Node;
 use std::alloc::Global;
 use std::random::RandomSource;
 use std::sync::Wait;
@@ -47,18 +48,46 @@ where
     S: Threads + Wait + RandomSource + AllocGlobal + Sync,
     T: Tasks + Sync,
 {
+    if manner.is_plain() && source.is_plain() {
+        return answer_plain(rt, workers, source);
+    }
+    let plans = Plans::of(rt.alloc(), source)?;
+    answer_plans(rt, workers, manner, &plans, source)
+}
+
+/// The report of a run by these plans.
+fn answer_plans<'w, S, T>(
+    rt: &S,
+    workers: u32,
+    manner: Manner,
+    plans: &Plans,
+    source: &Source<'_, T>,
+) -> Result<Answer<'w>, Refusal<'w>>
+where
+    S: Threads + Wait + RandomSource + AllocGlobal + Sync,
+    T: Tasks + Sync,
+{
+    match report_of(rt, plans.run(), source.tasks, workers) {
+        Ok(report) => manner.whole(rt.alloc(), plans, &report, source),
+        Err(fault) => Ok(manner.early(rt.alloc(), plans, source, fault)),
+    }
+}
+
+/// The report of a run of a text, as it is printed where nothing else is asked for.
+fn answer_plain<'w, S, T>(
+    rt: &S,
+    workers: u32,
+    source: &Source<'_, T>,
+) -> Result<Answer<'w>, Refusal<'w>>
+where
+    S: Threads + Wait + RandomSource + AllocGlobal + Sync,
+    T: Tasks + Sync,
+{
     let alloc = rt.alloc();
     let (text, tasks) = (source.text, source.tasks);
-    if manner.is_plain() && source.is_plain() {
-        return match run_text_threads(rt, alloc, text, tasks, workers, &OpenGate, &Stop::new()) {
-            Ok(report) => Ok(Answer::whole(report.into_bytes())),
-            Err(fault) => early(alloc, fault),
-        };
-    }
-    let plans = Plans::of(alloc, source)?;
-    match report_of(rt, plans.run(), tasks, workers) {
-        Ok(report) => manner.whole(alloc, &plans, &report, source),
-        Err(fault) => Ok(manner.early(alloc, &plans, source, fault)),
+    match run_text_threads(rt, alloc, text, tasks, workers, &OpenGate, &Stop::new()) {
+        Ok(report) => Ok(Answer::whole(report.into_bytes())),
+        Err(fault) => early(alloc, fault),
     }
 }
 
@@ -111,26 +140,17 @@ impl ByTurns<'_> {
         }
     }
 
-    fn answer<'w, T: Tasks>(
+    /// The same, with what is delivered again by names where there is a list of these.
+    fn shown_named<'w, T: Tasks>(
         &self,
         alloc: Global,
+        names: Option<&str>,
+        plans: &Plans,
         source: &Source<'_, T>,
     ) -> Result<Answer<'w>, Refusal<'w>> {
-        if self.manner.is_plain() && source.is_plain() {
-            return self.plain(alloc, source);
-        }
-        let plans = Plans::of(alloc, source)?;
-        self.shown(alloc, &plans, source)
-    }
-
-    /// The same, with what is delivered again by names.
-    fn answer_named<'w, T: Tasks>(
-        &self,
-        alloc: Global,
-        list: &str,
-        source: &Source<'_, T>,
-    ) -> Result<Answer<'w>, Refusal<'w>> {
-        let plans = Plans::of(alloc, source)?;
+        let Some(list) = names else {
+            return self.shown(alloc, plans, source);
+        };
         let again = named_entries(alloc, &plans.shown, list)?;
         let by = ByTurns {
             workers: self.workers,
@@ -139,7 +159,20 @@ impl ByTurns<'_> {
             counts: true,
             manner: self.manner,
         };
-        by.shown(alloc, &plans, source)
+        by.shown(alloc, plans, source)
+    }
+
+    fn answer<'w, T: Tasks>(
+        &self,
+        alloc: Global,
+        names: Option<&str>,
+        source: &Source<'_, T>,
+    ) -> Result<Answer<'w>, Refusal<'w>> {
+        if names.is_none() && self.manner.is_plain() && source.is_plain() {
+            return self.plain(alloc, source);
+        }
+        let plans = Plans::of(alloc, source)?;
+        self.shown_named(alloc, names, &plans, source)
     }
 }
 
@@ -160,31 +193,41 @@ pub(crate) fn answer_turns<'w, T: Tasks>(
         manner,
     };
     match again {
-        Again::Nothing => once.answer(alloc, source),
+        Again::Nothing => once.answer(alloc, None, source),
         Again::Entries(entries) => {
             let by = ByTurns {
                 again: entries,
                 counts: true,
                 ..once
             };
-            by.answer(alloc, source)
+            by.answer(alloc, None, source)
         }
-        Again::Named(list) => once.answer_named(alloc, list, source),
+        Again::Named(list) => once.answer(alloc, Some(list), source),
     }
 }
 
-/// The normal line of a canvas.
+/// The normal line of a canvas as JSON, with a line feed.
 pub(crate) fn answer_normal<'w>(alloc: Global, text: &[u8]) -> Result<Answer<'w>, Refusal<'w>> {
     let canvas = read_canvas(alloc, text)?;
-    Ok(Answer::whole(line_text(alloc, &canvas)?.into_bytes()))
+    answer_line(alloc, &canvas)
 }
 
-/// The normal line of a canvas as JSON, with a line feed.
-fn line_text(alloc: Global, canvas: &Canvas) -> Result<String, Memory> {
-    let line = normalise(alloc, canvas)?;
-    let mut text = write_node(alloc, &node_of(alloc, &line)?)?;
+fn answer_line<'w>(alloc: Global, canvas: &Canvas) -> Result<Answer<'w>, Refusal<'w>> {
+    let mut text = line_json(alloc, canvas)?;
     text.push('\n')?;
-    Ok(text)
+    Ok(Answer::whole(text.into_bytes()))
+}
+
+/// The normal line of a canvas, as a signature.
+fn line_node(alloc: Global, canvas: &Canvas) -> Result<Node, Memory> {
+    let line = normalise(alloc, canvas)?;
+    node_of(alloc, &line)
+}
+
+/// The normal line of a canvas as JSON.
+fn line_json(alloc: Global, canvas: &Canvas) -> Result<String, Memory> {
+    let node = line_node(alloc, canvas)?;
+    write_node(alloc, &node)
 }
 
 /// Why a text has no whole report, and what its run stored, where there is memory for it.

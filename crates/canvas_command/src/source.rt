@@ -185,8 +185,22 @@ impl<'a, T: Tasks> Source<'a, T> {
     ) -> Result<Vec<Foreseen<'c>>, Memory> {
         let forecasts = forecasts(alloc, canvas, self.tasks)?;
         let tasks = tasks_in(alloc, canvas)?;
+        self.foreseen_by(alloc, &forecasts, &tasks)
+    }
+
+    /// The same where these are the forecasts, and the tasks among the signatures.
+    fn foreseen_by<'c>(
+        &self,
+        alloc: Global,
+        forecasts: &[Forecast],
+        tasks: &[Option<&'c TaskSig>],
+    ) -> Result<Vec<Foreseen<'c>>, Memory> {
         let mut found = Vec::new(alloc);
-        for (forecast, task) in forecasts.iter().zip(tasks.iter()) {
+        let mut left = tasks.iter();
+        for forecast in forecasts {
+            let Some(task) = left.next() else {
+                break;
+            };
             found.push(self.foreseen_of(alloc, *forecast, *task)?)?;
         }
         Ok(found)
@@ -203,7 +217,18 @@ impl<'a, T: Tasks> Source<'a, T> {
             return Ok(Vec::new(alloc));
         }
         let canvas = read_canvas(alloc, self.text)?;
-        let foreseen = self.all_foreseen(alloc, &canvas)?;
+        self.blamed_in_canvas(alloc, &canvas, report, fates)
+    }
+
+    /// The same of the canvas that was run.
+    fn blamed_in_canvas(
+        &self,
+        alloc: Global,
+        canvas: &Canvas,
+        report: &Report,
+        fates: &[(TaskNo, Fate)],
+    ) -> Result<Vec<(TaskNo, Option<String>)>, Refusal<'static>> {
+        let foreseen = self.all_foreseen(alloc, canvas)?;
         Ok(blamed_of(alloc, &foreseen, report, fates)?)
     }
 
@@ -220,10 +245,21 @@ impl<'a, T: Tasks> Source<'a, T> {
             fates: &fates,
             blamed: &blamed,
         };
+        self.json_told(alloc, plans, report, told)
+    }
+
+    /// The same where this is told of the run.
+    fn json_told<'w>(
+        &self,
+        alloc: Global,
+        plans: &Plans,
+        report: &Report,
+        told: Told<'_>,
+    ) -> Result<String, Refusal<'w>> {
         if self.errors.is_empty() {
             return Ok(rows_text(alloc, &plans.shown, report, told)?);
         }
-        let rows = self.named_rows(alloc, plans, report, &fates)?;
+        let rows = self.named_rows(alloc, plans, report, told.fates)?;
         Ok(stored_rows_text(alloc, &plans.shown, &rows, told)?)
     }
 }

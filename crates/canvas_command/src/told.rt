@@ -50,14 +50,24 @@ fn printed(alloc: Global, refusal: &Refusal<'_>) -> Result<String, AllocError> {
     format!(in alloc; "{refusal}")
 }
 
+/// The name of a refusal whose line has no more, and what is wanted.
+fn name_and_note(refusal: &Refusal<'_>) -> Option<(&'static str, &'static str)> {
+    match refusal {
+        Refusal::BadTurn => Some(("BadTurn", TURNS)),
+        Refusal::BadAgain => Some(("BadAgain", AGAIN)),
+        Refusal::Celery(CeleryRefusal::BadRun) => Some(("BadRun", RUN)),
+        _ => None,
+    }
+}
+
 /// What is printed of a refusal where JSON is asked for; nothing of one that is printed as ever.
 fn told_object(alloc: Global, refusal: &Refusal<'_>) -> Result<Option<String>, AllocError> {
+    if let Some((name, note)) = name_and_note(refusal) {
+        return Ok(Some(object(alloc, name, note)?));
+    }
     match refusal {
         Refusal::CannotRead { file, why } => Ok(Some(unread_object(alloc, file, *why)?)),
         Refusal::Canvas(fault) => Ok(Some(fault_json(alloc, *fault)?)),
-        Refusal::BadTurn => Ok(Some(object(alloc, "BadTurn", TURNS)?)),
-        Refusal::BadAgain => Ok(Some(object(alloc, "BadAgain", AGAIN)?)),
-        Refusal::Celery(CeleryRefusal::BadRun) => Ok(Some(object(alloc, "BadRun", RUN)?)),
         Refusal::Words(_) => Ok(Some(words_object(alloc, &printed(alloc, refusal)?)?)),
         _ => line_object(alloc, &printed(alloc, refusal)?),
     }
