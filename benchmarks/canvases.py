@@ -1,5 +1,6 @@
 """The canvases that are timed, as texts of JSON, each with its name. They are the same each time."""
 import json
+import random
 
 LENGTH = 1 << 20  # the most bytes that a canvas may have
 
@@ -89,38 +90,83 @@ def stages(count, width):
     return chain(tasks)
 
 
+def linked(length, links):
+    """A chain of tasks with so many links each."""
+    return chain(
+        call("add", *([1, 1] if i == 0 else [1]), link=[call("add", k) for k in range(links)])
+        for i in range(length)
+    )
+
+
+def bodied(count, length):
+    """A chord whose body is a sum and then a chain, with callbacks."""
+    links = [call("log_error")]
+    body = chain([call("xsum"), *(call("add", 1, link_error=links) for _ in range(length))])
+    return chord(sums(count), body)
+
+
+def after_one(count):
+    """A group behind a task."""
+    return chain([call("add", 1, 1), group(call("add", i) for i in range(count))])
+
+
+def carrying(count, length):
+    """Members that carry a body of so many numbers."""
+    return chord(sums(count), call("xsum", numbers(0, length), immutable=True))
+
+
 # What a user's canvases are of, at the sizes where a run's cost shows.
 KINDS = {
     "one task": lambda: call("add", 2, 2),
     "a chain of 200 tasks": lambda: line(200),
     "a chain of 1,000": lambda: line(1_000),
     "a group of 1,000": lambda: group(sums(1_000)),
-    "a task, then a group of 1,000": lambda: chain(
-        [call("add", 1, 1), group(call("add", i) for i in range(1_000))]
-    ),
+    "a task, then a group of 1,000": lambda: after_one(1_000),
     "a chord of 1,000 into a sum": lambda: chord(sums(1_000), call("xsum")),
     "300 chains of three into a sum": lambda: chord(
         [line(3) for _ in range(300)], call("xsum")
     ),
-    "a chord whose body is a chain": lambda: chord(
-        sums(300),
-        chain([call("xsum"), *(call("add", 1, link_error=[call("log_error")]) for _ in range(300))]),
-    ),
+    "a chord whose body is a chain": lambda: bodied(300, 300),
     "40 towers of six chords": lambda: chord([towers(6) for _ in range(40)], call("xsum")),
-    "a chain of 20, 50 links each": lambda: chain(
-        call("add", *([1, 1] if i == 0 else [1]), link=[call("add", k) for k in range(50)])
-        for i in range(20)
-    ),
+    "a chain of 20, 50 links each": lambda: linked(20, 50),
     "ten groups of one, each summed": lambda: stages(10, 1),
     "250 members, half of them failing": lambda: failing(250),
     "ten stages of 33 with callbacks": lambda: stages(10, 33),
     "16 chains of 60 tasks": lambda: group(line(60) for _ in range(16)),
     "16 chains of 60 heavy tasks": lambda: group(heavy_line(60, 190) for _ in range(16)),
     "a chain of 400 heavy tasks": lambda: heavy_line(400, 450),
-    "200 members that carry 600 KB": lambda: chord(
-        sums(200), call("xsum", numbers(0, 99_000), immutable=True)
-    ),
+    "200 members that carry 600 KB": lambda: carrying(200, 99_000),
 }
+
+
+def chosen(seed):
+    """A canvas of each kind but the first, whose size is from chance between a half of what it has
+    there and the whole: of a seed the same each time."""
+
+    def size(most):
+        return chance.randint((most + 1) // 2, most)
+
+    chance = random.Random(seed)
+    made = [
+        line(size(200)),
+        line(size(1_000)),
+        group(sums(size(1_000))),
+        after_one(size(1_000)),
+        chord(sums(size(1_000)), call("xsum")),
+        chord([line(3) for _ in range(size(300))], call("xsum")),
+        bodied(size(300), size(300)),
+        chord([towers(6) for _ in range(size(40))], call("xsum")),
+        linked(size(20), size(50)),
+        stages(size(10), 1),
+        failing(size(250)),
+        stages(size(10), size(33)),
+        group(line(60) for _ in range(size(16))),
+        group(heavy_line(60, 190) for _ in range(size(16))),
+        heavy_line(size(400), 450),
+        carrying(size(200), size(99_000)),
+    ]
+    return {f"smaller: {name}": lambda it=it: it for name, it in zip(list(KINDS)[1:], made)}
+
 
 # Canvases of one kind with ever more tasks.
 GROWING = {
