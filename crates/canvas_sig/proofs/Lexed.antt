@@ -152,6 +152,11 @@ head_taken [] n some = ap head (take_all n [] (omega arith))
 head_taken (x ∷ xs) zero some = absurd (omega arith)
 head_taken (x ∷ xs) (suc n) some = refl
 
+-- a number of any form
+pub at_numeral : (t : List ℕ) (n : ℕ) → IsNumber (take n t) → ends_word (drop n t) ≡ true
+    → lex between t ≡ token (number (take n t)) ∷ lex between (drop n t)
+at_numeral t n formed ended = ap (lex between) (sym (take-append-drop n t)) ∙ lex-number (take n t) (drop n t) formed ended
+
 pub at_number : (t : List ℕ) (n : ℕ) → n ≡ prefix_len is_ascii_digit t → 0 < n → (head t ≡ 48 → n ≤ 1) → ends_word (drop n t) ≡ true
     → lex between t ≡ token (number (take n t)) ∷ lex between (drop n t)
 at_number t n is some one ended =
@@ -159,7 +164,7 @@ at_number t n is some one ended =
     let all : prefix_len is_ascii_digit (take n t) ≡ n = subst (λ k. prefix_len is_ascii_digit (take k t) ≡ k) (sym is) (all_digits t) in
     let number = digits_number (take n t) (omega (arith, long, some)) (all ∙ sym long)
     (λ e. let few = one (sym (head_taken t n some) ∙ e) in omega (arith, long, few)) in
-    ap (lex between) (sym (take-append-drop n t)) ∙ lex-number (take n t) (drop n t) number ended
+    at_numeral t n number ended
 
 pub behind_digits : (t : List ℕ) (n : ℕ) → IsUtf8 t → n ≡ prefix_len is_ascii_digit t → 0 < n → IsCharBoundary t n
 behind_digits t n utf8 is some =

@@ -20,5 +20,6 @@ pub mod Parsed
 pub mod Conversion
 pub mod Alone
 pub mod Lexed
+pub mod Escapes
 pub mod Stops
 pub mod Punctuated

@@ -4,6 +4,7 @@
 mod arguments;
 mod canvas_text;
 mod datum;
+mod escaped;
 mod fields;
 mod json_argument;
 mod members;

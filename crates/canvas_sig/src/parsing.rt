@@ -1,6 +1,6 @@
 //! Parsing JSON (RFC 8259) into borrowed values.
 
-ghost use Rattle.std.specs.Prelude.{◌≡◌, ◌<◌, ◌≤◌, ◌∷◌, length, option_map, Some, None, Err, IfOk, OnOk};
+ghost use Rattle.std.specs.Prelude.{◌≡◌, ◌<◌, ◌≤◌, ◌∷◌, ◌++◌, [], length, option_map, Some, None, Err, IfOk, OnOk};
 ghost use Rattle.json.specs.Json.{value, items, members};
 ghost use Rattle.json.specs.Reads.{token_of};
 ghost use Rattle.serde_json.specs.Data.{no_members};
@@ -21,12 +21,12 @@ use bumpalo::Bump;
 use bumpalo::collections::into_bump_slice;
 use canvas_values::SigFault;
 use json::{Scratch, Token};
-use std::alloc::Global;
+use std::alloc::{AllocError, Global};
 
 /// How deep arrays and objects may nest.
 const MOST_NESTED: usize = 127;
 
-/// How many items a list has room for at first: most lists of arguments have one or two.
+/// How many items a list has room for at its first: most lists of arguments have one or two.
 const FEW_ITEMS: usize = 2;
 
 /// The value that a token is by itself.
@@ -109,6 +109,18 @@ fn read_nested<'a>(
     }
 }
 
+/// Puts an item behind others; the first is given room for a few, so that an empty list takes none.
+#[inline(always)]
+fn push_item<'a>(found: &mut Vec<Datum<'a>, &'a Bump>, item: Datum<'a>) -> Result<(), AllocError>
+    ensures { OnOk result (found.new.items ≡ found.old.items ++ item.entry ∷ []) }
+{
+    if found.is_empty() {
+        found.reserve_exact(FEW_ITEMS)?;
+    }
+    found.push(item)?;
+    Ok(())
+}
+
 #[cycle(read)]
 fn read_items<'a>(
     alloc: Global,
@@ -125,10 +137,10 @@ fn read_items<'a>(
     ensures err { result ≡ Err Unread.NotJson
         → converted of_items (items (value left) (length reader.old) reader.old) ≡ None }
 {
-    let mut found = Vec::with_capacity(arena, FEW_ITEMS)?;
+    let mut found = Vec::new(arena);
     'items: while let Some(token) = reader.next_item()? {
         let item = read_value(alloc, arena, stack, reader, left, token)?;
-        found.push(item)?;
+        push_item(&mut found, item)?;
     }
     Ok(into_bump_slice(found))
 }
@@ -171,7 +183,7 @@ fn read_whole<'a>(
     ensures ok { IfOk result (λ v. read_text text.now ≡ Some (view v)) }
     ensures err { result ≡ Err Unread.NotJson → read_text text.now ≡ None }
 {
-    let mut reader = Source::new(text, scratch);
+    let mut reader = Source::new(arena, scratch, text);
     let mut stack = Vec::new(alloc);
     let token = reader.next_token()?;
     let value = read_value(alloc, arena, &mut stack, &mut reader, MOST_NESTED, token)?;
@@ -181,8 +193,8 @@ fn read_whole<'a>(
     }
 }
 
-/// The JSON value that a text in UTF-8 is. The arena holds its lists and objects, and the scratch
-/// the texts that have escapes.
+/// The JSON value that a text in UTF-8 is. The arena holds its lists and objects, and with the
+/// scratch the texts that have escapes.
 pub fn parse<'a>(
     alloc: Global,
     arena: &'a Bump,

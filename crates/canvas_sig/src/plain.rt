@@ -1,5 +1,5 @@
-//! Plain tokens of a JSON text (RFC 8259), each with what stands behind it: brackets, words, digits
-//! alone, and texts with no escape. Where none is found, nothing is said of the text.
+//! Plain tokens of a JSON text (RFC 8259), each with what stands behind it: brackets, words, numbers,
+//! and texts with no escape. Where none is found, nothing is said of the text.
 
 ghost use Rattle.std.specs.Prelude.{◌≡◌, ◌≢◌, ◌∷◌, ◌++◌, ◌≤◌, ◌<◌, ◌⊎◌, true, false, length, drop, take, nat_eq, IfSome};
 ghost use Rattle.std.specs.List.{starts_with};
@@ -14,8 +14,8 @@ ghost use Rattle.canvas_sig.specs.steps.Place.{as_kit};
 ghost use Rattle.canvas_sig.specs.steps.Plain.{IsTrimmed, Ends, IsSettled, IsWord, BeginsValue, Spells};
 
 use crate::place::Place;
-use crate::runs::{digits_len, first, is_space, plain_len, trimmed};
-use json::Token;
+use crate::runs::{digits_len, first, is_space, numeral_len, plain_len, trimmed};
+use json::{Token, is_number};
 
 #[inline(always)]
 pub(crate) fn closes_or_ends(text: &str) -> bool
@@ -30,7 +30,7 @@ pub(crate) fn closes_or_ends(text: &str) -> bool
 /// Past the comma that may follow a value, with what may come then; none where something else than
 /// a comma, a bracket that closes or the end follows it.
 #[inline(always)]
-fn after_value<'a>(text: &'a str) -> Option<(&'a str, Place)>
+pub(crate) fn after_value<'a>(text: &'a str) -> Option<(&'a str, Place)>
     ensures same { IfSome result (λ r. tokens_at (as_kit r.1) r.0.now
         ≡ punctuate lexer.after_value (lex between text.now)) }
     ensures settled { IfSome result (λ r. IsSettled r.1 r.0.now) }
@@ -117,7 +117,7 @@ fn text_token<'a>(text: &'a str) -> Option<(Token<'a>, &'a str, Place)>
 
 /// Digits alone, and what stands behind them.
 #[inline(always)]
-fn plain_number<'a>(text: &'a str) -> Option<(&'a str, &'a str)>
+fn digits_alone<'a>(text: &'a str) -> Option<(&'a str, &'a str)>
     ensures { IfSome result (λ p. lex between text.now
         ≡ token (spec.number p.0.now) ∷ lex between p.1.now) }
 {
@@ -130,6 +130,32 @@ fn plain_number<'a>(text: &'a str) -> Option<(&'a str, &'a str)>
         Some((&text[..count], behind))
     } else {
         None
+    }
+}
+
+/// A number of any form, and what stands behind it.
+#[inline(never)]
+fn number_of_any_form<'a>(text: &'a str) -> Option<(&'a str, &'a str)>
+    ensures { IfSome result (λ p. lex between text.now
+        ≡ token (spec.number p.0.now) ∷ lex between p.1.now) }
+{
+    let (number, behind) = text.split_at(numeral_len(text));
+    if is_number(number) && ends_word(behind) {
+        Some((number, behind))
+    } else {
+        None
+    }
+}
+
+/// A number, and what stands behind it. Most are digits alone, which take fewer steps.
+#[inline(always)]
+fn plain_number<'a>(text: &'a str) -> Option<(&'a str, &'a str)>
+    ensures { IfSome result (λ p. lex between text.now
+        ≡ token (spec.number p.0.now) ∷ lex between p.1.now) }
+{
+    match digits_alone(text) {
+        Some(found) => Some(found),
+        None => number_of_any_form(text),
     }
 }
 

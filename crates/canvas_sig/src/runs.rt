@@ -3,6 +3,7 @@
 ghost use Rattle.std.specs.Prelude.{◌≡◌, ◌+◌, ◌<◌, ◌≤◌, true, length, drop, map};
 ghost use Rattle.std.specs.List.{prefix_len};
 ghost use Rattle.std.specs.Char.{is_ascii_digit};
+ghost use Rattle.std.specs.Str.{IsCharBoundary};
 ghost use Rattle.std.specs.Simd.Lanes.{mask_l};
 ghost use Rattle.json.specs.Word.{head};
 ghost use Rattle.json.specs.Lex.{class, between, lex};
@@ -98,6 +99,26 @@ pub(crate) fn digits_len(bytes: &[u8]) -> usize
 {
     let mut count = 0;
     'digits: while count < bytes.len() && bytes[count].is_ascii_digit() {
+        count += 1;
+    }
+    count
+}
+
+/// Whether numbers have this byte.
+#[inline(always)]
+fn is_of_numerals(c: u8) -> bool
+    ensures { result ≡ true → c < 128 }
+{
+    c.is_ascii_digit() || matches!(c, b'-' | b'+' | b'.' | b'e' | b'E')
+}
+
+/// How many bytes stand before the first that no number has.
+pub(crate) fn numeral_len(text: &str) -> usize
+    ensures { IsCharBoundary text.now result }
+{
+    let bytes = text.as_bytes();
+    let mut count = 0;
+    'bytes: while count < bytes.len() && is_of_numerals(bytes[count]) {
         count += 1;
     }
     count

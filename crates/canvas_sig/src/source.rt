@@ -1,5 +1,6 @@
-//! The tokens of a JSON text. Plain ones are read here in few steps, and from the first other one
-//! on the reader of `json` reads, so that what it says of a text is all that is said.
+//! The tokens of a JSON text. Plain ones are read here in few steps, and texts with escapes by
+//! themselves. From the first other one on the reader of `json` reads, so that what it says of a
+//! text is all that is said.
 
 ghost use Rattle.std.specs.Prelude.{◌≡◌, ◌∷◌, [], Some, None, IfOk, IfSome, option_map, MatchResult, MatchOption};
 ghost use Rattle.json.specs.Lex.{tokens, fresh, between, lex, punctuate};
@@ -11,10 +12,12 @@ ghost use Rattle.canvas_sig.specs.steps.Place.{as_kit};
 ghost use Rattle.canvas_sig.specs.steps.Plain.{IsSettled};
 ghost use Rattle.canvas_sig.specs.steps.Source.{Item};
 
+use crate::escaped::escaped_token;
 use crate::place::Place;
 use crate::plain::{behind_bracket, closes_or_ends, plain_key, plain_token};
 use crate::runs::{first, trimmed};
 use crate::unread::Unread;
+use bumpalo::Bump;
 use json::{Reader, Scratch, Token};
 use std::alloc::AllocError;
 use std::marker::Model;
@@ -24,9 +27,11 @@ use std::marker::Model;
 pub(crate) struct Source<'a> {
     rest: &'a str,
     place: Place,
-    /// What reads from the first token on that isn't plain.
+    /// What reads from the first token on that isn't known here.
     reader: Option<Reader<'a>>,
-    /// What the reader takes; none once it was lent.
+    /// What keeps the texts that have escapes.
+    arena: &'a Bump,
+    /// What the reader takes; none once it was lent to it.
     scratch: Option<&'a mut Scratch>,
 }
 
@@ -68,13 +73,14 @@ fn last_token<'a>(place: Place, text: &str) -> Option<Option<Token<'a>>>
 }
 
 impl<'a> Source<'a> {
-    pub(crate) fn new(text: &'a str, scratch: &'a mut Scratch) -> Source<'a>
+    pub(crate) fn new(arena: &'a Bump, scratch: &'a mut Scratch, text: &'a str) -> Source<'a>
         ensures { result ≡ tokens text.now }
     {
         Source {
             rest: trimmed(text),
             place: Place::Fresh,
             reader: None,
+            arena,
             scratch: Some(scratch),
         }
     }
@@ -128,6 +134,14 @@ impl<'a> Source<'a> {
         let Some(scratch) = self.scratch.take() else {
             return Err(AllocError);
         };
+        if self.place.may_begin() {
+            if let Some((token, rest, place)) = escaped_token(self.arena, scratch, self.rest)? {
+                self.rest = rest;
+                self.place = place;
+                self.scratch = Some(scratch);
+                return Ok(Some(token));
+            }
+        }
         match Reader::new(self.rest, scratch) {
             Ok(mut reader) => {
                 let token = reader.next();

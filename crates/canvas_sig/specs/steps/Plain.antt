@@ -1,8 +1,8 @@
 -- Plain tokens of a text, and where reading goes on behind one.
-use Rattle.std.specs.Prelude.{◌≡◌, ◌⊎◌, ℕ, List, [], ◌∷◌, ◌++◌, true}
+use Rattle.std.specs.Prelude.{◌≡◌, ◌⊎◌, ℕ, List, [], ◌∷◌, ◌++◌, drop, true}
 use Rattle.json.specs.Token.{Token, end_object, end_array, key, number, boolean, null, bad}
 use Rattle.json.specs.Word.{head, ends_word}
-use Rattle.json.specs.Lex.{token, class, between, lex}
+use Rattle.json.specs.Lex.{token, class, between, in_string, lex}
 use Rattle.json.specs.Align.{is_blank}
 use Rattle.canvas_sig.specs.declared.place.Place.{Place}
 use Rattle.canvas_sig.specs.declared.place.Place.TheVariants.{AfterValue}
@@ -39,3 +39,9 @@ BeginsValue t = Unit {0}
 abbrev pub Spells : List ℕ → Token → Type 0
 Spells name k =
     (r : List ℕ) → ends_word r ≡ true → lex between (name ++ r) ≡ token k ∷ lex between r
+
+-- a text with its quotes comes first, as far as the lexer passes over it, and then the rest
+pub record IsQuoted (text quoted rest : List ℕ) : Type 0 where
+  pub parts : text ≡ quoted ++ rest
+  pub opens : head text ≡ 34
+  pub passed : lex in_string (drop 1 text) ≡ lex between rest

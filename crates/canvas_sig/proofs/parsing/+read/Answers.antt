@@ -51,7 +51,7 @@ read_nested-returns-in_default-clause-err t c refused =
 pub read_items-items-init : goal.read_items-items-init
 read_items-items-init t c =
     let all = converted of_items (items (value c.args.left) (length c.args.reader.now) c.args.reader.now) in
-    (length c.args.reader.now, omega arith, nothing_before all ∙ ap (λ vs. parse_map (items_before vs) all) (sym c.in_ok-found.ensures.items), omega arith, refl)
+    (length c.args.reader.now, omega arith, nothing_before all ∙ ap (λ vs. parse_map (items_before vs) all) (sym c.new-found.ensures.items), omega arith, refl)
 
 pub read_items-returns-in_err-token-clause-err : goal.read_items-returns-in_err-token-clause-err
 read_items-returns-in_err-token-clause-err t c refused =
@@ -86,7 +86,7 @@ read_items-items-preserved t c =
       n - 1,
       omega (arith, l.invariant.1, less),
       l.invariant.2 ∙ ap (parse_map (items_before l.found.items)) turn ∙ one_more_item l.found.items v _
-          ∙ ap (λ vs. parse_map (items_before vs) (converted of_items (items p (n - 1) r))) (sym c.in_ok-push.ensures.items),
+          ∙ ap (λ vs. parse_map (items_before vs) (converted of_items (items p (n - 1) r))) (sym c.in_ok-push_item.ensures),
       omega (arith, l.invariant.3, less),
       done.stack ∙ l.invariant.4,
     )

@@ -5,7 +5,7 @@ use Rattle.json.specs.Token.{number}
 use Rattle.json.specs.Lex.{token, between, lex}
 use Rattle.json.specs.Word.{head, ends_word}
 use Rattle.canvas_sig.proofs.Lexed.{front, at_number, behind_digits}
-use Rattle.canvas_sig.proofs.plain.plain_number.Goals as goal
+use Rattle.canvas_sig.proofs.plain.digits_alone.Goals as goal
 
 pub range_from-behind-requires : goal.range_from-behind-requires
 range_from-behind-requires c some =

@@ -1,0 +1,88 @@
+//! Texts of JSON that have escapes (RFC 8259, section 7).
+
+ghost use Rattle.std.specs.Prelude.{◌≡◌, ◌∷◌, List, drop, IfOk, IfSome};
+ghost use Rattle.std.specs.Str.{IsCharBoundary};
+ghost use Rattle.json.specs.Token as spec;
+ghost use Rattle.json.specs.Word.{head};
+ghost use Rattle.json.specs.Lex.{between, in_string, lex, tokens};
+ghost use Rattle.json.specs.Reads.{token_of};
+ghost use Rattle.json.specs.Reader.{Begins};
+ghost use Rattle.canvas_sig.specs.steps.Place.{as_kit};
+ghost use Rattle.canvas_sig.specs.steps.Plain.{IsSettled, BeginsValue, IsQuoted};
+
+use crate::place::Place;
+use crate::plain::after_value;
+use crate::runs::first;
+use bumpalo::Bump;
+use json::{Reader, Scratch, Token};
+use std::alloc::AllocError;
+
+/// How many bytes a text takes with its quotes; none where no quote closes it.
+fn quoted_len(text: &str) -> Option<usize>
+    requires { head text.now ≡ 34 }
+    ensures boundary { IfSome result (λ n. IsCharBoundary text.now n) }
+    ensures passed { IfSome result
+        (λ n. lex in_string (drop 1 text.now) ≡ lex between (drop n text.now)) }
+{
+    let bytes = text.as_bytes();
+    let mut at = 1;
+    'bytes: while at < bytes.len() {
+        match bytes[at] {
+            b'"' => return Some(at + 1),
+            b'\\' => at += 2,
+            _ => at += 1,
+        }
+    }
+    None
+}
+
+/// A text with its quotes, and what stands behind it.
+fn split_quoted<'a>(text: &'a str) -> Option<(&'a str, &'a str)>
+    ensures { IfSome result (λ p. IsQuoted text.now p.0.now p.1.now) }
+{
+    if first(text) != b'"' {
+        return None;
+    }
+    let len = quoted_len(text)?;
+    Some(text.split_at(len))
+}
+
+/// What a text stands for that is given with its quotes; none where JSON has no such text.
+fn unescaped<'a>(
+    arena: &'a Bump,
+    scratch: &mut Scratch,
+    quoted: &str,
+) -> Result<Option<&'a str>, AllocError>
+    ensures { IfOk result (λ o. IfSome o
+        (λ s. (ts : List spec.Token) × (tokens quoted.now ≡ spec.string s.now ∷ ts))) }
+{
+    let mut reader = Reader::new(quoted, scratch)?;
+    match reader.next() {
+        Some(Token::String(found)) => Ok(Some(arena.try_alloc_str(found)?)),
+        _ => Ok(None),
+    }
+}
+
+/// A text with escapes as a value, and what may come behind it; none where no such text is next.
+/// It is copied into the arena, so that the scratch can be lent again.
+pub(crate) fn escaped_token<'a>(
+    arena: &'a Bump,
+    scratch: &mut Scratch,
+    text: &'a str,
+) -> Result<Option<(Token<'a>, &'a str, Place)>, AllocError>
+    ensures begins { IfOk result (λ o. IfSome o
+        (λ r. Begins text.now (token_of r.0) (as_kit r.2) r.1.now)) }
+    ensures settled { IfOk result (λ o. IfSome o (λ r. IsSettled r.2 r.1.now)) }
+    ensures opens { IfOk result (λ o. IfSome o (λ r. BeginsValue (token_of r.0))) }
+{
+    let Some((quoted, behind)) = split_quoted(text) else {
+        return Ok(None);
+    };
+    let Some((rest, place)) = after_value(behind) else {
+        return Ok(None);
+    };
+    match unescaped(arena, scratch, quoted)? {
+        Some(found) => Ok(Some((Token::String(found), rest, place))),
+        None => Ok(None),
+    }
+}
