@@ -7,14 +7,14 @@ use crate::refusal::Refusal;
 use crate::reporting::Manner;
 use crate::source::Source;
 use canvas_engine::{
-    OpenGate, Report, RunFault, Stop, TextFault, When, run, run_text_again, run_text_threads,
-    run_turns_again,
+    OpenGate, Report, RunFault, Stop, TextFault, When, run, run_text_again, run_turns_again,
 };
 use canvas_rewrite::{Plan, node_of, normalise};
 use canvas_sig::{Canvas, read_canvas, write_node};
 use canvas_task::{Memory, TaskNo, Tasks};
 use canvas_values::Node;
 use std::alloc::Global;
+use std::mem::ManuallyDrop;
 use std::random::RandomSource;
 use std::sync::Wait;
 use std::thread::Threads;
@@ -48,10 +48,8 @@ where
     S: Threads + Wait + RandomSource + AllocGlobal + Sync,
     T: Tasks + Sync,
 {
-    if manner.is_plain() && source.is_plain() {
-        return answer_plain(rt, workers, source);
-    }
-    let plans = Plans::of(rt.alloc(), source)?;
+    // The process ends with this answer, and what the plans hold goes with it.
+    let plans = ManuallyDrop::new(Plans::of(rt.alloc(), source)?);
     answer_plans(rt, workers, manner, &plans, source)
 }
 
@@ -70,24 +68,6 @@ where
     match report_of(rt, plans.run(), source.tasks, workers) {
         Ok(report) => manner.whole(rt.alloc(), plans, &report, source),
         Err(fault) => Ok(manner.early(rt.alloc(), plans, source, fault)),
-    }
-}
-
-/// The report of a run of a text, as it is printed where nothing else is asked for.
-fn answer_plain<'w, S, T>(
-    rt: &S,
-    workers: u32,
-    source: &Source<'_, T>,
-) -> Result<Answer<'w>, Refusal<'w>>
-where
-    S: Threads + Wait + RandomSource + AllocGlobal + Sync,
-    T: Tasks + Sync,
-{
-    let alloc = rt.alloc();
-    let (text, tasks) = (source.text, source.tasks);
-    match run_text_threads(rt, alloc, text, tasks, workers, &OpenGate, &Stop::new()) {
-        Ok(report) => Ok(Answer::whole(report.into_bytes())),
-        Err(fault) => early(alloc, fault),
     }
 }
 

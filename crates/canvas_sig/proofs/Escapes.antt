@@ -1,7 +1,9 @@
 -- A text with escapes is found by its quotes, and read by itself as it would be read there.
-use Rattle.std.proofs.Common.{◌≡◌, ◌≢◌, ℕ, ◌+◌, ◌<◌, Bool, true, false, cond, ◌==◌, List, [], ◌∷◌, ◌++◌, length, drop, get_or, Option, Some, None, option_and_then, refl, sym, ap, ◌∙◌}
-use Rattle.std.proofs.lemmas.Bool.{ne_eqb}
+use Rattle.std.proofs.Common.{◌≡◌, ◌≢◌, ℕ, suc, ◌+◌, ◌<◌, Bool, true, false, cond, ◌==◌, ◌||◌, List, [], ◌∷◌, ◌++◌, length, drop, get_or, drop-drop, Option, Some, None, option_and_then, refl, sym, ap, ◌∙◌, arith}
+use Rattle.std.proofs.lemmas.Bool.{ne_eqb, eqb-false, or_parts, not-true}
 use Rattle.std.proofs.lemmas.List.{drop_more}
+use Rattle.std.specs.List.{prefix_len}
+use Rattle.json.specs.Run.{is_plain}
 use Rattle.json.specs.Token.{Token, string}
 use Rattle.json.specs.Text.{content, Within, plain, after_backslash, after_u, after_high, prepend, code_unit, short_escape}
 use Rattle.json.specs.Word.{head, is_operator, is_space}
@@ -19,6 +21,19 @@ inside : (x : ℕ) (r : List ℕ) → x ≢ 34 → x ≢ 92 → lex in_string (x
 unfolding lex
 inside x r q b = rw (ne_eqb x 34 q, ne_eqb x 92 b) (goes_on (is_operator x) (is_space x) x r (λ m. lex m r))
 
+plain_step : (p : Bool) (x n : ℕ) (xs : List ℕ) → p ≡ is_plain x → lex in_string xs ≡ lex in_string (drop n xs)
+    → lex in_string (x ∷ xs) ≡ lex in_string (drop (cond p (1 + n) 0) (x ∷ xs))
+plain_step false x n xs e ih = refl
+plain_step true x n xs e ih =
+    let next : suc n ≡ 1 + n = omega arith in
+    let none = or_parts ((x == 34) || (x == 92)) _ (not-true _ (sym e)) in
+    let tests = or_parts (x == 34) _ none.0 in
+    inside x xs (eqb-false x 34 tests.0) (eqb-false x 92 tests.1) ∙ ih ∙ ap (λ k. lex in_string (drop k (x ∷ xs))) next
+
+plain_passed : (xs : List ℕ) → lex in_string xs ≡ lex in_string (drop (prefix_len is_plain xs) xs)
+plain_passed [] = refl
+plain_passed (x ∷ xs) = plain_step (is_plain x) x (prefix_len is_plain xs) xs refl (plain_passed xs)
+
 escape_passed : (r : List ℕ) → lex in_string (92 ∷ r) ≡ lex in_string (drop 1 r)
 unfolding lex
 escape_passed [] = refl
@@ -28,12 +43,12 @@ closing : (r : List ℕ) → lex in_string (34 ∷ r) ≡ lex between r
 unfolding lex
 closing r = refl
 
--- at a byte of a text
+-- where a text goes on
+pub past_plain : (t : List ℕ) (i n : ℕ) → n ≡ prefix_len is_plain (drop i t) → lex in_string (drop i t) ≡ lex in_string (drop (i + n) t)
+past_plain t i n is = plain_passed (drop i t) ∙ ap (λ k. lex in_string (drop k (drop i t))) (sym is) ∙ ap (lex in_string) (drop-drop n i t)
+
 from_here : (t : List ℕ) (i c : ℕ) → i < length t → get_or t i 0 ≡ c → drop i t ≡ c ∷ drop (i + 1) t
 from_here t i c lt e = drop_more t i 0 lt ∙ ap (λ x. x ∷ drop (i + 1) t) e
-
-pub at_byte : (t : List ℕ) (i : ℕ) → i < length t → get_or t i 0 ≢ 34 → get_or t i 0 ≢ 92 → lex in_string (drop i t) ≡ lex in_string (drop (i + 1) t)
-at_byte t i lt q b = ap (lex in_string) (drop_more t i 0 lt) ∙ inside (get_or t i 0) (drop (i + 1) t) q b
 
 pub at_escape : (t : List ℕ) (i : ℕ) → i < length t → get_or t i 0 ≡ 92 → lex in_string (drop i t) ≡ lex in_string (drop 1 (drop (i + 1) t))
 at_escape t i lt e = ap (lex in_string) (from_here t i 92 lt e) ∙ escape_passed (drop (i + 1) t)

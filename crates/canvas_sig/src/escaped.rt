@@ -12,7 +12,7 @@ ghost use Rattle.canvas_sig.specs.steps.Plain.{IsSettled, BeginsValue, IsQuoted}
 
 use crate::place::Place;
 use crate::plain::after_value;
-use crate::runs::first;
+use crate::runs::{first, plain_len};
 use bumpalo::Bump;
 use json::{Reader, Scratch, Token};
 use std::alloc::AllocError;
@@ -26,11 +26,12 @@ fn quoted_len(text: &str) -> Option<usize>
 {
     let bytes = text.as_bytes();
     let mut at = 1;
-    'bytes: while at < bytes.len() {
-        match bytes[at] {
-            b'"' => return Some(at + 1),
-            b'\\' => at += 2,
-            _ => at += 1,
+    'parts: while at < bytes.len() {
+        at += plain_len(&bytes[at..]);
+        match bytes.get(at) {
+            Some(b'"') => return Some(at + 1),
+            Some(b'\\') => at += 2,
+            _ => return None,
         }
     }
     None

@@ -1,6 +1,6 @@
 //! The messages that a run begins with, a line's after another's.
 
-ghost use Rattle.std.specs.Prelude.{◌≡◌, ◌∷◌, ◌==◌, [], false, length, map, IfOk, IfSome, MatchOption, None, true};
+ghost use Rattle.std.specs.Prelude.{◌≡◌, ◌∷◌, ◌==◌, [], false, length, map, IfOk, IfSome, MatchOption, None, OnErr, true};
 ghost use Rattle.canvas_semantics.specs.PlacedLine.{p_nowhere};
 ghost use Rattle.canvas_rewrite.specs.FrozenView.{p_end_view, p_line_view};
 ghost use Rattle.canvas_rewrite.specs.declared.frozen.FrozenEnd.{out-FrozenEnd};
@@ -60,14 +60,8 @@ fn header_first(plan: &Plan) -> Option<&FrozenEnd>
 {
     let line = plan.line();
     match &line.tail {
-        Some(end) => {
-            if line.tasks.get().is_empty() && !end.members.get().is_empty() {
-                Some(end)
-            } else {
-                None
-            }
-        }
-        None => None,
+        Some(end) if line.tasks.get().is_empty() && !end.members.get().is_empty() => Some(end),
+        _ => None,
     }
 }
 
@@ -109,8 +103,9 @@ impl<'p> FirstMessages<'p> {
 
     /// The next portion, or none where all were taken. Where memory is refused nothing is lost.
     pub fn next(&mut self, alloc: Global) -> Result<Option<Vec<Message>>, Memory>
-        ensures { IfOk result (λ o. MatchOption o (self.old ≡ [])
+        ensures ok { IfOk result (λ o. MatchOption o (self.old ≡ [])
             (λ messages. self.old ≡ messages.items ∷ self.new)) }
+        ensures err { OnErr result (self.new ≡ self.old) }
     {
         match self.lines.split_first() {
             Some((line, others)) => {

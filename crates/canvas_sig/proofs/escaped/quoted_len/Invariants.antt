@@ -3,8 +3,8 @@ use Rattle.json.specs.Lex.{in_string, lex}
 use Rattle.canvas_sig.proofs.escaped.quoted_len.Given as goal
 
 -- a backslash may be the last byte
-abbrev pub invariant-bytes : goal.invariant-bytes
-invariant-bytes l = (lex in_string (drop 1 l.text) ≡ lex in_string (drop l.at l.text)) × (l.at ≤ length l.text + 1)
+abbrev pub invariant-parts : goal.invariant-parts
+invariant-parts l = (lex in_string (drop 1 l.text) ≡ lex in_string (drop l.at l.text)) × (l.at ≤ length l.text + 1)
 
-abbrev pub decreases-bytes : goal.decreases-bytes
-decreases-bytes l = length l.bytes + 1 - l.at
+abbrev pub decreases-parts : goal.decreases-parts
+decreases-parts l = length l.bytes + 1 - l.at
