@@ -168,6 +168,43 @@ def chosen(seed):
     return {f"smaller: {name}": lambda it=it: it for name, it in zip(list(KINDS)[1:], made)}
 
 
+def numbered(text, count):
+    """A group of calls, each with such a text of its own."""
+    return group(call("ident", f"{text} {i}") for i in range(count))
+
+
+# Canvases of other shapes, most of them flat: their messages share next to no text. They have what
+# the kinds don't: signs, names, lists, escapes, long texts.
+OTHERS = {
+    "a group of 600 with negative numbers": lambda: group(call("add", i, -i) for i in range(600)),
+    "a group of 600 with large numbers": lambda: group(
+        call("add", 10**17 + i, -(10**17)) for i in range(600)
+    ),
+    "a group of 600 with named arguments": lambda: group(
+        {**call("add", i), "kwargs": {"y": i}} for i in range(600)
+    ),
+    "a group of 600 with lists": lambda: group(
+        call("xsum", [-i, i, 5, -7]) for i in range(600)
+    ),
+    "a group of 600 with texts": lambda: numbered("a text of a line", 600),
+    "a group of 600 with escapes": lambda: numbered('two "lines"\nof a text', 600),
+    "a group of 600 with other letters": lambda: numbered("Gr\u00fc\u00dfe, \u0130stanbul", 600),
+    "one escape, then 600 calls": lambda: group([call("ident", "a\nb"), *sums(600)]),
+    "300 texts of 300 letters": lambda: numbered("x" * 300, 300),
+    "a chord of 600 negative numbers": lambda: chord(
+        (call("add", i, -i) for i in range(600)), call("xsum")
+    ),
+    "a chain of 400 negative numbers": lambda: chain(
+        [call("add", -1, -1), *(call("add", -1) for _ in range(399))]
+    ),
+    "a chord of 30 chords of 20": lambda: chord(
+        (chord(sums(20), call("xsum")) for _ in range(30)), call("xsum")
+    ),
+    "a group of 400 with links": lambda: group(
+        call("add", i, i, link=[call("ident")]) for i in range(400)
+    ),
+}
+
 # Canvases of one kind with ever more tasks.
 GROWING = {
     "a chain": line,
