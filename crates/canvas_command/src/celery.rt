@@ -6,7 +6,7 @@ mod refusal;
 use crate::answer::Answer;
 use crate::ignored::ignored_remark;
 use crate::input::results_of;
-use crate::plan::plan_of;
+use crate::plan::{lasting, plan_of};
 use crate::refusal::Refusal;
 use crate::reporting::{Form, Manner};
 use canvas_celery::{Run, keys};
@@ -51,7 +51,7 @@ pub(crate) fn answer_celery<'w, S, R: Read>(
 where
     S: Files + AllocGlobal,
 {
-    let plan = plan_of(rt.alloc(), text)?;
+    let plan = lasting(plan_of(rt.alloc(), text)?);
     match asked {
         OnCelery::Export(target) => answer_export(rt.alloc(), &plan, run, &target, text),
         OnCelery::Keys { prefix } => answer_keys(rt.alloc(), &plan, run, prefix),

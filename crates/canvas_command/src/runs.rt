@@ -2,6 +2,7 @@
 
 use crate::again::{Again, named_entries};
 use crate::answer::{Answer, Remark};
+use crate::plan::lasting;
 use crate::prepared::Plans;
 use crate::refusal::Refusal;
 use crate::reporting::Manner;
@@ -14,7 +15,6 @@ use canvas_sig::{Canvas, read_canvas, write_node};
 use canvas_task::{Memory, TaskNo, Tasks};
 use canvas_values::Node;
 use std::alloc::Global;
-use std::mem::ManuallyDrop;
 use std::random::RandomSource;
 use std::sync::Wait;
 use std::thread::Threads;
@@ -48,8 +48,7 @@ where
     S: Threads + Wait + RandomSource + AllocGlobal + Sync,
     T: Tasks + Sync,
 {
-    // The process ends with this answer, and what the plans hold goes with it.
-    let plans = ManuallyDrop::new(Plans::of(rt.alloc(), source)?);
+    let plans = lasting(Plans::of(rt.alloc(), source)?);
     answer_plans(rt, workers, manner, &plans, source)
 }
 
@@ -151,7 +150,7 @@ impl ByTurns<'_> {
         if names.is_none() && self.manner.is_plain() && source.is_plain() {
             return self.plain(alloc, source);
         }
-        let plans = Plans::of(alloc, source)?;
+        let plans = lasting(Plans::of(alloc, source)?);
         self.shown_named(alloc, names, &plans, source)
     }
 }
