@@ -1,5 +1,5 @@
-//! Plain tokens of a JSON text (RFC 8259), each with what stands behind it: brackets, words, numbers,
-//! and texts with no escape. Where none is found, nothing is said of the text.
+//! Plain tokens of a JSON text (RFC 8259), each with what stands behind it: brackets, words,
+//! numbers, and texts with no escape. Where none is found, nothing is said of the text.
 
 ghost use Rattle.std.specs.Prelude.{◌≡◌, ◌≢◌, ◌∷◌, ◌++◌, ◌≤◌, ◌<◌, ◌⊎◌, true, false, length, drop, take, nat_eq, IfSome};
 ghost use Rattle.std.specs.List.{starts_with};
