@@ -83,7 +83,7 @@ pub fn open(alloc: Global, letter: &mut Letter) -> Result<Box<Message>, MessageF
         → envelope_fault letter.old.properties letter.old.headers letter.old.body ≡ Some e) }
     ensures letter { letter.new ≡ letter.old }
 {
-    match letter.take_message() {
+    match letter.take_message(alloc) {
         Some(message) => Ok(message),
         None => read(alloc, letter),
     }

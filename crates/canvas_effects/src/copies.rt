@@ -108,7 +108,7 @@ pub(crate) fn copy_task(
 pub(crate) fn copy_tasks(alloc: Global, tasks: &[FrozenTask]) -> Result<Vec<FrozenTask>, AllocError>
     ensures { IfOk result (λ copies. map p_task_view copies.items ≡ map p_task_view tasks.now) }
 {
-    let mut copies = Vec::new(alloc);
+    let mut copies = Vec::with_capacity(alloc, tasks.len())?;
     for task in tasks {
         let place = share_if_some(&task.place)?;
         copies.push(copy_task(alloc, task, place)?)?;
@@ -160,7 +160,7 @@ fn copy_end(alloc: Global, end: &FrozenEnd) -> Result<FrozenEnd, AllocError>
 pub(crate) fn copy_lines(alloc: Global, lines: &[FrozenLine]) -> Result<Vec<FrozenLine>, AllocError>
     ensures { IfOk result (λ copies. map p_line_view copies.items ≡ map p_line_view lines.now) }
 {
-    let mut copies = Vec::new(alloc);
+    let mut copies = Vec::with_capacity(alloc, lines.len())?;
     for line in lines {
         copies.push(copy_line(alloc, line)?)?;
     }

@@ -4,6 +4,7 @@ ghost use Rattle.std.specs.Prelude.{◌≡◌, IfOk, IfSome};
 ghost use Rattle.canvas_message.specs.EnvelopeFaults.{Says};
 ghost use Rattle.canvas_message.specs.Pieces.{joined};
 
+use crate::kept::Kept;
 use crate::pieces::Sheets;
 use crate::{Envelope, Message, Pieces};
 use canvas_task::Memory;
@@ -15,12 +16,13 @@ use std::marker::Model;
 #[derive(Drop)]
 struct Held {
     sheets: Sheets,
-    message: Option<Box<Message>>,
+    message: Kept,
 }
 
 impl Model for Held {
     ghost use Rattle.std.specs.Prelude.{IfSome};
     ghost use Rattle.canvas_message.specs.EnvelopeFaults.{Says};
+    ghost use Rattle.canvas_message.specs.Kept.{kept};
     ghost use Rattle.canvas_message.specs.Pieces.{envelope_seen};
     ghost use Rattle.canvas_message.specs.declared.envelope.Envelope.{Envelope};
 
@@ -28,9 +30,9 @@ impl Model for Held {
 
     ghost view = { λ h. envelope_seen h.sheets };
 
-    ghost invariant = { λ h. IfSome h.message
+    ghost invariant = { λ h. IfSome (kept h.message)
         (λ m. Says (envelope_seen h.sheets).properties (envelope_seen h.sheets).headers
-        (envelope_seen h.sheets).body m.value) };
+        (envelope_seen h.sheets).body m) };
 }
 
 /// An envelope, whose body may share a piece with others, and that may still hold the message that
@@ -57,7 +59,7 @@ impl Letter {
     {
         let held = Held {
             sheets: Sheets::Whole(envelope),
-            message: None,
+            message: Kept::Nothing,
         };
         Ok(Letter {
             held: Box::new(alloc, held)?,
@@ -72,7 +74,7 @@ impl Letter {
     {
         let held = Held {
             sheets: Sheets::Pieced(pieces),
-            message: Box::new(alloc, message).ok(),
+            message: Kept::of(alloc, message),
         };
         Ok(Letter {
             held: Box::new(alloc, held)?,
@@ -96,13 +98,14 @@ impl Letter {
         self.held.sheets.envelope(alloc)
     }
 
-    /// The message that the letter held, if it held one: it holds none any more.
-    pub fn take_message(&mut self) -> Option<Box<Message>>
+    /// The message that the letter held, if it held one and there is memory to give it. It holds
+    /// none any more.
+    pub fn take_message(&mut self, alloc: Global) -> Option<Box<Message>>
         ensures message { IfSome result
             (λ m. Says self.old.properties self.old.headers self.old.body m.value) }
         ensures letter { self.new ≡ self.old }
     {
-        self.held.message.take()
+        self.held.message.take(alloc)
     }
 
     /// A letter of an equal envelope, as a broker delivers it a second time. It holds no message,
@@ -112,7 +115,7 @@ impl Letter {
     {
         let held = Held {
             sheets: self.held.sheets.copy()?,
-            message: None,
+            message: Kept::Nothing,
         };
         Ok(Letter {
             held: Box::new(alloc, held)?,
