@@ -12,17 +12,6 @@ pub mod FrozenDepth
 pub mod EnvelopeLaw
 pub mod Made
 pub mod Texts
-pub mod Identifiers
-pub mod KnownTexts
-pub mod TaskTokens
-pub mod LineTokens
-pub mod Holes
-pub mod Around
-pub mod AroundLines
-pub mod CarriedTexts
-pub mod Listing
-pub mod PieceTexts
-pub mod Bodies
 pub mod Turns
 pub mod Utf8Data
 pub mod Utf8Messages

@@ -1,12 +1,14 @@
 -- The front of a body, properties and headers in one text.
-use Rattle.std.proofs.Common.{◌≡◌, ◌∙◌, ℕ, List, [], ◌∷◌, ◌++◌, ◌≤◌, ◌<◌, ◌+◌, ◌-◌, length, take, drop, String, Global, refl, sym, ap, subst, arith, append_assoc}
+use Rattle.std.proofs.Common.{◌≡◌, ◌∙◌, ℕ, List, [], ◌∷◌, ◌++◌, ◌≤◌, ◌<◌, ◌+◌, ◌-◌, length, take, drop, String, Global, Option, Some, None, refl, sym, ap, subst, arith, append_assoc}
 use Rattle.std.proofs.Math.Seq.{drop-append_seam, take-append_seam}
 use Rattle.std.proofs.lemmas.List.{length-append}
-use Rattle.std.proofs.lemmas.Str.{IsUtf8-take, IsUtf8-drop}
+use Rattle.std.proofs.lemmas.Str.{IsUtf8-nil, IsUtf8-take, IsUtf8-drop}
 use Rattle.std.specs.List.{slice_index}
-use Rattle.std.specs.Prelude.{string_bytes}
+use Rattle.std.specs.Prelude.{string_bytes, IfSome}
 use Rattle.std.specs.Str.{IsUtf8, IsCharBoundary}
 use Rattle.std.specs.String.{string_len}
+use Rattle.canvas_message.specs.declared.pieces.Piece.{Piece}
+use Rattle.canvas_message.specs.Pieces.{piece_text, shared_text}
 
 pub first_part : (all xs ys : List ℕ) (n : ℕ) → n ≡ length xs → all ≡ xs ++ ys → take n all ≡ xs
 first_part all xs ys n is both = ap (λ k. take k all) is ∙ ap (take (length xs)) both ∙ take-append_seam xs ys
@@ -47,3 +49,8 @@ parts_utf8 f p ps h hs x y begins low next lower front whole =
     let both : IsUtf8 ((f ++ p) ++ y ∷ hs) = subst (λ z. IsUtf8 ((f ++ p) ++ z)) next whole in
     let two : IsUtf8 (f ++ x ∷ ps) = subst (λ z. IsUtf8 (f ++ z)) begins (first_utf8 (f ++ p) hs y lower both) in
     (subst IsUtf8 (sym begins) (last_utf8 f ps x low two), subst IsUtf8 (sym next) (last_utf8 (f ++ p) hs y lower both))
+
+-- the piece that is shared
+pub shared_utf8 : (o : Option Piece) → IfSome o (λ p. IsUtf8 (piece_text p)) → IsUtf8 (shared_text o)
+shared_utf8 None h = IsUtf8-nil
+shared_utf8 (Some p) h = h

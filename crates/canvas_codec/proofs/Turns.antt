@@ -1,22 +1,12 @@
--- One more turn of a loop over a list, and its end.
-use Rattle.std.proofs.Common.{◌≡◌, ◌∙◌, ◌<◌, ◌≤◌, ◌+◌, ℕ, List, [], ◌∷◌, ◌++◌, map, length, get_or, drop, Result, Ok, sym, ap, append_assoc, append-nil}
-use Rattle.std.proofs.lemmas.List.{drop_more, drop_all, at_drop_more, map_push}
+-- One more turn of a loop over a list that reads, and its end.
+use Rattle.std.proofs.Common.{◌≡◌, ◌∙◌, ◌<◌, ◌≤◌, ◌+◌, ℕ, List, [], ◌∷◌, ◌++◌, map, length, get_or, drop, Result, Ok, sym, ap, append-nil}
+use Rattle.std.proofs.lemmas.List.{drop_more, drop_all, map_push}
 use Rattle.serde_json.specs.Data.{Data}
 use Rattle.canvas_sig.specs.Datum.{view}
 use Rattle.canvas_sig.specs.declared.datum.Datum.{Datum}
 use Rattle.canvas_values.specs.declared.fault.SigFault.{SigFault}
 use Rattle.canvas_values.specs.Answers.{in_turn}
 use Rattle.canvas_sig.proofs.Each.{onto, one_more}
-
--- a loop that puts what each item gives behind the others
-module _ {X Y : Type 0} where
-  pub put_on : (F : List X → List Y) (xs : List X) (i : ℕ) (x : X) (here before after all : List Y) → i < length xs → x ≡ get_or xs i x
-      → F (x ∷ drop (i + 1) xs) ≡ here ++ F (drop (i + 1) xs) → before ++ F (drop i xs) ≡ all → after ≡ before ++ here
-      → after ++ F (drop (i + 1) xs) ≡ all
-  put_on F xs i x here before after all lt is turn so_far pushed =
-      let rest : List Y = F (drop (i + 1) xs) in
-      ap (λ ys. ys ++ rest) pushed ∙ append_assoc before here rest
-      ∙ ap (λ ys. before ++ ys) (sym (at_drop_more F xs i x lt ∙ ap (λ y. F (y ∷ drop (i + 1) xs)) (sym is) ∙ turn)) ∙ so_far
 
 -- a loop that reads one value after the other
 module _ {T B : Type 0} (seen : T → B) (f : Data → Result B SigFault) (vs : List Datum) where

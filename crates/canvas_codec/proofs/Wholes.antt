@@ -2,17 +2,15 @@
 use Rattle.std.proofs.Common.{◌≡◌, ℕ, ◌≤◌, max, Bool, true, false, Option, Ok, refl, arith}
 use Rattle.std.specs.Prelude.{◌&&◌, not, nat_le}
 use Rattle.std.proofs.lemmas.Bool.{leb-true}
-use Rattle.serde_json.specs.Data.{null}
 use Rattle.canvas_semantics.specs.Tree.{Call}
 use Rattle.canvas_values.proofs.FittingCalls.{CallFits}
 use Rattle.canvas_values.proofs.ComposedLemmas.{both}
 use Rattle.canvas_sig.specs.steps.Clean.{IsClean}
-use Rattle.canvas_semantics.specs.PlacedLine.{PTask, p_task, PTasks, PPlace, p_nowhere, p_group, p_chord, PLine, p_stop, p_step, p_group_end, p_chord_end}
+use Rattle.canvas_semantics.specs.PlacedLine.{p_task, PTasks, PPlace, p_nowhere, p_group, p_chord, PLine, p_stop, p_step, p_group_end, p_chord_end}
 use Rattle.canvas_message.specs.Content.{Content}
 use Rattle.canvas_message.specs.Fits.{is_task_number, size_ok, parent_ok, task_ok, tasks_ok, place_ok, line_ok, task_reach, tasks_reach, place_reach, line_reach, greatest_reach, fits}
 use Rattle.canvas_codec.specs.steps.FrozenReading.{place_with, line_reading}
 use Rattle.canvas_message.specs.FrozenGrammar.{levels}
-use Rattle.canvas_message.specs.steps.Parts.{is_stop}
 use Rattle.canvas_codec.specs.steps.Reading.{is_group_or_null}
 use Rattle.canvas_message.specs.Wire.{place_id, carried_wire}
 use Rattle.canvas_codec.proofs.CleanLines.{carried_clean}
@@ -111,24 +109,3 @@ whole_of parent k call links errbacks place rest h =
     let q = both (parent_ok parent && not call.immutable) (line_ok true l) p.0 in
     let r = both (parent_ok parent) (not call.immutable) q.0 in
     by_line parent k call links errbacks place rest r.0 (not_true call.immutable r.1) q.1 (leb-true (line_reach 0 l) 32 p.1)
-
--- ---- a task that others follow carries nothing
-
-unplaced : (place : PPlace) → place_ok false place ≡ true → carried_wire place ≡ null
-unplaced p_nowhere ok = refl
-unplaced (p_group g) ok = absurd cc
-unplaced (p_chord g size body) ok = absurd cc
-
-own_ok : (t : PTask) (rest : PLine) → is_stop rest ≡ false → line_ok true (p_step t rest) ≡ true → task_ok false t ≡ true
-own_ok t p_stop h ok = absurd cc
-own_ok t (p_step u l) h ok = (both (task_ok false t) (line_ok true (p_step u l)) ok).0
-own_ok t (p_group_end g ms) h ok = (both (task_ok false t) (line_ok true (p_group_end g ms)) ok).0
-own_ok t (p_chord_end g ms b) h ok = (both (task_ok false t) (line_ok true (p_chord_end g ms b)) ok).0
-
-pub nothing_carried : (parent : Option ℕ) (k : ℕ) (call : Call) (links errbacks : PTasks) (place : PPlace) (rest : PLine)
-    → fits (as_content parent k call links errbacks place rest) ≡ true → is_stop rest ≡ false → carried_wire place ≡ null
-nothing_carried parent k call links errbacks place rest h more =
-    let t = p_task k call links errbacks place in
-    let p = both (parent_ok parent && not call.immutable && line_ok true (p_step t rest)) (nat_le (line_reach 0 (p_step t rest)) 32) h in
-    let q = both (parent_ok parent && not call.immutable) (line_ok true (p_step t rest)) p.0 in
-    unplaced place (task_parts false k call links errbacks place (own_ok t rest more q.1)).placed

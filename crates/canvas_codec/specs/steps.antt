@@ -1,7 +1,3 @@
-pub mod Around
-pub mod Tokens
-pub mod Texts
 pub mod FrozenReading
 pub mod Reading
 pub mod Elements
-pub mod Listing

@@ -10,11 +10,9 @@ ghost use Rattle.canvas_message.specs.EnvelopeFaults.{Says};
 ghost use Rattle.canvas_message.specs.Pieces.{joined, body_text};
 ghost use Rattle.canvas_message.specs.Wire.{properties_wire, headers_wire, body_wire};
 
-use crate::write::body::{Body, body_of};
-use crate::write::light::{put_headers, put_properties};
-use crate::write::text::ascii;
 use canvas_message::{Envelope, Message, Pieces};
 use canvas_task::{ListOf, Memory, TaskNo, task_text};
+use canvas_writing::{Body, ascii, body_of, put_headers, put_properties};
 use std::alloc::{AllocError, Global};
 
 /// The bytes of a text, which are UTF-8.

@@ -8,9 +8,9 @@ ghost use Rattle.canvas_message.specs.Wire.{properties_wire, headers_wire, body_
 
 use crate::decode;
 use crate::encoding::pieces_of;
-use crate::write::line_text::line_text;
 use canvas_message::{Envelope, Letter, Message, MessageFault, following};
 use canvas_task::Memory;
+use canvas_writing::line_text;
 use std::alloc::{AllocError, Global};
 
 /// Writes the text of what follows a message, where something does and it isn't written already.

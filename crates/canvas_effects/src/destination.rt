@@ -5,9 +5,9 @@ ghost use Rattle.canvas_message.specs.MessageView.{place_view};
 ghost use Rattle.canvas_message.specs.SharedTexts.{SaysCarried, inner_place};
 
 use crate::copies::share_place;
-use canvas_codec::carried_text;
 use canvas_message::{CarriedText, share_text};
 use canvas_rewrite::Place;
+use canvas_writing::carried_text;
 use std::alloc::{AllocError, Global};
 use std::marker::Model;
 use std::sync::Arc;

@@ -10,7 +10,7 @@ use Rattle.canvas_rewrite.specs.declared.frozen.Carried.{Carried}
 use Rattle.canvas_rewrite.specs.declared.frozen.Place.{Place, out-Place}
 use Rattle.canvas_sig.specs.steps.Tokens.{Appends, data_tokens}
 use Rattle.canvas_message.specs.MessageView.{place_view}
-use Rattle.canvas_codec.specs.steps.Tokens.{named_tokens}
+use Rattle.canvas_writing.specs.steps.Tokens.{named_tokens}
 use Rattle.canvas_message.proofs.Seen.{group_place, chord_place}
 use Rattle.canvas_export.specs.Signatures.{Naming, task_id, group_id, index_wire}
 use Rattle.canvas_export.specs.Envelope.{place_headers, parent_id}

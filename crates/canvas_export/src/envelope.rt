@@ -7,7 +7,7 @@ ghost use Rattle.canvas_sig.specs.Writing.{number_wire};
 ghost use Rattle.canvas_sig.specs.steps.Tokens.{Appends, data_tokens};
 ghost use Rattle.canvas_message.specs.Content.{number_of};
 ghost use Rattle.canvas_message.specs.Fits.{fits};
-ghost use Rattle.canvas_codec.specs.steps.Tokens.{named_tokens};
+ghost use Rattle.canvas_writing.specs.steps.Tokens.{named_tokens};
 ghost use Rattle.canvas_export.specs.Signatures.{task_id};
 ghost use Rattle.canvas_export.specs.Envelope.{delivery_wire, properties_wire, headers_wire, envelope_wire, message_text};
 ghost use Rattle.canvas_export.specs.MessageReading.{IsSound, read_message};

@@ -11,7 +11,7 @@ ghost use Rattle.canvas_rewrite.specs.FrozenView.{p_tasks_of, p_task_view, p_lin
 ghost use Rattle.canvas_message.specs.MessageView.{place_seen, place_view, rest_seen};
 ghost use Rattle.canvas_message.specs.Wire.{list_or_null};
 ghost use Rattle.canvas_message.specs.steps.Parts.{is_stop};
-ghost use Rattle.canvas_codec.specs.steps.Tokens.{named_tokens};
+ghost use Rattle.canvas_writing.specs.steps.Tokens.{named_tokens};
 ghost use Rattle.canvas_export.specs.Signatures.{tasks_wire, each_wire, elements, body_at};
 ghost use Rattle.canvas_export.specs.Envelope.{embed_wire, body_wire};
 ghost use Rattle.canvas_export.specs.ExportView.{naming};

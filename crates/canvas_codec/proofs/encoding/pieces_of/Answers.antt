@@ -2,7 +2,7 @@ use Rattle.std.proofs.Common.{◌∙◌, ap}
 use Rattle.canvas_task.specs.Identifiers.{task_text}
 use Rattle.canvas_codec.proofs.EnvelopeBack.{envelope_back}
 use Rattle.canvas_codec.proofs.EnvelopeLaw.{reading_says}
-use Rattle.canvas_codec.proofs.Identifiers.{task_ascii}
+use Rattle.canvas_writing.proofs.IdentifierTexts.{task_ascii}
 use Rattle.canvas_codec.proofs.encoding.pieces_of.Goals as goal
 
 pub returns-clause-reads_back : goal.returns-clause-reads_back

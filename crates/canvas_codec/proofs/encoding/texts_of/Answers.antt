@@ -8,10 +8,9 @@ use Rattle.serde_json.specs.Written.{compact_text}
 use Rattle.canvas_message.specs.Content.{number_of}
 use Rattle.canvas_message.specs.Pieces.{shared_text}
 use Rattle.canvas_message.specs.Wire.{properties_wire, headers_wire}
-use Rattle.canvas_codec.specs.steps.Texts.{properties_naming}
-use Rattle.canvas_codec.proofs.Bodies.{shared_utf8}
-use Rattle.canvas_codec.proofs.KnownTexts.{task_plain}
-use Rattle.canvas_codec.proofs.OwnTexts.{first_part, middle_part, last_part, parts_utf8, text_length}
+use Rattle.canvas_writing.specs.steps.Texts.{properties_naming}
+use Rattle.canvas_writing.proofs.KnownTexts.{task_plain}
+use Rattle.canvas_codec.proofs.OwnTexts.{first_part, middle_part, last_part, parts_utf8, shared_utf8, text_length}
 use Rattle.canvas_codec.proofs.encoding.texts_of.Goals as goal
 
 pub put_properties-requires : goal.put_properties-requires

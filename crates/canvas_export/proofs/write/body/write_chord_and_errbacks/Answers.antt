@@ -3,7 +3,7 @@ use Rattle.json.specs.Token.{key}
 use Rattle.canvas_sig.specs.steps.Tokens.{data_tokens}
 use Rattle.canvas_sig.proofs.Writers.{after_ok, then_tokens}
 use Rattle.canvas_rewrite.specs.FrozenView.{p_tasks_of, p_task_view}
-use Rattle.canvas_codec.specs.steps.Tokens.{named_tokens}
+use Rattle.canvas_writing.specs.steps.Tokens.{named_tokens}
 use Rattle.canvas_message.specs.MessageView.{place_seen}
 use Rattle.canvas_message.specs.Wire.{list_or_null}
 use Rattle.canvas_export.specs.Signatures.{tasks_wire, body_at}

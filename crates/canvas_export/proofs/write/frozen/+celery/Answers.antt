@@ -5,7 +5,7 @@ use Rattle.canvas_sig.specs.steps.Tokens.{data_tokens, link_tokens}
 use Rattle.canvas_sig.proofs.Writers.{after_ok, then_tokens}
 use Rattle.canvas_rewrite.specs.FrozenView.{p_tasks_of, p_task_view, p_line_view, p_end_view}
 use Rattle.canvas_message.specs.MessageView.{place_seen}
-use Rattle.canvas_codec.specs.steps.Tokens.{named_tokens}
+use Rattle.canvas_writing.specs.steps.Tokens.{named_tokens}
 use Rattle.canvas_message.proofs.Seen.{group_place}
 use Rattle.canvas_export.specs.Signatures.{tasks_wire, elements, behind, carried_wire, first_wire}
 use Rattle.canvas_export.specs.ExportView.{naming}

@@ -1,5 +1,5 @@
 use Rattle.std.proofs.Common.{codes, ap}
-use Rattle.canvas_codec.specs.steps.Tokens.{named_tokens}
+use Rattle.canvas_writing.specs.steps.Tokens.{named_tokens}
 use Rattle.canvas_export.specs.Signatures.{task_id}
 use Rattle.canvas_export.specs.ExportView.{naming}
 use Rattle.canvas_export.proofs.Tokens.{appends_as}

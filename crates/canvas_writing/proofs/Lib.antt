@@ -1,0 +1,13 @@
+pub mod IdentifierTexts
+pub mod KnownTexts
+pub mod TaskTokens
+pub mod LineTokens
+pub mod Holes
+pub mod AroundTexts
+pub mod AroundLines
+pub mod CarriedTexts
+pub mod Listing
+pub mod PieceTexts
+pub mod Bodies
+pub mod Followed
+pub mod Turns

@@ -1,0 +1,16 @@
+use Rattle.std.proofs.Common.{◌∙◌, sym}
+use Rattle.canvas_sig.proofs.Writers.{after_ok}
+use Rattle.canvas_writing.proofs.AroundLines.{chord_behind_is, long_end_behind}
+use Rattle.canvas_writing.proofs.around.+behind.Goals as goal
+
+pub write_end_behind-returns-in_ok-write_line_behind-in-Some : goal.write_end_behind-returns-in_ok-write_line_behind-in-Some
+write_end_behind-returns-in_ok-write_line_behind-in-Some t c =
+    after_ok c.write_rest.result c.args.out.now c.write_line_behind.new.out c.write_rest.new.out _ _ _
+    c.in_ok-write_line_behind-in-Some.ensures c.write_rest.ensures (chord_behind_is c.args.end.now c.in-Some.body c.in-Some.is)
+
+pub write_line_behind-returns-else-is_empty : goal.write_line_behind-returns-else-is_empty
+write_line_behind-returns-else-is_empty t c =
+    after_ok c.write_chain_behind.result c.args.out.now c.write_end_behind.new.out c.write_chain_behind.new.out _ _ _
+    c.in_ok-write_end_behind-in-Some.ensures c.write_chain_behind.ensures
+    (long_end_behind c.args.line.now c.as_slice-tasks.result.now (c.as_slice-tasks.ensures.value ∙ c.get.ensures) c.in-Some.end c.deref.result.now
+    c.in-Some.is c.deref.ensures (sym c.is_empty.ensures ∙ c.if-is_empty.false))

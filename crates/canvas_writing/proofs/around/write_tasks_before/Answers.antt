@@ -1,0 +1,11 @@
+use Rattle.std.proofs.Common.{◌∙◌, sym}
+use Rattle.canvas_sig.proofs.Writers.{after_ok}
+use Rattle.canvas_writing.proofs.AroundLines.{more_before}
+use Rattle.canvas_writing.proofs.around.write_tasks_before.Goals as goal
+
+pub returns-in_ok-write_chain_before-in-Some : goal.returns-in_ok-write_chain_before-in-Some
+returns-in_ok-write_chain_before-in-Some c =
+    after_ok c.write_task_before-in-Some.result c.args.out.now c.write_chain_before.new.out c.write_task_before-in-Some.new.out _ _ _
+    c.in_ok-write_chain_before-in-Some.ensures c.write_task_before-in-Some.ensures
+    (more_before c.args.tasks.now c.in-Some.others.now c.in-Some.last.now c.in-Some.ensures.cases.0 c.args.size
+    (sym c.is_empty.ensures ∙ c.if-is_empty.false))

@@ -1,0 +1,15 @@
+use Rattle.std.proofs.Common.{◌∙◌, ap}
+use Rattle.canvas_message.specs.SharedTexts.{carried_bytes}
+use Rattle.canvas_writing.proofs.CarriedTexts.{says_place, says_bytes}
+use Rattle.canvas_writing.proofs.body.text_of.Goals as goal
+
+pub returns-in_ok-text-in-Some-known : goal.returns-in_ok-text-in-Some-known
+returns-in_ok-text-in-Some-known c =
+    let said = rw c.in-Some-known.is at c.requires in
+    ap carried_bytes c.in_ok-text-in-Some-known.ensures ∙ says_bytes c.args.place.now c.in-Some.carried c.in-Some.is c.in-Some-known.text.value said
+
+pub returns-in_ok-new-in-None-known : goal.returns-in_ok-new-in-None-known
+returns-in_ok-new-in-None-known c =
+    ap carried_bytes c.in_ok-new-in-None-known.ensures.ok
+    ∙ says_bytes c.args.place.now c.in-Some.carried c.in-Some.is c.in_ok-text-in-None-known.text
+    (says_place c.args.place.now c.in-Some.carried c.in-Some.is c.in_ok-text-in-None-known.text c.in_ok-text-in-None-known.ensures)

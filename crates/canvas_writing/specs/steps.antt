@@ -1,0 +1,4 @@
+pub mod Around
+pub mod Tokens
+pub mod Texts
+pub mod Listing

@@ -1,0 +1,245 @@
+//! What stands before and behind the text of the body that the end of a line carries, in the text
+//! of the line, as tokens of JSON.
+
+ghost use Rattle.std.specs.Prelude.{◌≡◌, None, codes, map};
+ghost use Rattle.canvas_sig.specs.steps.Tokens.{Appends};
+ghost use Rattle.canvas_semantics.specs.PlacedLine.{p_stop};
+ghost use Rattle.canvas_rewrite.specs.FrozenView.{p_steps, p_task_view, p_line_view, p_end_view};
+ghost use Rattle.canvas_message.specs.MessageView.{place_seen};
+ghost use Rattle.canvas_message.specs.Wire.{place_id};
+ghost use Rattle.canvas_writing.specs.steps.Around.{carries, is_carrying, task_before, chain_before, line_before, last_before, task_behind, chain_behind, line_behind, last_behind};
+ghost use Rattle.canvas_writing.specs.steps.Tokens.{unless_null};
+
+use crate::frozen::{write_each, write_group_option, write_links, write_rest};
+use crate::pieces::{write_call, write_opening, write_own_id};
+use canvas_rewrite::{FrozenEnd, FrozenLine, FrozenTask, Place};
+use canvas_sig::parts::{write_closing, write_end};
+use json::Writer;
+use std::alloc::AllocError;
+
+fn is_carrying(place: &Option<Place>) -> bool
+    ensures { result ≡ is_carrying (place_seen place.now) }
+{
+    match place {
+        Some(place) => place.chord.is_some(),
+        None => false,
+    }
+}
+
+/// Whether the end of a line carries a body.
+#[cycle(carries)]
+pub(crate) fn carries(line: &FrozenLine) -> bool
+    ensures { result ≡ carries (p_line_view line.now) }
+{
+    match &line.tail {
+        Some(end) => end_carries(end),
+        None => match line.tasks.get().split_last() {
+            Some((last, _others)) => is_carrying(&last.place),
+            None => false,
+        },
+    }
+}
+
+#[cycle(carries)]
+fn end_carries(end: &FrozenEnd) -> bool
+    ensures { result ≡ carries (p_end_view end.now) }
+{
+    match &end.body {
+        Some(body) => carries(body),
+        None => false,
+    }
+}
+
+/// The members before the body that a task's place carries.
+fn write_task_before(
+    out: &mut Writer,
+    task: &FrozenTask,
+    size: Option<u32>,
+) -> Result<(), AllocError>
+    ensures { Appends result out.old out.new (task_before size (p_task_view task.now)) }
+{
+    write_call(
+        out,
+        task.args.get(),
+        task.immutable,
+        task.kwargs.get(),
+        size,
+    )?;
+    out.key("options")?;
+    out.begin_object()?;
+    out.key("chord")
+}
+
+/// The elements of a chain before its last.
+fn write_chain_before(
+    out: &mut Writer,
+    tasks: &[FrozenTask],
+    size: Option<u32>,
+) -> Result<(), AllocError>
+    ensures { Appends result out.old out.new (chain_before size (map p_task_view tasks.now)) }
+{
+    write_opening(out, size)?;
+    out.key("tasks")?;
+    out.begin_array()?;
+    write_each(out, tasks)
+}
+
+/// A line up to the body that its end carries.
+#[cycle(before)]
+pub(crate) fn write_line_before(
+    out: &mut Writer,
+    line: &FrozenLine,
+    size: Option<u32>,
+) -> Result<(), AllocError>
+    ensures { Appends result out.old out.new (line_before size (p_line_view line.now)) }
+{
+    let tasks = line.tasks.get().as_slice();
+    match &line.tail {
+        Some(end) => {
+            if tasks.is_empty() {
+                return write_end_before(out, end, size);
+            }
+            write_chain_before(out, tasks, size)?;
+            write_end_before(out, end, None)
+        }
+        None => write_tasks_before(out, tasks, size),
+    }
+}
+
+/// A line of tasks alone.
+fn write_tasks_before(
+    out: &mut Writer,
+    tasks: &[FrozenTask],
+    size: Option<u32>,
+) -> Result<(), AllocError>
+    ensures { Appends result out.old out.new
+        (line_before size (p_steps (map p_task_view tasks.now) p_stop)) }
+{
+    match tasks.split_last() {
+        Some((last, others)) => {
+            if others.is_empty() {
+                return write_task_before(out, last, size);
+            }
+            write_chain_before(out, others, size)?;
+            write_task_before(out, last, None)
+        }
+        None => Ok(()),
+    }
+}
+
+#[cycle(before)]
+fn write_end_before(out: &mut Writer, end: &FrozenEnd, size: Option<u32>) -> Result<(), AllocError>
+    ensures { Appends result out.old out.new (line_before size (p_end_view end.now)) }
+{
+    match &end.body {
+        Some(body) => {
+            write_opening(out, size)?;
+            out.key("body")?;
+            write_line_before(out, body, None)
+        }
+        None => Ok(()),
+    }
+}
+
+/// The last element of a line, up to the body that it carries.
+pub(crate) fn write_last_before(out: &mut Writer, line: &FrozenLine) -> Result<(), AllocError>
+    ensures { Appends result out.old out.new (last_before (p_line_view line.now)) }
+{
+    match &line.tail {
+        Some(end) => write_end_before(out, end, None),
+        None => match line.tasks.get().split_last() {
+            Some((last, _others)) => write_task_before(out, last, None),
+            None => Ok(()),
+        },
+    }
+}
+
+fn write_group(out: &mut Writer, place: &Option<Place>) -> Result<(), AllocError>
+    ensures { Appends result out.old out.new
+        (unless_null (codes "group_id") (place_id (place_seen place.now))) }
+{
+    match place {
+        Some(place) => write_group_option(out, place.group),
+        None => Ok(()),
+    }
+}
+
+/// What stands in a task behind the body that its place carries.
+fn write_task_behind(out: &mut Writer, task: &FrozenTask) -> Result<(), AllocError>
+    ensures { Appends result out.old out.new (task_behind (p_task_view task.now)) }
+{
+    write_group(out, &task.place)?;
+    write_links(out, task)?;
+    write_own_id(out, task.no)?;
+    write_end(out, task.name.get())
+}
+
+/// What stands in a chain behind its last element.
+fn write_chain_behind(out: &mut Writer) -> Result<(), AllocError>
+    ensures { Appends result out.old out.new chain_behind }
+{
+    out.end_array()?;
+    out.end_object()?;
+    write_closing(out, "chain", "celery.chain")
+}
+
+/// A line from behind the body that its end carries.
+#[cycle(behind)]
+pub(crate) fn write_line_behind(out: &mut Writer, line: &FrozenLine) -> Result<(), AllocError>
+    ensures { Appends result out.old out.new (line_behind (p_line_view line.now)) }
+{
+    let tasks = line.tasks.get().as_slice();
+    match &line.tail {
+        Some(end) => {
+            write_end_behind(out, end)?;
+            if tasks.is_empty() {
+                return Ok(());
+            }
+            write_chain_behind(out)
+        }
+        None => write_tasks_behind(out, tasks),
+    }
+}
+
+/// A line of tasks alone.
+fn write_tasks_behind(out: &mut Writer, tasks: &[FrozenTask]) -> Result<(), AllocError>
+    ensures { Appends result out.old out.new
+        (line_behind (p_steps (map p_task_view tasks.now) p_stop)) }
+{
+    match tasks.split_last() {
+        Some((last, others)) => {
+            write_task_behind(out, last)?;
+            if others.is_empty() {
+                return Ok(());
+            }
+            write_chain_behind(out)
+        }
+        None => Ok(()),
+    }
+}
+
+#[cycle(behind)]
+fn write_end_behind(out: &mut Writer, end: &FrozenEnd) -> Result<(), AllocError>
+    ensures { Appends result out.old out.new (line_behind (p_end_view end.now)) }
+{
+    match &end.body {
+        Some(body) => {
+            write_line_behind(out, body)?;
+            write_rest(out, end, "header", "chord", "celery.chord")
+        }
+        None => Ok(()),
+    }
+}
+
+/// The last element of a line, from behind the body that it carries.
+pub(crate) fn write_last_behind(out: &mut Writer, line: &FrozenLine) -> Result<(), AllocError>
+    ensures { Appends result out.old out.new (last_behind (p_line_view line.now)) }
+{
+    match &line.tail {
+        Some(end) => write_end_behind(out, end),
+        None => match line.tasks.get().split_last() {
+            Some((last, _others)) => write_task_behind(out, last),
+            None => Ok(()),
+        },
+    }
+}

@@ -1,0 +1,19 @@
+//! Writing the texts of messages: signatures as tokens of JSON, what stands around them as text.
+#![tactic(auto)]
+
+mod around;
+mod body;
+mod carried;
+mod frozen;
+mod identifiers;
+mod light;
+mod line;
+mod pieces;
+mod room;
+mod text;
+
+pub use body::{Body, body_of};
+pub use carried::carried_text;
+pub use light::{put_headers, put_properties};
+pub use line::line_text;
+pub use text::ascii;

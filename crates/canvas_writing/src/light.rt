@@ -1,0 +1,201 @@
+//! Properties, headers, arguments, and carried tasks with nothing of their own behind them, by
+//! pieces that are known.
+
+ghost use Rattle.std.specs.Prelude.{◌≡◌, true, Some, IfSome, string_bytes};
+ghost use Rattle.json.specs.Print.{escape};
+ghost use Rattle.serde_json.specs.Data.{string};
+ghost use Rattle.serde_json.specs.Written.{compact_text};
+ghost use Rattle.canvas_task.specs.Identifiers.{task_text};
+ghost use Rattle.canvas_sig.specs.Writing.{args_wire, kwargs_wire};
+ghost use Rattle.canvas_task.specs.Entries.{named};
+ghost use Rattle.canvas_semantics.specs.PlacedLine.{p_step, p_stop};
+ghost use Rattle.canvas_rewrite.specs.declared.frozen.FrozenTask.{out-FrozenTask};
+ghost use Rattle.canvas_rewrite.specs.FrozenView.{p_task_view, p_line_view};
+ghost use Rattle.canvas_message.specs.Content.{number_of};
+ghost use Rattle.canvas_message.specs.MessageView.{place_seen};
+ghost use Rattle.canvas_message.specs.Wire.{task_id, place_id, parent_id, task_wire, headers_wire};
+ghost use Rattle.canvas_writing.specs.steps.Texts.{Adds, properties_naming, front_text, origin_text, name_text, bare, size_text, flag_text, call_text, own_text, args_text};
+
+use crate::text::{put, put_args, put_group_text, put_kwargs, put_size, put_string, put_task_text};
+use canvas_message::Message;
+use canvas_rewrite::{FrozenLine, FrozenTask, Place};
+use canvas_task::{Arg, TaskNo};
+use std::alloc::{AllocError, Global};
+use std::collections::BTreeMap;
+
+/// Adds the properties of a message with this identifier.
+pub fn put_properties(out: &mut String, id: &str) -> Result<(), AllocError>
+    requires { escape id.now ≡ id.now }
+    ensures { Adds result (string_bytes out.old) (string_bytes out.new)
+        (compact_text (properties_naming (string id.now))) }
+{
+    put(
+        out,
+        "{\"content_encoding\":\"utf-8\",\"content_type\":\"application/json\",\"correlation_id\":\"",
+    )?;
+    put(out, id)?;
+    put(out, "\"}")
+}
+
+fn put_place(out: &mut String, place: &Place) -> Result<(), AllocError>
+    ensures { Adds result (string_bytes out.old) (string_bytes out.new)
+        (front_text (place_id (place_seen (Some place.now)))) }
+{
+    put(out, "{\"group\":\"")?;
+    put_group_text(out, place.group)?;
+    put(out, "\",\"id\":\"")
+}
+
+/// The group or chord of a place, up to the identifier.
+fn put_front(out: &mut String, place: &Option<Place>) -> Result<(), AllocError>
+    ensures { Adds result (string_bytes out.old) (string_bytes out.new)
+        (front_text (place_id (place_seen place.now))) }
+{
+    match place {
+        Some(place) => put_place(out, place),
+        None => put(out, "{\"group\":null,\"id\":\""),
+    }
+}
+
+fn put_parent(out: &mut String, task: TaskNo) -> Result<(), AllocError>
+    ensures { Adds result (string_bytes out.old) (string_bytes out.new)
+        (origin_text (task_id task)) }
+{
+    put(out, "\",\"lang\":\"rs\",\"parent_id\":\"")?;
+    put_task_text(out, task)?;
+    put(
+        out,
+        "\",\"root_id\":\"00000000-0000-8000-8000-000000000001\",\"task\":",
+    )
+}
+
+/// What stands between the identifier and the name.
+fn put_origin(out: &mut String, parent: Option<TaskNo>) -> Result<(), AllocError>
+    ensures { Adds result (string_bytes out.old) (string_bytes out.new)
+        (origin_text (parent_id parent)) }
+{
+    match parent {
+        Some(task) => put_parent(out, task),
+        None => put(
+            out,
+            "\",\"lang\":\"rs\",\"parent_id\":null,\"root_id\":\"00000000-0000-8000-8000-000000000001\",\"task\":",
+        ),
+    }
+}
+
+/// The name, which is the last.
+fn put_name(alloc: Global, out: &mut String, name: &str) -> Result<(), AllocError>
+    ensures { Adds result (string_bytes out.old) (string_bytes out.new) (name_text name.now) }
+{
+    put_string(alloc, out, name)?;
+    put(out, "}")
+}
+
+/// Adds the headers of a message with this identifier.
+pub fn put_headers(
+    alloc: Global,
+    out: &mut String,
+    message: &Message,
+    id: &str,
+) -> Result<(), AllocError>
+    requires { id.now ≡ task_text (number_of message.now.own) }
+    ensures { Adds result (string_bytes out.old) (string_bytes out.new)
+        (compact_text (headers_wire message.now)) }
+{
+    put_front(out, &message.place)?;
+    put(out, id)?;
+    put_origin(out, message.parent)?;
+    put_name(alloc, out, message.name.get())
+}
+
+/// Whether a task has nothing of its own behind it.
+fn is_bare(task: &FrozenTask) -> bool
+    ensures { result ≡ true → p_task_view task.now ≡ bare task.now }
+{
+    task.links.get().is_empty() && task.errbacks.get().is_empty() && task.place.is_none()
+}
+
+/// The task that is all of a line, where it has nothing of its own behind it.
+pub(crate) fn bare_task(line: &FrozenLine) -> Option<&FrozenTask>
+    ensures { IfSome result (λ task. p_line_view line.now ≡ p_step (bare task.now) p_stop) }
+{
+    match (&line.tail, line.tasks.get().as_slice()) {
+        (None, [task]) if is_bare(task) => Some(task),
+        _ => None,
+    }
+}
+
+fn put_size_and_args(
+    alloc: Global,
+    out: &mut String,
+    size: u32,
+    args: &[Arg],
+) -> Result<(), AllocError>
+    ensures { Adds result (string_bytes out.old) (string_bytes out.new)
+        (size_text size (args_wire args.now)) }
+{
+    put(out, "{\"args\":[")?;
+    put_args(alloc, out, args)?;
+    put(out, ",\"chord_size\":")?;
+    put_size(out, size)
+}
+
+fn put_flag(out: &mut String, immutable: bool) -> Result<(), AllocError>
+    ensures { Adds result (string_bytes out.old) (string_bytes out.new) (flag_text immutable) }
+{
+    if immutable {
+        put(out, ",\"immutable\":true,\"kwargs\":")
+    } else {
+        put(out, ",\"immutable\":false,\"kwargs\":")
+    }
+}
+
+/// What stands in a task before its options.
+fn put_call(alloc: Global, out: &mut String, size: u32, task: &FrozenTask) -> Result<(), AllocError>
+    ensures { Adds result (string_bytes out.old) (string_bytes out.new)
+        (call_text size (args_wire (out-FrozenTask task.now).args)
+        (out-FrozenTask task.now).immutable (kwargs_wire (out-FrozenTask task.now).kwargs)) }
+{
+    put_size_and_args(alloc, out, size, task.args.get())?;
+    put_flag(out, task.immutable)?;
+    put_kwargs(alloc, out, task.kwargs.get())
+}
+
+fn put_options(out: &mut String, task: TaskNo) -> Result<(), AllocError>
+    ensures { Adds result (string_bytes out.old) (string_bytes out.new)
+        (own_text (task_text task)) }
+{
+    put(out, ",\"options\":{\"task_id\":\"")?;
+    put_task_text(out, task)?;
+    put(out, "\"},\"subtask_type\":null,\"task\":")
+}
+
+/// A task that is carried for a header of this size, with nothing of its own behind it.
+pub(crate) fn put_task(
+    alloc: Global,
+    out: &mut String,
+    size: u32,
+    task: &FrozenTask,
+) -> Result<(), AllocError>
+    ensures { Adds result (string_bytes out.old) (string_bytes out.new)
+        (compact_text (task_wire (Some size) (bare task.now))) }
+{
+    put_call(alloc, out, size, task)?;
+    put_options(out, task.no)?;
+    put_name(alloc, out, task.name.get())
+}
+
+pub(crate) fn put_arguments(
+    alloc: Global,
+    out: &mut String,
+    args: &[Arg],
+    kwargs: &BTreeMap<String, Arg>,
+) -> Result<(), AllocError>
+    ensures { Adds result (string_bytes out.old) (string_bytes out.new)
+        (args_text (args_wire args.now) (kwargs_wire (named kwargs.now.entries))) }
+{
+    put(out, "[[")?;
+    put_args(alloc, out, args)?;
+    put(out, ",")?;
+    put_kwargs(alloc, out, kwargs)
+}
