@@ -1,59 +1,18 @@
 //! `canvas run --each`: a canvas a line, and a JSON object a line for each.
 
-use crate::answer::Answer;
-use crate::finding::refusal_json;
-use crate::prepared::{Plans, Prepared, Setting};
-use crate::refusal::Refusal;
-use crate::reporting::FAILED;
-use crate::runs::report_of;
-use crate::source::Source;
-use canvas_report::{Report, is_failure};
+use crate::runs::whole_report;
+use canvas_answer::answer::Answer;
+use canvas_answer::each::{Each, object_text};
+use canvas_answer::finding::refusal_json;
+use canvas_answer::prepared::{Plans, Prepared, Setting};
+use canvas_answer::refusal::Refusal;
+use canvas_answer::reporting::FAILED;
+use canvas_answer::source::Source;
+use canvas_report::is_failure;
 use canvas_task::Tasks;
-use std::alloc::{AllocError, Global};
 use std::random::RandomSource;
 use std::sync::Wait;
 use std::thread::Threads;
-
-/// The lines of `run --json` as one object in a line: the last is that of the canvas.
-fn push_object(out: &mut String, rows: &[&str], canvas: &str) -> Result<(), AllocError> {
-    write!(out, "{{\"canvas\":{canvas},\"rows\":[")?;
-    let mut mark = "";
-    for row in rows {
-        write!(out, "{mark}{row}")?;
-        mark = ",";
-    }
-    out.push_str("]}\n")
-}
-
-/// How many canvases are run.
-#[derive(Clone, Copy, Drop)]
-pub(crate) struct Each {
-    pub(crate) workers: u32,
-    /// Whether a failure of one has a status of its own.
-    pub(crate) fails: bool,
-    /// The byte that each ends with.
-    pub(crate) end: u8,
-}
-
-/// The report of a run as an object in a line.
-fn object_text<'w, T: Tasks>(
-    alloc: Global,
-    plans: &Plans,
-    report: &Report,
-    source: &Source<'_, T>,
-) -> Result<String, Refusal<'w>> {
-    let text = source.json_of(alloc, plans, report)?;
-    object_of_lines(alloc, &text)
-}
-
-fn object_of_lines<'w>(alloc: Global, text: &str) -> Result<String, Refusal<'w>> {
-    let lines: Vec<&str> = text.lines().collect(alloc)?;
-    let mut object = String::new(alloc);
-    if let Some((canvas, rows)) = lines.split_last() {
-        push_object(&mut object, rows, canvas)?;
-    }
-    Ok(object)
-}
 
 /// The same of a canvas's run, and whether its result is a failure.
 fn ran<'w, S, T>(
@@ -80,7 +39,7 @@ where
     S: Threads + Wait + RandomSource + AllocGlobal + Sync,
     T: Tasks + Sync,
 {
-    let report = report_of(rt, plans.run(), source.tasks, workers)?;
+    let report = whole_report(rt, plans.run(), source.tasks, workers)?;
     let object = object_text(rt.alloc(), plans, &report, source)?;
     Ok((object, is_failure(&plans.shown, &report)))
 }

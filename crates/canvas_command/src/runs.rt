@@ -1,31 +1,25 @@
-//! `canvas run`, `canvas turns` and `canvas normal`.
+//! `canvas run` and `canvas turns`.
 
-use crate::again::{Again, named_entries};
-use crate::answer::{Answer, Remark};
-use crate::plan::lasting;
-use crate::prepared::Plans;
-use crate::refusal::Refusal;
-use crate::reporting::Manner;
-use crate::source::Source;
+use crate::halted::{early, refused};
+use canvas_answer::again::{Again, named_entries};
+use canvas_answer::answer::{Answer, Remark};
+use canvas_answer::plan::lasting;
+use canvas_answer::prepared::Plans;
+use canvas_answer::refusal::Refusal;
+use canvas_answer::reporting::Manner;
+use canvas_answer::source::Source;
 use canvas_engine::{
     OpenGate, Report, RunFault, Stop, TextFault, When, run, run_text_again, run_turns_again,
 };
-use canvas_rewrite::{Plan, node_of, normalise};
-use canvas_sig::{Canvas, read_canvas, write_node};
-use canvas_task::{Memory, TaskNo, Tasks};
-use canvas_values::Node;
+use canvas_rewrite::Plan;
+use canvas_task::{TaskNo, Tasks};
 use std::alloc::Global;
 use std::random::RandomSource;
 use std::sync::Wait;
 use std::thread::Threads;
 
 /// The report of a plan's run on threads.
-pub(crate) fn report_of<S, T>(
-    rt: &S,
-    plan: &Plan,
-    tasks: &T,
-    workers: u32,
-) -> Result<Report, RunFault>
+fn report_of<S, T>(rt: &S, plan: &Plan, tasks: &T, workers: u32) -> Result<Report, RunFault>
 where
     S: Threads + Wait + RandomSource + AllocGlobal + Sync,
     T: Tasks + Sync,
@@ -34,6 +28,23 @@ where
     match run(rt, alloc, plan, tasks, workers, &OpenGate, &Stop::new()) {
         Ok((report, _records)) => Ok(report),
         Err(fault) => Err(fault),
+    }
+}
+
+/// The same, or why there is none.
+pub(crate) fn whole_report<'w, S, T>(
+    rt: &S,
+    plan: &Plan,
+    tasks: &T,
+    workers: u32,
+) -> Result<Report, Refusal<'w>>
+where
+    S: Threads + Wait + RandomSource + AllocGlobal + Sync,
+    T: Tasks + Sync,
+{
+    match report_of(rt, plan, tasks, workers) {
+        Ok(report) => Ok(report),
+        Err(fault) => Err(refused(&fault)),
     }
 }
 
@@ -49,24 +60,9 @@ where
     T: Tasks + Sync,
 {
     let plans = lasting(Plans::of(rt.alloc(), source)?);
-    answer_plans(rt, workers, manner, &plans, source)
-}
-
-/// The report of a run by these plans.
-fn answer_plans<'w, S, T>(
-    rt: &S,
-    workers: u32,
-    manner: Manner,
-    plans: &Plans,
-    source: &Source<'_, T>,
-) -> Result<Answer<'w>, Refusal<'w>>
-where
-    S: Threads + Wait + RandomSource + AllocGlobal + Sync,
-    T: Tasks + Sync,
-{
     match report_of(rt, plans.run(), source.tasks, workers) {
-        Ok(report) => manner.whole(rt.alloc(), plans, &report, source),
-        Err(fault) => Ok(manner.early(rt.alloc(), plans, source, fault)),
+        Ok(report) => manner.whole(rt.alloc(), &plans, &report, source),
+        Err(fault) => Ok(early(rt.alloc(), manner, &plans, source, &fault)),
     }
 }
 
@@ -98,7 +94,7 @@ impl ByTurns<'_> {
             Ok((report, repeats)) => {
                 Ok(self.counted(Answer::whole(report.into_bytes()), repeats))
             }
-            Err(fault) => early(alloc, fault),
+            Err(fault) => early_text(alloc, fault),
         }
     }
 
@@ -115,7 +111,7 @@ impl ByTurns<'_> {
                 let answer = self.manner.whole(alloc, plans, &report, source)?;
                 Ok(self.counted(answer, repeats))
             }
-            Err(fault) => Ok(self.manner.early(alloc, plans, source, fault)),
+            Err(fault) => Ok(early(alloc, self.manner, plans, source, &fault)),
         }
     }
 
@@ -185,37 +181,11 @@ pub(crate) fn answer_turns<'w, T: Tasks>(
     }
 }
 
-/// The normal line of a canvas as JSON, with a line feed.
-pub(crate) fn answer_normal<'w>(alloc: Global, text: &[u8]) -> Result<Answer<'w>, Refusal<'w>> {
-    let canvas = read_canvas(alloc, text)?;
-    answer_line(alloc, &canvas)
-}
-
-fn answer_line<'w>(alloc: Global, canvas: &Canvas) -> Result<Answer<'w>, Refusal<'w>> {
-    let mut text = line_json(alloc, canvas)?;
-    text.push('\n')?;
-    Ok(Answer::whole(text.into_bytes()))
-}
-
-/// The normal line of a canvas, as a signature.
-fn line_node(alloc: Global, canvas: &Canvas) -> Result<Node, Memory> {
-    let line = normalise(alloc, canvas)?;
-    node_of(alloc, &line)
-}
-
-/// The normal line of a canvas as JSON.
-fn line_json(alloc: Global, canvas: &Canvas) -> Result<String, Memory> {
-    let node = line_node(alloc, canvas)?;
-    write_node(alloc, &node)
-}
-
 /// Why a text has no whole report, and what its run stored, where there is memory for it.
-fn early<'w>(alloc: Global, fault: TextFault) -> Result<Answer<'w>, Refusal<'w>> {
+fn early_text<'w>(alloc: Global, fault: TextFault) -> Result<Answer<'w>, Refusal<'w>> {
     match fault {
         TextFault::Sig(fault) => Err(Refusal::from(fault)),
-        TextFault::Run { fault, stored } => {
-            Ok(Answer::in_part(alloc, stored, Refusal::from(fault)))
-        }
+        TextFault::Run { fault, stored } => Ok(Answer::in_part(alloc, stored, refused(&fault))),
         TextFault::Memory => Err(Refusal::Memory),
     }
 }

@@ -78,7 +78,7 @@ struct Warning {
 
 /// What is warned of, in file order.
 #[derive(Drop)]
-pub(crate) struct Warnings {
+pub struct Warnings {
     alloc: Global,
     found: Vec<Warning>,
     /// Which warning is that of a name, or of an option.
@@ -223,12 +223,13 @@ impl Warnings {
         Ok(())
     }
 
-    pub(crate) fn is_empty(&self) -> bool {
+    /// Whether nothing is warned of.
+    pub fn is_empty(&self) -> bool {
         self.found.is_empty()
     }
 
     /// Writes each as a line, for a person.
-    pub(crate) fn push_lines(&self, text: &mut String) -> Result<(), AllocError> {
+    pub fn push_lines(&self, text: &mut String) -> Result<(), AllocError> {
         for warning in &self.found {
             push_line(text, warning)?;
         }
@@ -236,7 +237,7 @@ impl Warnings {
     }
 
     /// Writes each as a JSON object in a line.
-    pub(crate) fn push_objects(&self, text: &mut String) -> Result<(), AllocError> {
+    pub fn push_objects(&self, text: &mut String) -> Result<(), AllocError> {
         for warning in &self.found {
             push_object(self.alloc, text, warning)?;
         }
@@ -279,7 +280,7 @@ fn push_object(alloc: Global, text: &mut String, warning: &Warning) -> Result<()
 }
 
 /// What is warned of a canvas that a source's text spells.
-pub(crate) fn warnings_of<T: Tasks>(
+pub fn warnings_of<T: Tasks>(
     alloc: Global,
     source: &Source<'_, T>,
     canvas: &Canvas,

@@ -12,18 +12,18 @@ use std::alloc::Global;
 
 /// How canvases are run, besides what answers their calls.
 #[derive(Clone, Copy)]
-pub(crate) struct Setting<'a> {
+pub struct Setting<'a> {
     /// Whether they are adapted first.
-    pub(crate) adapts: bool,
+    pub adapts: bool,
     /// The stubs that stand before the tasks.
-    pub(crate) stubs: &'a [Stub],
-    pub(crate) errors: &'a [OtherError],
-    pub(crate) renames: &'a [Rename],
+    pub stubs: &'a [Stub],
+    pub errors: &'a [OtherError],
+    pub renames: &'a [Rename],
 }
 
 /// The texts that are made of a canvas's.
 #[derive(Drop)]
-pub(crate) struct Prepared {
+pub struct Prepared {
     adapted: Option<Vec<u8>>,
     renamed: Option<Vec<u8>>,
 }
@@ -71,7 +71,8 @@ fn text_or<'a>(made: &'a Option<Vec<u8>>, text: &'a [u8]) -> &'a [u8] {
 }
 
 impl Prepared {
-    pub(crate) fn of<'w>(
+    /// The texts that a setting asks for of a canvas's.
+    pub fn of<'w>(
         alloc: Global,
         text: &[u8],
         setting: Setting<'_>,
@@ -82,7 +83,7 @@ impl Prepared {
     }
 
     /// What a run of the canvas is of, whose text is this.
-    pub(crate) fn source<'a, T>(
+    pub fn source<'a, T>(
         &'a self,
         text: &'a [u8],
         tasks: &'a T,
@@ -102,14 +103,15 @@ impl Prepared {
 
 /// The plan of a canvas, as it is shown and as it is run.
 #[derive(Drop)]
-pub(crate) struct Plans {
-    pub(crate) shown: Plan,
+pub struct Plans {
+    pub shown: Plan,
     /// Where some of its tasks have other names.
     renamed: Option<Plan>,
 }
 
 impl Plans {
-    pub(crate) fn of<'w, T>(alloc: Global, source: &Source<'_, T>) -> Result<Plans, Refusal<'w>> {
+    /// The plans of a canvas, one where no task has another name.
+    pub fn of<'w, T>(alloc: Global, source: &Source<'_, T>) -> Result<Plans, Refusal<'w>> {
         let shown = plan_of(alloc, source.shown)?;
         let renamed = if source.is_renamed {
             Some(plan_of(alloc, source.text)?)
@@ -120,7 +122,7 @@ impl Plans {
     }
 
     /// The plan that is run.
-    pub(crate) fn run(&self) -> &Plan {
+    pub fn run(&self) -> &Plan {
         match &self.renamed {
             Some(plan) => plan,
             None => &self.shown,

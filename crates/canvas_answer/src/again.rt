@@ -1,16 +1,16 @@
 //! `--again`: what is delivered again, by the numbers and names of tasks.
 
 use crate::refusal::Refusal;
-use canvas_engine::When;
 use canvas_lists::{EntryFault, read_again};
 use canvas_rewrite::Plan;
+use canvas_runs::When;
 use canvas_task::{TaskNo, name_ok};
 use clap::ArgMatches;
 use std::alloc::{AllocError, Global};
 
 /// What is asked for.
 #[derive(Drop)]
-pub(crate) enum Again<'w> {
+pub enum Again<'w> {
     Nothing,
     Entries(Vec<(TaskNo, When)>),
     /// A list in which there are names, or all tasks.
@@ -62,10 +62,7 @@ fn has_names(list: &str) -> bool {
 }
 
 /// What the words ask for.
-pub(crate) fn asked_again<'w>(
-    alloc: Global,
-    given: &ArgMatches<'w>,
-) -> Result<Again<'w>, Refusal<'w>> {
+pub fn asked_again<'w>(alloc: Global, given: &ArgMatches<'w>) -> Result<Again<'w>, Refusal<'w>> {
     let Some(list) = given.get_str("again") else {
         return Ok(Again::Nothing);
     };
@@ -144,7 +141,7 @@ fn numbered<'w>(alloc: Global, plan: &Plan, list: &str) -> Result<String, Refusa
 }
 
 /// The entries of such a list.
-pub(crate) fn named_entries<'w>(
+pub fn named_entries<'w>(
     alloc: Global,
     plan: &Plan,
     list: &str,

@@ -9,7 +9,7 @@ use std::io::{self, Write};
 
 /// What standard error says beside an answer.
 #[derive(Drop)]
-pub(crate) enum Remark {
+pub enum Remark {
     /// How many stores of a run answered Again.
     Repeats(u64),
     /// What was changed of a canvas.
@@ -44,7 +44,7 @@ pub struct Answer<'w> {
 
 impl<'w> Answer<'w> {
     /// All that was asked for.
-    pub(crate) fn whole(out: Vec<u8>) -> Answer<'w> {
+    pub fn whole(out: Vec<u8>) -> Answer<'w> {
         Answer {
             out,
             remark: None,
@@ -54,12 +54,12 @@ impl<'w> Answer<'w> {
     }
 
     /// Nothing, and why.
-    pub(crate) fn refused(alloc: Global, refusal: Refusal<'w>) -> Answer<'w> {
+    pub fn refused(alloc: Global, refusal: Refusal<'w>) -> Answer<'w> {
         Answer::in_part(alloc, None, refusal)
     }
 
     /// What there is of a report, and why that isn't all.
-    pub(crate) fn in_part(alloc: Global, text: Option<String>, refusal: Refusal<'w>) -> Answer<'w> {
+    pub fn in_part(alloc: Global, text: Option<String>, refusal: Refusal<'w>) -> Answer<'w> {
         let out = match text {
             Some(text) => text.into_bytes(),
             None => Vec::new(alloc),
@@ -72,11 +72,13 @@ impl<'w> Answer<'w> {
         }
     }
 
-    pub(crate) fn with_status(self, status: u8) -> Answer<'w> {
+    /// The same with this status, where it isn't refused.
+    pub fn with_status(self, status: u8) -> Answer<'w> {
         Answer { status, ..self }
     }
 
-    pub(crate) fn with_remark(self, remark: Option<Remark>) -> Answer<'w> {
+    /// The same with this beside it on standard error.
+    pub fn with_remark(self, remark: Option<Remark>) -> Answer<'w> {
         Answer { remark, ..self }
     }
 
@@ -85,7 +87,7 @@ impl<'w> Answer<'w> {
     }
 
     /// The same with its refusal, if it has one, as it is printed where JSON is asked for.
-    pub(crate) fn in_json(self, alloc: Global) -> Answer<'w> {
+    pub fn in_json(self, alloc: Global) -> Answer<'w> {
         let Answer {
             out,
             remark,

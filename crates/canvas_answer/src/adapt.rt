@@ -7,7 +7,7 @@ use clap::ArgMatches;
 use std::alloc::Global;
 
 /// The other names that the words ask for.
-pub(crate) fn asked_renames<'w>(
+pub fn asked_renames<'w>(
     alloc: Global,
     given: &ArgMatches<'w>,
 ) -> Result<Vec<Rename>, Refusal<'w>> {
@@ -49,7 +49,8 @@ fn renamed<'w>(alloc: Global, text: Vec<u8>, renames: &[Rename]) -> Result<Vec<u
     Ok(renamed.text)
 }
 
-pub(crate) fn answer_adapt<'w>(
+/// A canvas that can be run, as JSON, and what was changed for it.
+pub fn answer_adapt<'w>(
     alloc: Global,
     renames: &[Rename],
     text: &[u8],

@@ -18,21 +18,21 @@ use std::alloc::{AllocError, Global};
 /// A canvas's text, and the tasks that its calls are answered by, which have these stubs before
 /// them.
 #[derive(Drop)]
-pub(crate) struct Source<'a, T> {
-    pub(crate) text: &'a [u8],
+pub struct Source<'a, T> {
+    pub text: &'a [u8],
     /// The same where no task has another name for the run.
-    pub(crate) shown: &'a [u8],
-    pub(crate) is_renamed: bool,
-    pub(crate) tasks: &'a T,
-    pub(crate) stubs: &'a [Stub],
+    pub shown: &'a [u8],
+    pub is_renamed: bool,
+    pub tasks: &'a T,
+    pub stubs: &'a [Stub],
     /// What stubs raise in place of NotRegistered.
-    pub(crate) errors: &'a [OtherError],
+    pub errors: &'a [OtherError],
 }
 
 /// What is foreseen of a signature.
 #[derive(Clone, Copy)]
-pub(crate) struct Foreseen<'a> {
-    pub(crate) forecast: Forecast,
+pub struct Foreseen<'a> {
+    pub forecast: Forecast,
     is_task: bool,
     /// Of a call that is a TypeError the parameter that is at fault, if it is one; none where no
     /// built-in task answers it.
@@ -41,7 +41,7 @@ pub(crate) struct Foreseen<'a> {
 
 impl<'a> Foreseen<'a> {
     /// The parameter that makes its call a TypeError, where that is known.
-    pub(crate) fn blame(&self) -> Option<Blame<'a>> {
+    pub fn blame(&self) -> Option<Blame<'a>> {
         match self.blame {
             Some(blame) => blame,
             None => None,
@@ -111,12 +111,12 @@ fn blamed_of(
 
 impl<'a, T> Source<'a, T> {
     /// Whether a run is shown as its report has it.
-    pub(crate) fn is_plain(&self) -> bool {
+    pub fn is_plain(&self) -> bool {
         self.errors.is_empty() && !self.is_renamed
     }
 
     /// The rows of a whole run, with the exceptions that stubs raise.
-    pub(crate) fn named_rows(
+    pub fn named_rows(
         &self,
         alloc: Global,
         plans: &Plans,
@@ -178,7 +178,7 @@ impl<'a, T: Tasks> Source<'a, T> {
     }
 
     /// What is foreseen of each signature of a canvas, in file order.
-    pub(crate) fn all_foreseen<'c>(
+    pub fn all_foreseen<'c>(
         &self,
         alloc: Global,
         canvas: &'c Canvas,
@@ -233,7 +233,7 @@ impl<'a, T: Tasks> Source<'a, T> {
     }
 
     /// The report of a whole run as JSON lines.
-    pub(crate) fn json_of<'w>(
+    pub fn json_of<'w>(
         &self,
         alloc: Global,
         plans: &Plans,

@@ -5,7 +5,6 @@ use crate::named_rows::rows_of;
 use crate::prepared::Plans;
 use crate::refusal::Refusal;
 use crate::source::Source;
-use canvas_engine::RunFault;
 use canvas_ran::fates;
 use canvas_report::{
     Report, Told, explained_text, is_failure, report_text, rows_text, stored_text,
@@ -16,7 +15,7 @@ use std::alloc::Global;
 
 /// How a report is printed.
 #[derive(Clone, Copy, PartialEq, Eq)]
-pub(crate) enum Form {
+pub enum Form {
     Plain,
     /// Each task is a JSON object in a line.
     Json,
@@ -26,19 +25,19 @@ pub(crate) enum Form {
 
 /// How a report is printed, and what its result does.
 #[derive(Clone, Copy)]
-pub(crate) struct Manner {
-    pub(crate) form: Form,
+pub struct Manner {
+    pub form: Form,
     /// Whether a failure of the canvas, or a warning, has a status of its own.
-    pub(crate) fails: bool,
+    pub fails: bool,
 }
 
 /// The status of a canvas whose result is a failure, or of which something is warned, where that is
 /// asked for.
-pub(crate) const FAILED: u8 = 3;
+pub const FAILED: u8 = 3;
 
 impl Manner {
     /// Whether a report is printed as ever, and its result doesn't count.
-    pub(crate) fn is_plain(&self) -> bool {
+    pub fn is_plain(&self) -> bool {
         self.form == Form::Plain && !self.fails
     }
 
@@ -73,7 +72,7 @@ impl Manner {
     }
 
     /// The report of a whole run, and the status that its result has.
-    pub(crate) fn whole<'w, T: Tasks>(
+    pub fn whole<'w, T: Tasks>(
         &self,
         alloc: Global,
         plans: &Plans,
@@ -85,7 +84,7 @@ impl Manner {
     }
 
     /// A report that doesn't tell which tasks were called, and the status that its result has.
-    pub(crate) fn untold<'w>(
+    pub fn untold<'w>(
         &self,
         alloc: Global,
         plan: &Plan,
@@ -104,23 +103,23 @@ impl Manner {
         Answer::whole(text.into_bytes()).with_status(status)
     }
 
-    /// Why a run has no whole report, and what it stored, where there is memory for it. Where stubs
-    /// raise exceptions of other classes nothing is told of what it stored.
-    pub(crate) fn early<'w, T>(
+    /// Why a run has no whole report, and what it stored, where that is known and there is memory
+    /// for it. Where stubs raise exceptions of other classes nothing is told of what it stored.
+    pub fn early<'w, T>(
         &self,
         alloc: Global,
         plans: &Plans,
         source: &Source<'_, T>,
-        fault: RunFault,
+        stored: Option<&Report>,
+        refusal: Refusal<'w>,
     ) -> Answer<'w> {
-        let stored = match &fault {
-            RunFault::Halted {
-                rows: Some(report),
-                ..
-            } if source.errors.is_empty() => self.text(alloc, &plans.shown, report).ok(),
+        let text = match stored {
+            Some(report) if source.errors.is_empty() => {
+                self.text(alloc, &plans.shown, report).ok()
+            }
             _ => None,
         };
-        Answer::in_part(alloc, stored, Refusal::from(fault))
+        Answer::in_part(alloc, text, refusal)
     }
 }
 

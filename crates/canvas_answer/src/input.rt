@@ -75,11 +75,7 @@ fn read_file<S: Files + AllocGlobal>(rt: &S, file: &str, most: usize) -> io::Res
 }
 
 /// The text of a canvas, with one byte more than the longest has, so that a longer one shows.
-pub(crate) fn text_of<'w, S, R: Read>(
-    rt: &S,
-    file: &'w str,
-    input: &mut R,
-) -> Result<Vec<u8>, Refusal<'w>>
+pub fn text_of<'w, S, R: Read>(rt: &S, file: &'w str, input: &mut R) -> Result<Vec<u8>, Refusal<'w>>
 where
     S: Files + AllocGlobal,
 {
@@ -88,7 +84,7 @@ where
 }
 
 /// Lines with a canvas each, likewise. More bytes than are taken are refused.
-pub(crate) fn lines_of<'w, S, R: Read>(
+pub fn lines_of<'w, S, R: Read>(
     rt: &S,
     file: &'w str,
     input: &mut R,
@@ -104,7 +100,7 @@ where
 }
 
 /// The results that Celery's workers stored, a line each.
-pub(crate) fn results_of<'w, S, R: Read>(
+pub fn results_of<'w, S, R: Read>(
     rt: &S,
     file: &'w str,
     input: &mut R,

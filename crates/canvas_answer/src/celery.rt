@@ -23,7 +23,7 @@ use std::rt::Files;
 
 /// What is asked for of a run on Celery's own workers.
 #[derive(Clone, Copy, Drop)]
-pub(crate) enum OnCelery<'w> {
+pub enum OnCelery<'w> {
     /// Its start, as commands for Redis.
     Export(Target<'w>),
     /// The keys of its results on Redis.
@@ -34,14 +34,14 @@ pub(crate) enum OnCelery<'w> {
 
 /// How stored results are reported.
 #[derive(Clone, Copy, Drop)]
-pub(crate) struct Collecting {
+pub struct Collecting {
     /// Whether the report also has the tasks that a failure reaches.
-    pub(crate) completes: bool,
-    pub(crate) manner: Manner,
+    pub completes: bool,
+    pub manner: Manner,
 }
 
 /// What is asked for of a canvas's run, whose results the input gives.
-pub(crate) fn answer_celery<'w, S, R: Read>(
+pub fn answer_celery<'w, S, R: Read>(
     rt: &S,
     run: &Run,
     asked: OnCelery<'w>,
@@ -145,7 +145,7 @@ fn answer_rows<'w>(
 }
 
 /// The run that the words name.
-pub(crate) fn run_of<'w>(text: &str) -> Result<Run, Refusal<'w>> {
+pub fn run_of<'w>(text: &str) -> Result<Run, Refusal<'w>> {
     match Run::of_text(text) {
         Some(run) => Ok(run),
         None => Err(Refusal::Celery(CeleryRefusal::BadRun)),
@@ -185,7 +185,7 @@ fn collected(
 }
 
 /// The rows that stored results give, whatever the tasks returned or raised.
-pub(crate) fn stored_rows<'w>(
+pub fn stored_rows<'w>(
     alloc: Global,
     plan: &Plan,
     run: &Run,

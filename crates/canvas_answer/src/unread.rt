@@ -19,7 +19,8 @@ pub enum Unread {
 }
 
 impl Unread {
-    pub(crate) fn of(error: &Error) -> Unread {
+    /// What an error of reading comes to.
+    pub fn of(error: &Error) -> Unread {
         match error.kind() {
             ErrorKind::NotFound => Unread::Missing,
             ErrorKind::PermissionDenied => Unread::Forbidden,

@@ -1,0 +1,109 @@
+//! The figures of a canvas, with what is warned of it.
+
+use crate::answer::Answer;
+use crate::refusal::Refusal;
+use crate::reporting::{FAILED, Form, Manner};
+use crate::warnings::Warnings;
+use canvas_message::Envelope;
+use canvas_rewrite::Plan;
+use canvas_values::Depths;
+use std::alloc::{AllocError, Global};
+use std::fmt;
+
+/// What a run of a canvas takes.
+#[derive(Clone, Copy)]
+pub struct Figures {
+    tasks: u32,
+    groups: u32,
+    depths: Depths,
+    messages: usize,
+    bytes: u64,
+}
+
+impl fmt::Display for Figures {
+    fn fmt<W: fmt::Write>(&self, f: &mut fmt::Formatter<W>) -> fmt::Result {
+        let Figures {
+            tasks,
+            groups,
+            depths: Depths { nesting, reach },
+            messages,
+            bytes,
+        } = *self;
+        write!(
+            f,
+            "tasks {tasks}\ngroups and chords {groups}\nnesting {nesting}\nreach {reach}\n"
+        )?;
+        write!(f, "messages {messages}\nbytes of messages {bytes}\n")
+    }
+}
+
+/// How many bytes the texts of messages have.
+fn bytes_of(messages: &[Envelope]) -> u64 {
+    let mut bytes = 0u64;
+    for message in messages {
+        for text in [&message.properties, &message.headers, &message.body] {
+            bytes = bytes.saturating_add(text.get().len() as u64);
+        }
+    }
+    bytes
+}
+
+impl Figures {
+    /// The same as a JSON object in a line.
+    fn json_line(self, alloc: Global) -> Result<String, AllocError> {
+        let Figures {
+            tasks,
+            groups,
+            depths: Depths { nesting, reach },
+            messages,
+            bytes,
+        } = self;
+        format!(in alloc;
+            "{{\"bytes_of_messages\":{bytes},\"groups_and_chords\":{groups},\"messages\":{messages},\"nesting\":{nesting},\"reach\":{reach},\"tasks\":{tasks}}}\n"
+        )
+    }
+
+    /// The figures of a plan whose canvas has these depths, and whose run publishes these messages.
+    pub fn of(plan: &Plan, depths: Depths, messages: &[Envelope]) -> Figures {
+        Figures {
+            tasks: plan.tasks(),
+            groups: plan.groups(),
+            depths,
+            messages: messages.len(),
+            bytes: bytes_of(messages),
+        }
+    }
+
+    /// What is said of a canvas that is accepted, and the status.
+    pub fn answer<'w>(
+        self,
+        alloc: Global,
+        manner: Manner,
+        warnings: &Warnings,
+    ) -> Result<Answer<'w>, Refusal<'w>> {
+        let out = check_text(alloc, self, warnings, manner.form)?;
+        let status = if manner.fails && !warnings.is_empty() {
+            FAILED
+        } else {
+            0
+        };
+        Ok(Answer::whole(out.into_bytes()).with_status(status))
+    }
+}
+
+/// Some figures, and behind them what is warned of the canvas.
+fn check_text(
+    alloc: Global,
+    figures: Figures,
+    warnings: &Warnings,
+    form: Form,
+) -> Result<String, AllocError> {
+    if form == Form::Json {
+        let mut out = figures.json_line(alloc)?;
+        warnings.push_objects(&mut out)?;
+        return Ok(out);
+    }
+    let mut out = format!(in alloc; "{figures}")?;
+    warnings.push_lines(&mut out)?;
+    Ok(out)
+}

@@ -1,0 +1,107 @@
+//! `canvas graph`: a canvas as a picture.
+
+use crate::answer::Answer;
+use crate::celery::stored_rows;
+use crate::input::results_of;
+use crate::plan::{lasting, plan_of};
+use crate::prepared::Plans;
+use crate::refusal::Refusal;
+use crate::source::Source;
+use canvas_celery::Run;
+use canvas_ran::fates;
+use canvas_report::{Report, Row, graph_text};
+use canvas_rewrite::Plan;
+use canvas_task::Memory;
+use std::alloc::Global;
+use std::io::Read;
+use std::rt::Files;
+
+/// What Celery's workers stored.
+#[derive(Clone, Copy, Drop)]
+pub struct Stored<'w> {
+    /// The file with the results, a line each; `-` is standard input.
+    pub file: &'w str,
+    pub run: Run,
+    /// Whether tasks that a failure reaches have their state, too.
+    pub completes: bool,
+}
+
+/// Which states a picture shows.
+#[derive(Clone, Copy, Drop)]
+pub enum States<'w> {
+    None,
+    /// Those of a run by so many workers.
+    Run(u32),
+    Stored(Stored<'w>),
+}
+
+/// The picture of a plan, with the states of these rows where there are any.
+fn picture<'w>(
+    alloc: Global,
+    plan: &Plan,
+    rows: Option<&[Row]>,
+) -> Result<Answer<'w>, Refusal<'w>> {
+    Ok(Answer::whole(graph_text(alloc, plan, rows, &[])?.into_bytes()))
+}
+
+/// The same with the states of these results.
+fn stored_picture<'w>(
+    alloc: Global,
+    plan: &Plan,
+    asked: &Stored<'w>,
+    results: &[u8],
+) -> Result<Answer<'w>, Refusal<'w>> {
+    let rows = stored_rows(alloc, plan, &asked.run, results, asked.completes)?;
+    picture(alloc, plan, Some(&rows))
+}
+
+fn answer_stored<'w, S, R: Read>(
+    rt: &S,
+    plan: &Plan,
+    asked: &Stored<'w>,
+    input: &mut R,
+) -> Result<Answer<'w>, Refusal<'w>>
+where
+    S: Files + AllocGlobal,
+{
+    let results = results_of(rt, asked.file, input)?;
+    stored_picture(rt.alloc(), plan, asked, &results)
+}
+
+/// The picture of a canvas that isn't run, with what was stored where that is asked for.
+pub fn plan_picture<'w, S, R: Read>(
+    rt: &S,
+    stored: Option<Stored<'w>>,
+    text: &[u8],
+    input: &mut R,
+) -> Result<Answer<'w>, Refusal<'w>>
+where
+    S: Files + AllocGlobal,
+{
+    let plan = lasting(plan_of(rt.alloc(), text)?);
+    match stored {
+        Some(asked) => answer_stored(rt, &plan, &asked, input),
+        None => picture(rt.alloc(), &plan, None),
+    }
+}
+
+fn report_text<T>(
+    alloc: Global,
+    plans: &Plans,
+    report: &Report,
+    source: &Source<'_, T>,
+) -> Result<String, Memory> {
+    let fates = fates(alloc, &plans.shown, report)?;
+    let rows = source.named_rows(alloc, plans, report, &fates)?;
+    graph_text(alloc, &plans.shown, Some(&rows), &fates)
+}
+
+/// The picture of a whole run.
+pub fn report_picture<'w, T>(
+    alloc: Global,
+    plans: &Plans,
+    report: &Report,
+    source: &Source<'_, T>,
+) -> Result<Answer<'w>, Refusal<'w>> {
+    Ok(Answer::whole(report_text(alloc, plans, report, source)?.into_bytes()))
+}

@@ -1,0 +1,27 @@
+//! What the program `canvas` is asked, and its answers as far as they need no run of the engine.
+#![tactic(auto)]
+
+pub mod adapt;
+pub mod again;
+pub mod answer;
+pub mod asked;
+pub mod celery;
+pub mod each;
+pub mod errors;
+pub mod figures;
+pub mod finding;
+pub mod graph;
+mod ignored;
+pub mod input;
+mod named_rows;
+pub mod normal;
+mod numbers;
+pub mod plan;
+pub mod prepared;
+pub mod refusal;
+pub mod reporting;
+pub mod source;
+pub mod stubs;
+pub mod told;
+pub mod unread;
+pub mod warnings;

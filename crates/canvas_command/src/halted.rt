@@ -1,0 +1,43 @@
+//! Runs that ended early.
+
+use canvas_answer::answer::Answer;
+use canvas_answer::prepared::Plans;
+use canvas_answer::refusal::Refusal;
+use canvas_answer::reporting::Manner;
+use canvas_answer::source::Source;
+use canvas_engine::{Cause, Report, RunFault};
+use std::alloc::Global;
+
+/// Why a run has no whole report.
+pub(crate) fn refused<'w>(fault: &RunFault) -> Refusal<'w> {
+    match fault {
+        RunFault::BadWorkers => Refusal::BadWorkers,
+        RunFault::BadTurn => Refusal::BadTurn,
+        RunFault::Halted { cause, .. } => match cause {
+            Cause::Memory => Refusal::Memory,
+            Cause::Stopped => Refusal::Stopped,
+        },
+    }
+}
+
+/// What a run stored that ended early.
+fn stored(fault: &RunFault) -> Option<&Report> {
+    match fault {
+        RunFault::Halted {
+            rows: Some(report),
+            ..
+        } => Some(report),
+        _ => None,
+    }
+}
+
+/// The answer to what is asked of a run that ended early.
+pub(crate) fn early<'w, T>(
+    alloc: Global,
+    manner: Manner,
+    plans: &Plans,
+    source: &Source<'_, T>,
+    fault: &RunFault,
+) -> Answer<'w> {
+    manner.early(alloc, plans, source, stored(fault), refused(fault))
+}
