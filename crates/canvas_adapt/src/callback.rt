@@ -55,6 +55,17 @@ impl<'a> Work<'a> {
         Ok(Datum::List(made.done()))
     }
 
+    /// Adds a callback of a chain, group or chord.
+    fn take(
+        &mut self,
+        made: &mut Made<'a, Callback<'a>>,
+        written: &Datum<'a>,
+        left: u32,
+    ) -> Result<(), SigFault> {
+        let adapted = self.adapt_callback(written, left)?;
+        made.push(Callback::new(written, &adapted))
+    }
+
     /// The callbacks of a chain, group or chord.
     fn taken(
         &mut self,
@@ -64,8 +75,7 @@ impl<'a> Work<'a> {
         self.count(Change::Callback, written.len());
         let mut made = Made::new(self.arena);
         for value in written {
-            let adapted = self.adapt_callback(value, left)?;
-            made.push(Callback::new(value, &adapted))?;
+            self.take(&mut made, value, left)?;
         }
         Ok(made.done())
     }

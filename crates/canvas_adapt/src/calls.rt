@@ -44,6 +44,14 @@ pub(crate) fn group_of<'a>(
     object_of(arena, &members)
 }
 
+/// The arguments of the call with one item.
+fn arguments_of<'a>(value: &Datum<'a>, item: &'a Datum<'a>) -> Datum<'a> {
+    if takes_items(value) {
+        return Datum::List(slice::from_ref(item));
+    }
+    *item
+}
+
 impl<'a> Work<'a> {
     /// The call with one item.
     fn call(
@@ -56,13 +64,22 @@ impl<'a> Work<'a> {
         let Some(task) = called_task(value) else {
             return Ok(*value);
         };
-        let arguments = if takes_items(value) {
-            Datum::List(slice::from_ref(item))
-        } else {
-            *item
-        };
-        let call = call_of(self.arena, task, &arguments)?;
+        let call = call_of(self.arena, task, &arguments_of(value, item))?;
         self.adapt_task(&call, given, left)
+    }
+
+    fn calls(
+        &mut self,
+        value: &Datum<'a>,
+        items: &'a [Datum<'a>],
+        given: &Given<'a>,
+        left: u32,
+    ) -> Result<&'a [Datum<'a>], SigFault> {
+        let mut calls = Made::new(self.arena);
+        for item in items {
+            calls.push(self.call(value, item, given, left)?)?;
+        }
+        Ok(calls.done())
     }
 
     /// The calls with all items, as a group.
@@ -78,10 +95,7 @@ impl<'a> Work<'a> {
         }
         self.count(Change::Map, 1);
         let given = self.with_own(value, &given.of_group(), left)?;
-        let mut calls = Made::new(self.arena);
-        for item in items {
-            calls.push(self.call(value, item, &given, left)?)?;
-        }
-        group_of(self.arena, calls.done())
+        let calls = self.calls(value, items, &given, left)?;
+        group_of(self.arena, calls)
     }
 }

@@ -6,6 +6,7 @@ use crate::given::Given;
 use crate::made::Made;
 use crate::member::{with_inner, without_callbacks};
 use crate::work::Work;
+use bumpalo::Bump;
 use canvas_sig::SigFault;
 use canvas_sig::parts::{Datum, MOST_LEVELS, kwarg_of, listed, own_fault};
 
@@ -37,6 +38,28 @@ fn add_turned<'a>(made: &mut Made<'a, Datum<'a>>, values: &'a [Datum<'a>]) -> Re
         made.push(*value)?;
     }
     Ok(())
+}
+
+/// A chain or group of these members, without callbacks of its own.
+fn with_members<'a>(
+    arena: &'a Bump,
+    value: &Datum<'a>,
+    members: Datum<'a>,
+) -> Result<Datum<'a>, SigFault> {
+    let bare = without_callbacks(arena, value)?;
+    with_inner(arena, &bare, "kwargs", "tasks", members)
+}
+
+/// A chord of these parts, without callbacks of its own.
+fn with_parts<'a>(
+    arena: &'a Bump,
+    value: &Datum<'a>,
+    header: Datum<'a>,
+    body: Datum<'a>,
+) -> Result<Datum<'a>, SigFault> {
+    let bare = without_callbacks(arena, value)?;
+    let half = with_inner(arena, &bare, "kwargs", "header", header)?;
+    with_inner(arena, &half, "kwargs", "body", body)
 }
 
 impl<'a> Work<'a> {
@@ -108,8 +131,7 @@ impl<'a> Work<'a> {
     ) -> Result<Datum<'a>, SigFault> {
         let given = self.with_own(value, given, left)?;
         let elements = self.adapt_elements(listed(kwarg_of(value, "tasks")), &given, left)?;
-        let bare = without_callbacks(self.arena, value)?;
-        with_inner(self.arena, &bare, "kwargs", "tasks", elements)
+        with_members(self.arena, value, elements)
     }
 
     #[cycle(node)]
@@ -121,8 +143,7 @@ impl<'a> Work<'a> {
     ) -> Result<Datum<'a>, SigFault> {
         let given = self.with_own(value, &given.of_group(), left)?;
         let members = self.adapt_members(listed(kwarg_of(value, "tasks")), &given, left)?;
-        let bare = without_callbacks(self.arena, value)?;
-        with_inner(self.arena, &bare, "kwargs", "tasks", members)
+        with_members(self.arena, value, members)
     }
 
     /// A header, which is a list or a signature.
@@ -156,12 +177,10 @@ impl<'a> Work<'a> {
         given: &Given<'a>,
         left: u32,
     ) -> Result<Datum<'a>, SigFault> {
-        let given = self.with_own(value, given, left)?.of_part(true);
+        let given = self.with_own(value, given, left)?;
         let header = self.adapt_header(value, left)?;
-        let body = self.adapt_body(value, &given, left)?;
-        let bare = without_callbacks(self.arena, value)?;
-        let half = with_inner(self.arena, &bare, "kwargs", "header", header)?;
-        with_inner(self.arena, &half, "kwargs", "body", body)
+        let body = self.adapt_body(value, &given.of_part(true), left)?;
+        with_parts(self.arena, value, header, body)
     }
 
     /// A signature, with what it is given. Signatures in it nest at most `left` deep.

@@ -33,17 +33,22 @@ struct Walk<'a> {
 }
 
 impl<'a> Walk<'a> {
+    /// The next task, which may get another name.
+    fn named(&mut self, value: &Datum<'a>) -> Result<Datum<'a>, SigFault> {
+        self.task = self.task.saturating_add(1);
+        match name_of(self.renames, self.task) {
+            Some(name) => with_member(self.arena, value, "task", Datum::Text(name)),
+            None => Ok(*value),
+        }
+    }
+
     /// A task, with its links and its error callbacks.
     #[cycle(task)]
     fn rename_task(&mut self, value: &Datum<'a>, left: u32) -> Result<Datum<'a>, SigFault> {
         if left == 0 {
             return Ok(*value);
         }
-        self.task = self.task.saturating_add(1);
-        let named = match name_of(self.renames, self.task) {
-            Some(name) => with_member(self.arena, value, "task", Datum::Text(name))?,
-            None => *value,
-        };
+        let named = self.named(value)?;
         let named = self.rename_callbacks(&named, "link", left - 1)?;
         self.rename_callbacks(&named, "link_error", left - 1)
     }
@@ -66,7 +71,7 @@ impl<'a> Walk<'a> {
         with_inner(self.arena, task, "options", name, Datum::List(renamed))
     }
 
-    /// What stands in a chain, group or chord under a name: signatures, or one.
+    /// What stands in a chain, group or chord under a name.
     #[cycle(node)]
     fn rename_inner(
         &mut self,
@@ -74,16 +79,19 @@ impl<'a> Walk<'a> {
         name: &'a str,
         left: u32,
     ) -> Result<Datum<'a>, SigFault> {
-        let inner = match kwarg_of(value, name) {
-            Some(Datum::List(values)) => self.rename_all(values, left)?,
-            Some(one) => self.rename_node(one, left)?,
-            None => return Ok(*value),
+        let Some(inner) = kwarg_of(value, name) else {
+            return Ok(*value);
         };
+        let inner = self.rename_all(inner, left)?;
         with_inner(self.arena, value, "kwargs", name, inner)
     }
 
+    /// Signatures in a list, or one.
     #[cycle(node)]
-    fn rename_all(&mut self, values: &[Datum<'a>], left: u32) -> Result<Datum<'a>, SigFault> {
+    fn rename_all(&mut self, value: &Datum<'a>, left: u32) -> Result<Datum<'a>, SigFault> {
+        let Datum::List(values) = value else {
+            return self.rename_node(value, left);
+        };
         let renamed = self.arena.try_alloc_slice_copy(values)?;
         for value in renamed.iter_mut() {
             *value = self.rename_node(value, left)?;
@@ -99,8 +107,9 @@ impl<'a> Walk<'a> {
         }
         match primitive_of(member_of(value, "subtask_type")) {
             Some(Primitive::Task) => self.rename_task(value, MOST_LEVELS),
-            Some(Primitive::Chain) => self.rename_inner(value, "tasks", left - 1),
-            Some(Primitive::Group) => self.rename_inner(value, "tasks", left - 1),
+            Some(Primitive::Chain | Primitive::Group) => {
+                self.rename_inner(value, "tasks", left - 1)
+            }
             Some(Primitive::Chord) => {
                 let half = self.rename_inner(value, "header", left - 1)?;
                 self.rename_inner(&half, "body", left - 1)

@@ -18,6 +18,12 @@ impl<'a> Work<'a> {
         }
     }
 
+    /// A task whose arguments are all of the profile.
+    fn with_all_arguments(&mut self, task: &Datum<'a>) -> Result<Datum<'a>, SigFault> {
+        let made = self.with_arguments(task, "args")?;
+        self.with_arguments(&made, "kwargs")
+    }
+
     /// A task that has these callbacks behind its own of that name.
     #[cycle(task)]
     fn with_callbacks(
@@ -45,8 +51,7 @@ impl<'a> Work<'a> {
     ) -> Result<Datum<'a>, SigFault> {
         let written = values_in(option_of(task, "link_error"));
         let errbacks = self.not_among(given.errbacks, written)?;
-        let made = self.with_arguments(task, "args")?;
-        let made = self.with_arguments(&made, "kwargs")?;
+        let made = self.with_all_arguments(task)?;
         let made = self.with_callbacks(&made, "link", given.links, left)?;
         self.with_callbacks(&made, "link_error", errbacks, left)
     }
