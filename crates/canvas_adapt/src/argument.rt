@@ -5,7 +5,6 @@ use crate::member::Members;
 use crate::text::text_of;
 use crate::work::Work;
 use bumpalo::Bump;
-use bumpalo::collections::into_bump_slice;
 use canvas_sig::SigFault;
 use canvas_sig::parts::Datum;
 use canvas_task::in_range;
@@ -57,29 +56,27 @@ impl<'a> Work<'a> {
     }
 
     /// Arguments in their order.
-    fn adapt_list(&mut self, values: &'a [Datum<'a>]) -> Result<&'a [Datum<'a>], SigFault> {
-        let arena = self.arena;
-        let mut made = Vec::new(arena);
-        for value in values {
-            made.push(self.adapt_argument(value)?)?;
+    fn adapt_list(&mut self, values: &[Datum<'a>]) -> Result<Datum<'a>, SigFault> {
+        let made = self.arena.try_alloc_slice_copy(values)?;
+        for value in made.iter_mut() {
+            *value = self.adapt_argument(value)?;
         }
-        Ok(into_bump_slice(made))
+        Ok(Datum::List(made))
     }
 
-    fn adapt_named(&mut self, members: Members<'a>) -> Result<Members<'a>, SigFault> {
-        let arena = self.arena;
-        let mut made = Vec::new(arena);
-        for member in members {
-            made.push((member.0, self.adapt_argument(&member.1)?))?;
+    fn adapt_named(&mut self, members: Members<'a>) -> Result<Datum<'a>, SigFault> {
+        let made = self.arena.try_alloc_slice_copy(members)?;
+        for member in made.iter_mut() {
+            member.1 = self.adapt_argument(&member.1)?;
         }
-        Ok(into_bump_slice(made))
+        Ok(Datum::Object(made))
     }
 
     /// Arguments, in a list or by name. What is neither stays as it is.
     pub(crate) fn adapt_arguments(&mut self, value: &Datum<'a>) -> Result<Datum<'a>, SigFault> {
         match value {
-            Datum::List(values) => Ok(Datum::List(self.adapt_list(values)?)),
-            Datum::Object(members) => Ok(Datum::Object(self.adapt_named(members)?)),
+            Datum::List(values) => self.adapt_list(values),
+            Datum::Object(members) => self.adapt_named(members),
             _ => Ok(*value),
         }
     }

@@ -3,8 +3,8 @@
 use crate::changes::Change;
 use crate::form::{Form, form_of};
 use crate::given::{Callback, Given, values_in};
+use crate::made::Made;
 use crate::work::Work;
-use bumpalo::collections::into_bump_slice;
 use canvas_sig::SigFault;
 use canvas_sig::parts::{Datum, option_of};
 
@@ -33,15 +33,37 @@ impl<'a> Work<'a> {
         given: &'a [Callback<'a>],
         left: u32,
     ) -> Result<Datum<'a>, SigFault> {
-        self.step(given.len())?;
-        let mut made = Vec::new(self.arena);
-        for value in own {
-            made.push(self.adapt_callback(value, left)?)?;
+        let made = self.arena.try_alloc_slice_copy(own)?;
+        for value in made.iter_mut() {
+            *value = self.adapt_callback(value, left)?;
         }
+        self.with_given(made, given)
+    }
+
+    /// A task's own callbacks, which were adapted, and behind them those that it is given.
+    fn with_given(
+        &mut self,
+        own: &'a [Datum<'a>],
+        given: &'a [Callback<'a>],
+    ) -> Result<Datum<'a>, SigFault> {
+        self.step(given.len())?;
+        let mut made = Made::new(self.arena);
+        made.push_all(own)?;
         for callback in given {
             made.push(callback.adapted)?;
         }
-        Ok(Datum::List(into_bump_slice(made)))
+        Ok(Datum::List(made.done()))
+    }
+
+    /// Adds a callback of a chain, group or chord.
+    fn take(
+        &mut self,
+        made: &mut Made<'a, Callback<'a>>,
+        written: &Datum<'a>,
+        left: u32,
+    ) -> Result<(), SigFault> {
+        let adapted = self.adapt_callback(written, left)?;
+        made.push(Callback::new(written, &adapted))
     }
 
     /// The callbacks of a chain, group or chord.
@@ -51,12 +73,35 @@ impl<'a> Work<'a> {
         left: u32,
     ) -> Result<&'a [Callback<'a>], SigFault> {
         self.count(Change::Callback, written.len());
-        let mut made = Vec::new(self.arena);
+        let mut made = Made::new(self.arena);
         for value in written {
-            let adapted = self.adapt_callback(value, left)?;
-            made.push(Callback::new(value, &adapted))?;
+            self.take(&mut made, value, left)?;
         }
-        Ok(into_bump_slice(made))
+        Ok(made.done())
+    }
+
+    /// The links that are given with a signature's own before them.
+    fn with_own_links(
+        &mut self,
+        value: &Datum<'a>,
+        given: &'a [Callback<'a>],
+        left: u32,
+    ) -> Result<&'a [Callback<'a>], SigFault> {
+        let links = self.taken(values_in(option_of(value, "link")), left)?;
+        self.joined(links, given)
+    }
+
+    /// The error callbacks that are given with a signature's own before them.
+    fn with_own_errbacks(
+        &mut self,
+        value: &Datum<'a>,
+        given: &'a [Callback<'a>],
+        left: u32,
+    ) -> Result<&'a [Callback<'a>], SigFault> {
+        let written = self.once(values_in(option_of(value, "link_error")))?;
+        let errbacks = self.taken(written, left)?;
+        let others = self.not_among(given, written)?;
+        self.joined(errbacks, others)
     }
 
     /// What is given with a signature's own callbacks before it.
@@ -66,15 +111,11 @@ impl<'a> Work<'a> {
         given: &Given<'a>,
         left: u32,
     ) -> Result<Given<'a>, SigFault> {
-        let links = values_in(self.arena, option_of(value, "link"))?;
-        let links = self.taken(links, left)?;
-        let written = values_in(self.arena, option_of(value, "link_error"))?;
-        let written = self.once(written)?;
-        let errbacks = self.taken(written, left)?;
-        let others = self.not_among(given.errbacks, written)?;
+        let links = self.with_own_links(value, given.links, left)?;
+        let errbacks = self.with_own_errbacks(value, given.errbacks, left)?;
         Ok(Given {
-            links: self.joined(links, given.links)?,
-            errbacks: self.joined(errbacks, others)?,
+            links,
+            errbacks,
             ..*given
         })
     }

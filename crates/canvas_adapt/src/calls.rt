@@ -3,44 +3,53 @@
 use crate::changes::Change;
 use crate::form::{called_task, takes_items};
 use crate::given::Given;
-use crate::member::with_member;
+use crate::made::Made;
+use crate::member::object_of;
 use crate::work::Work;
 use bumpalo::Bump;
-use bumpalo::collections::into_bump_slice;
 use canvas_semantics::MOST_TASKS;
 use canvas_sig::SigFault;
 use canvas_sig::parts::{Datum, kwarg_of, listed};
-use std::alloc::AllocError;
+use std::slice;
 
 const MOST_CALLS: usize = MOST_TASKS as usize;
-
-/// A list of one.
-fn list_of<'a>(arena: &'a Bump, item: &Datum<'a>) -> Result<Datum<'a>, AllocError> {
-    let mut list = Vec::new(arena);
-    list.push(*item)?;
-    Ok(Datum::List(into_bump_slice(list)))
-}
 
 /// The call of a task with some arguments, which takes no input.
 fn call_of<'a>(
     arena: &'a Bump,
     task: &Datum<'a>,
     arguments: &Datum<'a>,
-) -> Result<Datum<'a>, AllocError> {
-    let call = with_member(arena, &Datum::Null, "args", *arguments)?;
-    let call = with_member(arena, &call, "immutable", Datum::Bool(true))?;
-    with_member(arena, &call, "task", *task)
+) -> Result<Datum<'a>, SigFault> {
+    let members = [
+        ("args", *arguments),
+        ("immutable", Datum::Bool(true)),
+        ("task", *task),
+    ];
+    object_of(arena, &members)
 }
 
 /// A group of these members.
 pub(crate) fn group_of<'a>(
     arena: &'a Bump,
     members: &'a [Datum<'a>],
-) -> Result<Datum<'a>, AllocError> {
-    let kwargs = with_member(arena, &Datum::Null, "tasks", Datum::List(members))?;
-    let group = with_member(arena, &Datum::Null, "kwargs", kwargs)?;
-    let group = with_member(arena, &group, "subtask_type", Datum::Text("group"))?;
-    with_member(arena, &group, "task", Datum::Text("celery.group"))
+) -> Result<Datum<'a>, SigFault> {
+    let members = [
+        (
+            "kwargs",
+            object_of(arena, &[("tasks", Datum::List(members))])?,
+        ),
+        ("subtask_type", Datum::Text("group")),
+        ("task", Datum::Text("celery.group")),
+    ];
+    object_of(arena, &members)
+}
+
+/// The arguments of the call with one item.
+fn arguments_of<'a>(value: &Datum<'a>, item: &'a Datum<'a>) -> Datum<'a> {
+    if takes_items(value) {
+        return Datum::List(slice::from_ref(item));
+    }
+    *item
 }
 
 impl<'a> Work<'a> {
@@ -48,20 +57,29 @@ impl<'a> Work<'a> {
     fn call(
         &mut self,
         value: &Datum<'a>,
-        item: &Datum<'a>,
+        item: &'a Datum<'a>,
         given: &Given<'a>,
         left: u32,
     ) -> Result<Datum<'a>, SigFault> {
         let Some(task) = called_task(value) else {
             return Ok(*value);
         };
-        let arguments = if takes_items(value) {
-            list_of(self.arena, item)?
-        } else {
-            *item
-        };
-        let call = call_of(self.arena, task, &arguments)?;
+        let call = call_of(self.arena, task, &arguments_of(value, item))?;
         self.adapt_task(&call, given, left)
+    }
+
+    fn calls(
+        &mut self,
+        value: &Datum<'a>,
+        items: &'a [Datum<'a>],
+        given: &Given<'a>,
+        left: u32,
+    ) -> Result<&'a [Datum<'a>], SigFault> {
+        let mut calls = Made::new(self.arena);
+        for item in items {
+            calls.push(self.call(value, item, given, left)?)?;
+        }
+        Ok(calls.done())
     }
 
     /// The calls with all items, as a group.
@@ -77,10 +95,7 @@ impl<'a> Work<'a> {
         }
         self.count(Change::Map, 1);
         let given = self.with_own(value, &given.of_group(), left)?;
-        let mut calls = Vec::new(self.arena);
-        for item in items {
-            calls.push(self.call(value, item, &given, left)?)?;
-        }
-        Ok(group_of(self.arena, into_bump_slice(calls))?)
+        let calls = self.calls(value, items, &given, left)?;
+        group_of(self.arena, calls)
     }
 }

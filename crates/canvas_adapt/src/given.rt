@@ -1,12 +1,11 @@
 //! Callbacks that tasks are given by what they stand in.
 
+use crate::made::Made;
 use crate::text::{MOST_WRITTEN, room_behind};
 use crate::work::Work;
-use bumpalo::Bump;
-use bumpalo::collections::into_bump_slice;
 use canvas_sig::parts::Datum;
 use canvas_sig::{MOST_BYTES, SigFault};
-use std::alloc::AllocError;
+use std::slice;
 
 /// A callback of a chain, group or chord.
 #[derive(Clone, Copy, Drop)]
@@ -78,18 +77,11 @@ impl<'a> Given<'a> {
 }
 
 /// The callbacks that a member of the options has: a list, one, or none.
-pub(crate) fn values_in<'a>(
-    arena: &'a Bump,
-    field: Option<&Datum<'a>>,
-) -> Result<&'a [Datum<'a>], AllocError> {
+pub(crate) fn values_in<'a>(field: Option<&'a Datum<'a>>) -> &'a [Datum<'a>] {
     match field {
-        Some(Datum::List(values)) => Ok(values),
-        Some(Datum::Object(members)) => {
-            let mut one = Vec::new(arena);
-            one.push(Datum::Object(members))?;
-            Ok(into_bump_slice(one))
-        }
-        _ => Ok(&[]),
+        Some(Datum::List(values)) => values,
+        Some(one @ Datum::Object(_)) => slice::from_ref(one),
+        _ => &[],
     }
 }
 
@@ -160,15 +152,38 @@ impl<'a> Work<'a> {
         Ok(false)
     }
 
+    /// Adds a value, unless one that is alike is there.
+    fn add_new(
+        &mut self,
+        made: &mut Made<'a, Datum<'a>>,
+        value: &Datum<'a>,
+    ) -> Result<(), SigFault> {
+        if self.has(made.get(), value, weight_of(value, MOST_BYTES))? {
+            return Ok(());
+        }
+        made.push(*value)
+    }
+
     /// Of values that are alike the first.
     pub(crate) fn once(&mut self, values: &'a [Datum<'a>]) -> Result<&'a [Datum<'a>], SigFault> {
-        let mut made = Vec::new(self.arena);
+        let mut made = Made::new(self.arena);
         for value in values {
-            if !self.has(&made, value, weight_of(value, MOST_BYTES))? {
-                made.push(*value)?;
-            }
+            self.add_new(&mut made, value)?;
         }
-        Ok(into_bump_slice(made))
+        Ok(made.done())
+    }
+
+    /// Adds a callback, unless it is among some values.
+    fn add_other(
+        &mut self,
+        made: &mut Made<'a, Callback<'a>>,
+        callback: &Callback<'a>,
+        values: &[Datum<'a>],
+    ) -> Result<(), SigFault> {
+        if self.has(values, &callback.written, callback.weight)? {
+            return Ok(());
+        }
+        made.push(*callback)
     }
 
     /// Those callbacks that aren't among some values: none is given twice.
@@ -180,13 +195,11 @@ impl<'a> Work<'a> {
         if values.is_empty() {
             return Ok(given);
         }
-        let mut made = Vec::new(self.arena);
+        let mut made = Made::new(self.arena);
         for callback in given {
-            if !self.has(values, &callback.written, callback.weight)? {
-                made.push(*callback)?;
-            }
+            self.add_other(&mut made, callback, values)?;
         }
-        Ok(into_bump_slice(made))
+        Ok(made.done())
     }
 
     /// Callbacks, and behind them others.
@@ -199,13 +212,9 @@ impl<'a> Work<'a> {
             return Ok(given);
         }
         self.step(own.len().saturating_add(given.len()))?;
-        let mut made = Vec::new(self.arena);
-        for callback in own {
-            made.push(*callback)?;
-        }
-        for callback in given {
-            made.push(*callback)?;
-        }
-        Ok(into_bump_slice(made))
+        let mut made = Made::new(self.arena);
+        made.push_all(own)?;
+        made.push_all(given)?;
+        Ok(made.done())
     }
 }

@@ -8,6 +8,7 @@ mod calls;
 mod changes;
 mod form;
 mod given;
+mod made;
 mod member;
 mod node;
 mod rename_fault;

@@ -1,9 +1,9 @@
 //! Objects with a member more, less, or changed.
 
+use crate::made::Made;
 use bumpalo::Bump;
-use bumpalo::collections::into_bump_slice;
+use canvas_sig::SigFault;
 use canvas_sig::parts::Datum;
-use std::alloc::AllocError;
 
 /// Names and values, the names ascending.
 pub(crate) type Members<'a> = &'a [(&'a str, Datum<'a>)];
@@ -16,12 +16,25 @@ pub(crate) fn members_of<'a>(value: &Datum<'a>) -> Members<'a> {
     }
 }
 
+/// An object's member of that name.
+pub(crate) fn member_of<'a>(value: &Datum<'a>, name: &str) -> Option<&'a Datum<'a>> {
+    value.get(name)
+}
+
+/// An object of these members, whose names ascend.
+pub(crate) fn object_of<'a>(
+    arena: &'a Bump,
+    members: &[(&'a str, Datum<'a>)],
+) -> Result<Datum<'a>, SigFault> {
+    Ok(Datum::Object(arena.try_alloc_slice_copy(members)?))
+}
+
 /// Adds the members that go before a name.
 fn add_before<'a>(
-    made: &mut Vec<(&'a str, Datum<'a>), &'a Bump>,
+    made: &mut Made<'a, (&'a str, Datum<'a>)>,
     members: Members<'a>,
     name: &str,
-) -> Result<(), AllocError> {
+) -> Result<(), SigFault> {
     for member in members {
         if member.0 < name {
             made.push(*member)?;
@@ -32,10 +45,10 @@ fn add_before<'a>(
 
 /// Adds the members that go behind a name.
 fn add_behind<'a>(
-    made: &mut Vec<(&'a str, Datum<'a>), &'a Bump>,
+    made: &mut Made<'a, (&'a str, Datum<'a>)>,
     members: Members<'a>,
     name: &str,
-) -> Result<(), AllocError> {
+) -> Result<(), SigFault> {
     for member in members {
         if name < member.0 {
             made.push(*member)?;
@@ -50,27 +63,20 @@ fn with<'a>(
     members: Members<'a>,
     name: &'a str,
     value: Datum<'a>,
-) -> Result<Members<'a>, AllocError> {
-    let mut made = Vec::new(arena);
+) -> Result<Members<'a>, SigFault> {
+    let mut made = Made::new(arena);
     add_before(&mut made, members, name)?;
     made.push((name, value))?;
     add_behind(&mut made, members, name)?;
-    Ok(into_bump_slice(made))
+    Ok(made.done())
 }
 
 /// The members without the one of that name.
-fn without<'a>(
-    arena: &'a Bump,
-    members: Members<'a>,
-    name: &str,
-) -> Result<Members<'a>, AllocError> {
-    let mut made = Vec::new(arena);
-    for member in members {
-        if member.0 != name {
-            made.push(*member)?;
-        }
-    }
-    Ok(into_bump_slice(made))
+fn without<'a>(arena: &'a Bump, members: Members<'a>, name: &str) -> Result<Members<'a>, SigFault> {
+    let mut made = Made::new(arena);
+    add_before(&mut made, members, name)?;
+    add_behind(&mut made, members, name)?;
+    Ok(made.done())
 }
 
 /// An object with this member in the place of that name.
@@ -79,7 +85,7 @@ pub(crate) fn with_member<'a>(
     value: &Datum<'a>,
     name: &'a str,
     member: Datum<'a>,
-) -> Result<Datum<'a>, AllocError> {
+) -> Result<Datum<'a>, SigFault> {
     Ok(Datum::Object(with(arena, members_of(value), name, member)?))
 }
 
@@ -90,8 +96,8 @@ pub(crate) fn with_inner<'a>(
     outer: &'a str,
     name: &'a str,
     member: Datum<'a>,
-) -> Result<Datum<'a>, AllocError> {
-    let inner = match value.get(outer) {
+) -> Result<Datum<'a>, SigFault> {
+    let inner = match member_of(value, outer) {
         Some(inner) => members_of(inner),
         None => &[],
     };
@@ -103,8 +109,8 @@ pub(crate) fn with_inner<'a>(
 pub(crate) fn without_callbacks<'a>(
     arena: &'a Bump,
     value: &Datum<'a>,
-) -> Result<Datum<'a>, AllocError> {
-    match value.get("options") {
+) -> Result<Datum<'a>, SigFault> {
+    match member_of(value, "options") {
         Some(Datum::Object(options)) => {
             let left = without(arena, options, "link")?;
             let left = without(arena, left, "link_error")?;

@@ -3,13 +3,12 @@
 use crate::changes::Change;
 use crate::form::{Form, form_of};
 use crate::given::Given;
+use crate::made::Made;
 use crate::member::{with_inner, without_callbacks};
 use crate::work::Work;
 use bumpalo::Bump;
-use bumpalo::collections::into_bump_slice;
 use canvas_sig::SigFault;
 use canvas_sig::parts::{Datum, MOST_LEVELS, kwarg_of, listed, own_fault};
-use std::alloc::AllocError;
 
 /// The members that a member of a group gives the group: those of a group, and of a chain of one.
 /// One with a fault of its own stays as it is, and is refused.
@@ -33,25 +32,34 @@ fn unrolled_one<'a>(elements: &'a [Datum<'a>], left: u32) -> Option<&'a [Datum<'
     unrolled(&elements[0], left)
 }
 
-fn add_all<'a>(
-    made: &mut Vec<Datum<'a>, &'a Bump>,
-    values: &'a [Datum<'a>],
-) -> Result<(), AllocError> {
-    for value in values {
+/// Adds values from the last one on.
+fn add_turned<'a>(made: &mut Made<'a, Datum<'a>>, values: &'a [Datum<'a>]) -> Result<(), SigFault> {
+    for value in values.iter().rev() {
         made.push(*value)?;
     }
     Ok(())
 }
 
-/// Adds values from the last one on.
-fn add_turned<'a>(
-    made: &mut Vec<Datum<'a>, &'a Bump>,
-    values: &'a [Datum<'a>],
-) -> Result<(), AllocError> {
-    for value in values.iter().rev() {
-        made.push(*value)?;
-    }
-    Ok(())
+/// A chain or group of these members, without callbacks of its own.
+fn with_members<'a>(
+    arena: &'a Bump,
+    value: &Datum<'a>,
+    members: Datum<'a>,
+) -> Result<Datum<'a>, SigFault> {
+    let bare = without_callbacks(arena, value)?;
+    with_inner(arena, &bare, "kwargs", "tasks", members)
+}
+
+/// A chord of these parts, without callbacks of its own.
+fn with_parts<'a>(
+    arena: &'a Bump,
+    value: &Datum<'a>,
+    header: Datum<'a>,
+    body: Datum<'a>,
+) -> Result<Datum<'a>, SigFault> {
+    let bare = without_callbacks(arena, value)?;
+    let half = with_inner(arena, &bare, "kwargs", "header", header)?;
+    with_inner(arena, &half, "kwargs", "body", body)
 }
 
 impl<'a> Work<'a> {
@@ -59,23 +67,23 @@ impl<'a> Work<'a> {
     /// round.
     fn add_member(
         &mut self,
-        made: &mut Vec<Datum<'a>, &'a Bump>,
+        made: &mut Made<'a, Datum<'a>>,
         written: &Datum<'a>,
         adapted: &Datum<'a>,
         is_frozen: bool,
     ) -> Result<(), SigFault> {
         let Some(values) = unrolled(adapted, MOST_LEVELS) else {
-            return Ok(made.push(*adapted)?);
+            return made.push(*adapted);
         };
         match form_of(written) {
-            Form::Calls => Ok(add_all(made, values)?),
+            Form::Calls => made.push_all(values),
             Form::Group if is_frozen => {
                 self.count(Change::Group, 1);
-                Ok(add_turned(made, values)?)
+                add_turned(made, values)
             }
             _ => {
                 self.count(Change::Group, 1);
-                Ok(add_all(made, values)?)
+                made.push_all(values)
             }
         }
     }
@@ -89,12 +97,12 @@ impl<'a> Work<'a> {
         left: u32,
     ) -> Result<Datum<'a>, SigFault> {
         let part = given.of_part(false);
-        let mut made = Vec::new(self.arena);
+        let mut made = Made::new(self.arena);
         for member in members {
             let adapted = self.adapt_node(member, &part, left)?;
             self.add_member(&mut made, member, &adapted, given.is_frozen)?;
         }
-        Ok(Datum::List(into_bump_slice(made)))
+        Ok(Datum::List(made.done()))
     }
 
     #[cycle(node)]
@@ -104,14 +112,14 @@ impl<'a> Work<'a> {
         given: &Given<'a>,
         left: u32,
     ) -> Result<Datum<'a>, SigFault> {
-        let mut made = Vec::new(self.arena);
-        let mut behind = elements.len();
-        for element in elements {
+        let made = self.arena.try_alloc_slice_copy(elements)?;
+        let mut behind = made.len();
+        for element in made.iter_mut() {
             behind = behind.saturating_sub(1);
             let given = given.of_element(behind == 0);
-            made.push(self.adapt_node(element, &given, left)?)?;
+            *element = self.adapt_node(element, &given, left)?;
         }
-        Ok(Datum::List(into_bump_slice(made)))
+        Ok(Datum::List(made))
     }
 
     #[cycle(node)]
@@ -123,8 +131,7 @@ impl<'a> Work<'a> {
     ) -> Result<Datum<'a>, SigFault> {
         let given = self.with_own(value, given, left)?;
         let elements = self.adapt_elements(listed(kwarg_of(value, "tasks")), &given, left)?;
-        let bare = without_callbacks(self.arena, value)?;
-        Ok(with_inner(self.arena, &bare, "kwargs", "tasks", elements)?)
+        with_members(self.arena, value, elements)
     }
 
     #[cycle(node)]
@@ -136,8 +143,7 @@ impl<'a> Work<'a> {
     ) -> Result<Datum<'a>, SigFault> {
         let given = self.with_own(value, &given.of_group(), left)?;
         let members = self.adapt_members(listed(kwarg_of(value, "tasks")), &given, left)?;
-        let bare = without_callbacks(self.arena, value)?;
-        Ok(with_inner(self.arena, &bare, "kwargs", "tasks", members)?)
+        with_members(self.arena, value, members)
     }
 
     /// A header, which is a list or a signature.
@@ -171,12 +177,10 @@ impl<'a> Work<'a> {
         given: &Given<'a>,
         left: u32,
     ) -> Result<Datum<'a>, SigFault> {
-        let given = self.with_own(value, given, left)?.of_part(true);
+        let given = self.with_own(value, given, left)?;
         let header = self.adapt_header(value, left)?;
-        let body = self.adapt_body(value, &given, left)?;
-        let bare = without_callbacks(self.arena, value)?;
-        let half = with_inner(self.arena, &bare, "kwargs", "header", header)?;
-        Ok(with_inner(self.arena, &half, "kwargs", "body", body)?)
+        let body = self.adapt_body(value, &given.of_part(true), left)?;
+        with_parts(self.arena, value, header, body)
     }
 
     /// A signature, with what it is given. Signatures in it nest at most `left` deep.

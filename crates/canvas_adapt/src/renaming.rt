@@ -6,15 +6,14 @@ ghost use Rattle.canvas_values.specs.CanvasText.{text_reading};
 
 use crate::adapting::line_of;
 use crate::given::values_in;
-use crate::member::{with_inner, with_member};
+use crate::member::{member_of, with_inner, with_member};
 use crate::renames::{Rename, name_of};
 use bumpalo::Bump;
-use bumpalo::collections::into_bump_slice;
 use canvas_sig::parts::{Datum, MOST_LEVELS, kwarg_of, option_of, parse, primitive_of};
 use canvas_sig::{SigFault, read_canvas};
 use canvas_values::Primitive;
 use json::Scratch;
-use std::alloc::{AllocError, Global};
+use std::alloc::Global;
 
 /// A canvas whose tasks have other names.
 #[derive(Drop)]
@@ -34,17 +33,22 @@ struct Walk<'a> {
 }
 
 impl<'a> Walk<'a> {
+    /// The next task, which may get another name.
+    fn named(&mut self, value: &Datum<'a>) -> Result<Datum<'a>, SigFault> {
+        self.task = self.task.saturating_add(1);
+        match name_of(self.renames, self.task) {
+            Some(name) => with_member(self.arena, value, "task", Datum::Text(name)),
+            None => Ok(*value),
+        }
+    }
+
     /// A task, with its links and its error callbacks.
     #[cycle(task)]
-    fn rename_task(&mut self, value: &Datum<'a>, left: u32) -> Result<Datum<'a>, AllocError> {
+    fn rename_task(&mut self, value: &Datum<'a>, left: u32) -> Result<Datum<'a>, SigFault> {
         if left == 0 {
             return Ok(*value);
         }
-        self.task = self.task.saturating_add(1);
-        let named = match name_of(self.renames, self.task) {
-            Some(name) => with_member(self.arena, value, "task", Datum::Text(name))?,
-            None => *value,
-        };
+        let named = self.named(value)?;
         let named = self.rename_callbacks(&named, "link", left - 1)?;
         self.rename_callbacks(&named, "link_error", left - 1)
     }
@@ -55,54 +59,57 @@ impl<'a> Walk<'a> {
         task: &Datum<'a>,
         name: &'a str,
         left: u32,
-    ) -> Result<Datum<'a>, AllocError> {
-        let callbacks = values_in(self.arena, option_of(task, name))?;
+    ) -> Result<Datum<'a>, SigFault> {
+        let callbacks = values_in(option_of(task, name));
         if callbacks.is_empty() {
             return Ok(*task);
         }
-        let mut made = Vec::new(self.arena);
-        for callback in callbacks {
-            made.push(self.rename_task(callback, left)?)?;
+        let renamed = self.arena.try_alloc_slice_copy(callbacks)?;
+        for callback in renamed.iter_mut() {
+            *callback = self.rename_task(callback, left)?;
         }
-        let callbacks = Datum::List(into_bump_slice(made));
-        with_inner(self.arena, task, "options", name, callbacks)
+        with_inner(self.arena, task, "options", name, Datum::List(renamed))
     }
 
-    /// What stands in a chain, group or chord under a name: signatures, or one.
+    /// What stands in a chain, group or chord under a name.
     #[cycle(node)]
     fn rename_inner(
         &mut self,
         value: &Datum<'a>,
         name: &'a str,
         left: u32,
-    ) -> Result<Datum<'a>, AllocError> {
-        let inner = match kwarg_of(value, name) {
-            Some(Datum::List(values)) => self.rename_all(values, left)?,
-            Some(one) => self.rename_node(one, left)?,
-            None => return Ok(*value),
+    ) -> Result<Datum<'a>, SigFault> {
+        let Some(inner) = kwarg_of(value, name) else {
+            return Ok(*value);
         };
+        let inner = self.rename_all(inner, left)?;
         with_inner(self.arena, value, "kwargs", name, inner)
     }
 
+    /// Signatures in a list, or one.
     #[cycle(node)]
-    fn rename_all(&mut self, values: &'a [Datum<'a>], left: u32) -> Result<Datum<'a>, AllocError> {
-        let mut made = Vec::new(self.arena);
-        for value in values {
-            made.push(self.rename_node(value, left)?)?;
+    fn rename_all(&mut self, value: &Datum<'a>, left: u32) -> Result<Datum<'a>, SigFault> {
+        let Datum::List(values) = value else {
+            return self.rename_node(value, left);
+        };
+        let renamed = self.arena.try_alloc_slice_copy(values)?;
+        for value in renamed.iter_mut() {
+            *value = self.rename_node(value, left)?;
         }
-        Ok(Datum::List(into_bump_slice(made)))
+        Ok(Datum::List(renamed))
     }
 
     /// A signature. Signatures in it nest at most `left` deep.
     #[cycle(node)]
-    fn rename_node(&mut self, value: &Datum<'a>, left: u32) -> Result<Datum<'a>, AllocError> {
+    fn rename_node(&mut self, value: &Datum<'a>, left: u32) -> Result<Datum<'a>, SigFault> {
         if left == 0 {
             return Ok(*value);
         }
-        match primitive_of(value.get("subtask_type")) {
+        match primitive_of(member_of(value, "subtask_type")) {
             Some(Primitive::Task) => self.rename_task(value, MOST_LEVELS),
-            Some(Primitive::Chain) => self.rename_inner(value, "tasks", left - 1),
-            Some(Primitive::Group) => self.rename_inner(value, "tasks", left - 1),
+            Some(Primitive::Chain | Primitive::Group) => {
+                self.rename_inner(value, "tasks", left - 1)
+            }
             Some(Primitive::Chord) => {
                 let half = self.rename_inner(value, "header", left - 1)?;
                 self.rename_inner(&half, "body", left - 1)

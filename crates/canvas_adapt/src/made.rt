@@ -1,0 +1,35 @@
+//! Lists that are made in the arena.
+
+use bumpalo::Bump;
+use bumpalo::collections::into_bump_slice;
+use canvas_sig::SigFault;
+
+/// Values in the order in which they were pushed.
+#[derive(Drop)]
+pub(crate) struct Made<'a, T> {
+    values: Vec<T, &'a Bump>,
+}
+
+impl<'a, T: Copy> Made<'a, T> {
+    pub(crate) fn new(arena: &'a Bump) -> Made<'a, T> {
+        Made {
+            values: Vec::new(arena),
+        }
+    }
+
+    pub(crate) fn push(&mut self, value: T) -> Result<(), SigFault> {
+        Ok(self.values.push(value)?)
+    }
+
+    pub(crate) fn push_all(&mut self, values: &[T]) -> Result<(), SigFault> {
+        Ok(self.values.extend_from_slice(values)?)
+    }
+
+    pub(crate) fn get(&self) -> &[T] {
+        &self.values
+    }
+
+    pub(crate) fn done(self) -> &'a [T] {
+        into_bump_slice(self.values)
+    }
+}
