@@ -33,11 +33,9 @@ pub(crate) fn group_of<'a>(
     arena: &'a Bump,
     members: &'a [Datum<'a>],
 ) -> Result<Datum<'a>, SigFault> {
+    let kwargs = object_of(arena, &[("tasks", Datum::List(members))])?;
     let members = [
-        (
-            "kwargs",
-            object_of(arena, &[("tasks", Datum::List(members))])?,
-        ),
+        ("kwargs", kwargs),
         ("subtask_type", Datum::Text("group")),
         ("task", Datum::Text("celery.group")),
     ];

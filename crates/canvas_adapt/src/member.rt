@@ -16,11 +16,6 @@ pub(crate) fn members_of<'a>(value: &Datum<'a>) -> Members<'a> {
     }
 }
 
-/// An object's member of that name.
-pub(crate) fn member_of<'a>(value: &Datum<'a>, name: &str) -> Option<&'a Datum<'a>> {
-    value.get(name)
-}
-
 /// An object of these members, whose names ascend.
 pub(crate) fn object_of<'a>(
     arena: &'a Bump,
@@ -97,7 +92,7 @@ pub(crate) fn with_inner<'a>(
     name: &'a str,
     member: Datum<'a>,
 ) -> Result<Datum<'a>, SigFault> {
-    let inner = match member_of(value, outer) {
+    let inner = match value.get(outer) {
         Some(inner) => members_of(inner),
         None => &[],
     };
@@ -110,7 +105,7 @@ pub(crate) fn without_callbacks<'a>(
     arena: &'a Bump,
     value: &Datum<'a>,
 ) -> Result<Datum<'a>, SigFault> {
-    match member_of(value, "options") {
+    match value.get("options") {
         Some(Datum::Object(options)) => {
             let left = without(arena, options, "link")?;
             let left = without(arena, left, "link_error")?;

@@ -108,10 +108,11 @@ impl<'a> Work<'a> {
     #[cycle(node)]
     fn adapt_elements(
         &mut self,
-        elements: &'a [Datum<'a>],
+        chain: &Datum<'a>,
         given: &Given<'a>,
         left: u32,
     ) -> Result<Datum<'a>, SigFault> {
+        let elements = listed(kwarg_of(chain, "tasks"));
         let made = self.arena.try_alloc_slice_copy(elements)?;
         let mut behind = made.len();
         for element in made.iter_mut() {
@@ -130,7 +131,7 @@ impl<'a> Work<'a> {
         left: u32,
     ) -> Result<Datum<'a>, SigFault> {
         let given = self.with_own(value, given, left)?;
-        let elements = self.adapt_elements(listed(kwarg_of(value, "tasks")), &given, left)?;
+        let elements = self.adapt_elements(value, &given, left)?;
         with_members(self.arena, value, elements)
     }
 

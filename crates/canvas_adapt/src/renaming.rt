@@ -6,7 +6,7 @@ ghost use Rattle.canvas_values.specs.CanvasText.{text_reading};
 
 use crate::adapting::line_of;
 use crate::given::values_in;
-use crate::member::{member_of, with_inner, with_member};
+use crate::member::{with_inner, with_member};
 use crate::renames::{Rename, name_of};
 use bumpalo::Bump;
 use canvas_sig::parts::{Datum, MOST_LEVELS, kwarg_of, option_of, parse, primitive_of};
@@ -105,7 +105,7 @@ impl<'a> Walk<'a> {
         if left == 0 {
             return Ok(*value);
         }
-        match primitive_of(member_of(value, "subtask_type")) {
+        match primitive_of(value.get("subtask_type")) {
             Some(Primitive::Task) => self.rename_task(value, MOST_LEVELS),
             Some(Primitive::Chain | Primitive::Group) => {
                 self.rename_inner(value, "tasks", left - 1)

@@ -1,7 +1,7 @@
 //! Tasks.
 
 use crate::given::{Callback, Given, values_in};
-use crate::member::{member_of, with_inner, with_member};
+use crate::member::{with_inner, with_member};
 use crate::work::Work;
 use canvas_sig::SigFault;
 use canvas_sig::parts::{Datum, option_of};
@@ -9,7 +9,7 @@ use canvas_sig::parts::{Datum, option_of};
 impl<'a> Work<'a> {
     /// A task whose arguments are of the profile.
     fn with_arguments(&mut self, task: &Datum<'a>, name: &'a str) -> Result<Datum<'a>, SigFault> {
-        match member_of(task, name) {
+        match task.get(name) {
             Some(arguments) => {
                 let arguments = self.adapt_arguments(arguments)?;
                 with_member(self.arena, task, name, arguments)
@@ -41,6 +41,19 @@ impl<'a> Work<'a> {
         with_inner(self.arena, task, "options", name, callbacks)
     }
 
+    /// A task that has those error callbacks behind its own that aren't among them.
+    #[cycle(task)]
+    fn with_errbacks(
+        &mut self,
+        task: &Datum<'a>,
+        given: &'a [Callback<'a>],
+        left: u32,
+    ) -> Result<Datum<'a>, SigFault> {
+        let written = values_in(option_of(task, "link_error"));
+        let others = self.not_among(given, written)?;
+        self.with_callbacks(task, "link_error", others, left)
+    }
+
     /// A task, with what it is given.
     #[cycle(task)]
     pub(crate) fn adapt_task(
@@ -49,10 +62,8 @@ impl<'a> Work<'a> {
         given: &Given<'a>,
         left: u32,
     ) -> Result<Datum<'a>, SigFault> {
-        let written = values_in(option_of(task, "link_error"));
-        let errbacks = self.not_among(given.errbacks, written)?;
         let made = self.with_all_arguments(task)?;
         let made = self.with_callbacks(&made, "link", given.links, left)?;
-        self.with_callbacks(&made, "link_error", errbacks, left)
+        self.with_errbacks(&made, given.errbacks, left)
     }
 }
