@@ -96,10 +96,14 @@ fn put_quoted(out: &mut String, text: &str) -> Result<(), AllocError>
     put(out, "\"")
 }
 
+/// How many bytes a text takes more than its own: quotes, and some escapes.
+const ESCAPES_ROOM: usize = 16;
+
 fn escaped(alloc: Global, text: &str) -> Result<String, AllocError>
     ensures { IfOk result (λ made. string_bytes made ≡ compact_text (string text.now)) }
 {
-    let mut out = Writer::new(Vec::new(alloc));
+    let room = text.len().saturating_add(ESCAPES_ROOM);
+    let mut out = Writer::new(Vec::with_capacity(alloc, room)?);
     out.string(text)?;
     Ok(String::from_utf8(out.into_inner()).unwrap())
 }
