@@ -33,37 +33,15 @@ impl<'a> Work<'a> {
         given: &'a [Callback<'a>],
         left: u32,
     ) -> Result<Datum<'a>, SigFault> {
-        let made = self.arena.try_alloc_slice_copy(own)?;
-        for value in made.iter_mut() {
-            *value = self.adapt_callback(value, left)?;
-        }
-        self.with_given(made, given)
-    }
-
-    /// A task's own callbacks, which were adapted, and behind them those that it is given.
-    fn with_given(
-        &mut self,
-        own: &'a [Datum<'a>],
-        given: &'a [Callback<'a>],
-    ) -> Result<Datum<'a>, SigFault> {
         self.step(given.len())?;
         let mut made = Made::new(self.arena);
-        made.push_all(own)?;
+        for value in own {
+            made.push(self.adapt_callback(value, left)?)?;
+        }
         for callback in given {
             made.push(callback.adapted)?;
         }
         Ok(Datum::List(made.done()))
-    }
-
-    /// Adds a callback of a chain, group or chord.
-    fn take(
-        &mut self,
-        made: &mut Made<'a, Callback<'a>>,
-        written: &Datum<'a>,
-        left: u32,
-    ) -> Result<(), SigFault> {
-        let adapted = self.adapt_callback(written, left)?;
-        made.push(Callback::new(written, &adapted))
     }
 
     /// The callbacks of a chain, group or chord.
@@ -75,7 +53,8 @@ impl<'a> Work<'a> {
         self.count(Change::Callback, written.len());
         let mut made = Made::new(self.arena);
         for value in written {
-            self.take(&mut made, value, left)?;
+            let adapted = self.adapt_callback(value, left)?;
+            made.push(Callback::new(value, &adapted))?;
         }
         Ok(made.done())
     }

@@ -66,20 +66,6 @@ impl<'a> Work<'a> {
         self.adapt_task(&call, given, left)
     }
 
-    fn calls(
-        &mut self,
-        value: &Datum<'a>,
-        items: &'a [Datum<'a>],
-        given: &Given<'a>,
-        left: u32,
-    ) -> Result<&'a [Datum<'a>], SigFault> {
-        let mut calls = Made::new(self.arena);
-        for item in items {
-            calls.push(self.call(value, item, given, left)?)?;
-        }
-        Ok(calls.done())
-    }
-
     /// The calls with all items, as a group.
     pub(crate) fn adapt_calls(
         &mut self,
@@ -93,7 +79,10 @@ impl<'a> Work<'a> {
         }
         self.count(Change::Map, 1);
         let given = self.with_own(value, &given.of_group(), left)?;
-        let calls = self.calls(value, items, &given, left)?;
-        group_of(self.arena, calls)
+        let mut calls = Made::new(self.arena);
+        for item in items {
+            calls.push(self.call(value, item, &given, left)?)?;
+        }
+        group_of(self.arena, calls.done())
     }
 }

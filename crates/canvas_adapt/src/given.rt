@@ -152,38 +152,15 @@ impl<'a> Work<'a> {
         Ok(false)
     }
 
-    /// Adds a value, unless one that is alike is there.
-    fn add_new(
-        &mut self,
-        made: &mut Made<'a, Datum<'a>>,
-        value: &Datum<'a>,
-    ) -> Result<(), SigFault> {
-        if self.has(made.get(), value, weight_of(value, MOST_BYTES))? {
-            return Ok(());
-        }
-        made.push(*value)
-    }
-
     /// Of values that are alike the first.
     pub(crate) fn once(&mut self, values: &'a [Datum<'a>]) -> Result<&'a [Datum<'a>], SigFault> {
         let mut made = Made::new(self.arena);
         for value in values {
-            self.add_new(&mut made, value)?;
+            if !self.has(made.get(), value, weight_of(value, MOST_BYTES))? {
+                made.push(*value)?;
+            }
         }
         Ok(made.done())
-    }
-
-    /// Adds a callback, unless it is among some values.
-    fn add_other(
-        &mut self,
-        made: &mut Made<'a, Callback<'a>>,
-        callback: &Callback<'a>,
-        values: &[Datum<'a>],
-    ) -> Result<(), SigFault> {
-        if self.has(values, &callback.written, callback.weight)? {
-            return Ok(());
-        }
-        made.push(*callback)
     }
 
     /// Those callbacks that aren't among some values: none is given twice.
@@ -197,7 +174,9 @@ impl<'a> Work<'a> {
         }
         let mut made = Made::new(self.arena);
         for callback in given {
-            self.add_other(&mut made, callback, values)?;
+            if !self.has(values, &callback.written, callback.weight)? {
+                made.push(*callback)?;
+            }
         }
         Ok(made.done())
     }

@@ -33,22 +33,17 @@ struct Walk<'a> {
 }
 
 impl<'a> Walk<'a> {
-    /// The next task, which may get another name.
-    fn named(&mut self, value: &Datum<'a>) -> Result<Datum<'a>, SigFault> {
-        self.task = self.task.saturating_add(1);
-        match name_of(self.renames, self.task) {
-            Some(name) => with_member(self.arena, value, "task", Datum::Text(name)),
-            None => Ok(*value),
-        }
-    }
-
     /// A task, with its links and its error callbacks.
     #[cycle(task)]
     fn rename_task(&mut self, value: &Datum<'a>, left: u32) -> Result<Datum<'a>, SigFault> {
         if left == 0 {
             return Ok(*value);
         }
-        let named = self.named(value)?;
+        self.task = self.task.saturating_add(1);
+        let named = match name_of(self.renames, self.task) {
+            Some(name) => with_member(self.arena, value, "task", Datum::Text(name))?,
+            None => *value,
+        };
         let named = self.rename_callbacks(&named, "link", left - 1)?;
         self.rename_callbacks(&named, "link_error", left - 1)
     }

@@ -18,12 +18,6 @@ impl<'a> Work<'a> {
         }
     }
 
-    /// A task whose arguments are all of the profile.
-    fn with_all_arguments(&mut self, task: &Datum<'a>) -> Result<Datum<'a>, SigFault> {
-        let made = self.with_arguments(task, "args")?;
-        self.with_arguments(&made, "kwargs")
-    }
-
     /// A task that has these callbacks behind its own of that name.
     #[cycle(task)]
     fn with_callbacks(
@@ -41,19 +35,6 @@ impl<'a> Work<'a> {
         with_inner(self.arena, task, "options", name, callbacks)
     }
 
-    /// A task that has those error callbacks behind its own that aren't among them.
-    #[cycle(task)]
-    fn with_errbacks(
-        &mut self,
-        task: &Datum<'a>,
-        given: &'a [Callback<'a>],
-        left: u32,
-    ) -> Result<Datum<'a>, SigFault> {
-        let written = values_in(option_of(task, "link_error"));
-        let others = self.not_among(given, written)?;
-        self.with_callbacks(task, "link_error", others, left)
-    }
-
     /// A task, with what it is given.
     #[cycle(task)]
     pub(crate) fn adapt_task(
@@ -62,8 +43,11 @@ impl<'a> Work<'a> {
         given: &Given<'a>,
         left: u32,
     ) -> Result<Datum<'a>, SigFault> {
-        let made = self.with_all_arguments(task)?;
+        let written = values_in(option_of(task, "link_error"));
+        let errbacks = self.not_among(given.errbacks, written)?;
+        let made = self.with_arguments(task, "args")?;
+        let made = self.with_arguments(&made, "kwargs")?;
         let made = self.with_callbacks(&made, "link", given.links, left)?;
-        self.with_errbacks(&made, given.errbacks, left)
+        self.with_callbacks(&made, "link_error", errbacks, left)
     }
 }
