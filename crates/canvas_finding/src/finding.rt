@@ -138,19 +138,15 @@ fn whole(fault: SigFault, note: String) -> Finding
     }
 }
 
-/// What serde_json says without the place, which a finding has apart.
-fn without_place(said: &str) -> &str {
-    match said.split_once(" at line ") {
-        Some((reason, _place)) => reason,
-        None => said,
-    }
-}
-
-/// What serde_json says of a text.
+/// What serde_json says of a text, without the place, which a finding has apart.
 fn json_note(alloc: Global, error: &serde_json::Error) -> Result<String, AllocError> {
     let said = error.to_string(alloc)?;
-    let reason = without_place(&said);
-    format!(in alloc; "found no JSON ({reason}), wanted one JSON text in UTF-8")
+    match said.split_once(" at line ") {
+        Some((reason, _place)) => {
+            format!(in alloc; "found no JSON ({reason}), wanted one JSON text in UTF-8")
+        }
+        None => format!(in alloc; "found no JSON ({said}), wanted one JSON text in UTF-8"),
+    }
 }
 
 /// Where a text is no JSON, as serde_json says it.

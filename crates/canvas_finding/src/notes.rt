@@ -2,7 +2,7 @@
 
 use crate::arguments::{Bad, of_bad_argument};
 use crate::listing::Place;
-use crate::shown::{found, shown_value};
+use crate::shown::{shown, shown_value};
 use canvas_sig::SigFault;
 use canvas_sig::parts::{
     Datum, is_list, is_list_or_null, is_name, is_object_or_null, is_text, is_true, kwarg_of,
@@ -15,6 +15,16 @@ const SIGNATURES: &str = "a list of signatures";
 
 /// What Celery calls signatures that apply another one to each of a list.
 const MAPS: [&str; 3] = ["celery.map", "celery.starmap", "celery.chunks"];
+
+fn found(
+    alloc: Global,
+    what: &str,
+    value: Option<&Datum<'_>>,
+    wanted: &str,
+) -> Result<String, AllocError> {
+    let shown = shown(alloc, value)?;
+    format!(in alloc; "found {what} {shown}, wanted {wanted}")
+}
 
 fn of_signature(alloc: Global, value: &Datum<'_>) -> Result<String, AllocError> {
     if !value.is_object() {

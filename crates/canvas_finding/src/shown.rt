@@ -6,42 +6,31 @@ use std::alloc::{AllocError, Global};
 /// How many characters of a text are shown.
 const MOST_SHOWN: usize = 40;
 
-fn push_code(shown: &mut String, code: u32) -> Result<(), AllocError> {
-    write!(shown, "\\u{{{code:x}}}")?;
-    Ok(())
-}
-
-fn push_escaped(shown: &mut String, c: char) -> Result<(), AllocError> {
-    match c {
-        '"' => shown.push_str("\\\""),
-        '\\' => shown.push_str("\\\\"),
-        ' '..='~' => shown.push(c),
-        _ => push_code(shown, c as u32),
-    }
-}
-
-/// What ends a text in quotes.
-fn closing(text: &str) -> &'static str {
-    if text.chars().count() > MOST_SHOWN {
-        "..\""
-    } else {
-        "\""
-    }
-}
-
 /// A text in quotes, cut where it is long. What isn't printable ASCII is escaped.
 pub(crate) fn quoted(alloc: Global, text: &str) -> Result<String, AllocError> {
     let mut shown = String::new(alloc);
     shown.push('"')?;
     for c in text.chars().take(MOST_SHOWN) {
-        push_escaped(&mut shown, c)?;
+        match c {
+            '"' => shown.push_str("\\\"")?,
+            '\\' => shown.push_str("\\\\")?,
+            ' '..='~' => shown.push(c)?,
+            _ => {
+                let code = c as u32;
+                write!(shown, "\\u{{{code:x}}}")?;
+            }
+        }
     }
-    shown.push_str(closing(text))?;
+    shown.push_str(if text.chars().count() > MOST_SHOWN {
+        "..\""
+    } else {
+        "\""
+    })?;
     Ok(shown)
 }
 
 /// What stands in a member.
-fn shown(alloc: Global, found: Option<&Datum<'_>>) -> Result<String, AllocError> {
+pub(crate) fn shown(alloc: Global, found: Option<&Datum<'_>>) -> Result<String, AllocError> {
     match found {
         None => String::from_str(alloc, "nothing"),
         Some(value) => shown_value(alloc, value),
@@ -61,15 +50,4 @@ pub(crate) fn shown_value(alloc: Global, value: &Datum<'_>) -> Result<String, Al
         Datum::Bool(flag) => flag.to_string(alloc),
         Datum::Null => String::from_str(alloc, "null"),
     }
-}
-
-/// What was found somewhere, and what is wanted there.
-pub(crate) fn found(
-    alloc: Global,
-    what: &str,
-    value: Option<&Datum<'_>>,
-    wanted: &str,
-) -> Result<String, AllocError> {
-    let shown = shown(alloc, value)?;
-    format!(in alloc; "found {what} {shown}, wanted {wanted}")
 }
