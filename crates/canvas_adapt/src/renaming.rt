@@ -77,13 +77,13 @@ impl<'a> Walk<'a> {
         let Some(inner) = kwarg_of(value, name) else {
             return Ok(*value);
         };
-        let inner = self.rename_all(inner, left)?;
+        let inner = self.rename_one_or_more(inner, left)?;
         with_inner(self.arena, value, "kwargs", name, inner)
     }
 
     /// Signatures in a list, or one.
     #[cycle(node)]
-    fn rename_all(&mut self, value: &Datum<'a>, left: u32) -> Result<Datum<'a>, SigFault> {
+    fn rename_one_or_more(&mut self, value: &Datum<'a>, left: u32) -> Result<Datum<'a>, SigFault> {
         let Datum::List(values) = value else {
             return self.rename_node(value, left);
         };

@@ -7,7 +7,7 @@ use clap::ArgMatches;
 use std::alloc::Global;
 
 /// The other names that the words ask for.
-pub fn asked_renames<'w>(
+pub(crate) fn asked_renames<'w>(
     alloc: Global,
     given: &ArgMatches<'w>,
 ) -> Result<Vec<Rename>, Refusal<'w>> {

@@ -8,7 +8,7 @@ use canvas_task::{TaskNo, name_ok};
 use clap::ArgMatches;
 use std::alloc::{AllocError, Global};
 
-/// What is asked for.
+/// What is delivered again.
 #[derive(Drop)]
 pub enum Again<'w> {
     Nothing,
@@ -62,7 +62,10 @@ fn has_names(list: &str) -> bool {
 }
 
 /// What the words ask for.
-pub fn asked_again<'w>(alloc: Global, given: &ArgMatches<'w>) -> Result<Again<'w>, Refusal<'w>> {
+pub(crate) fn asked_again<'w>(
+    alloc: Global,
+    given: &ArgMatches<'w>,
+) -> Result<Again<'w>, Refusal<'w>> {
     let Some(list) = given.get_str("again") else {
         return Ok(Again::Nothing);
     };
@@ -140,7 +143,7 @@ fn numbered<'w>(alloc: Global, plan: &Plan, list: &str) -> Result<String, Refusa
     Ok(out)
 }
 
-/// The entries of such a list.
+/// The entries of a list of numbers and names of tasks.
 pub fn named_entries<'w>(
     alloc: Global,
     plan: &Plan,

@@ -145,7 +145,7 @@ fn answer_rows<'w>(
 }
 
 /// The run that the words name.
-pub fn run_of<'w>(text: &str) -> Result<Run, Refusal<'w>> {
+pub(crate) fn run_of<'w>(text: &str) -> Result<Run, Refusal<'w>> {
     match Run::of_text(text) {
         Some(run) => Ok(run),
         None => Err(Refusal::Celery(CeleryRefusal::BadRun)),
@@ -185,7 +185,7 @@ fn collected(
 }
 
 /// The rows that stored results give, whatever the tasks returned or raised.
-pub fn stored_rows<'w>(
+pub(crate) fn stored_rows<'w>(
     alloc: Global,
     plan: &Plan,
     run: &Run,

@@ -1,4 +1,4 @@
-//! Many canvases: how they are run, and the JSON object of each.
+//! Many canvases of one text: how they are run, and the JSON object of each.
 
 use crate::prepared::Plans;
 use crate::refusal::Refusal;
@@ -7,7 +7,7 @@ use canvas_report::Report;
 use canvas_task::Tasks;
 use std::alloc::{AllocError, Global};
 
-/// How many canvases are run.
+/// How the canvases of a text are run that has one after the other.
 #[derive(Clone, Copy, Drop)]
 pub struct Each {
     pub workers: u32,

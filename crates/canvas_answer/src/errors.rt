@@ -45,7 +45,7 @@ fn other_error(text: &str) -> Option<(&str, &str)> {
 }
 
 /// A stub's text with one of the four exceptions, `stands`, for one of another class.
-pub fn plain_text(alloc: Global, text: &str, stands: &str) -> Result<String, AllocError> {
+pub(crate) fn plain_text(alloc: Global, text: &str, stands: &str) -> Result<String, AllocError> {
     match other_error(text) {
         Some((name, _class)) => format!(in alloc; "{name}=raise:{stands}"),
         None => String::from_str(alloc, text),
@@ -53,7 +53,7 @@ pub fn plain_text(alloc: Global, text: &str, stands: &str) -> Result<String, All
 }
 
 /// Adds what a stub's text raises, where that is an exception of another class.
-pub fn push_error(
+pub(crate) fn push_error(
     alloc: Global,
     errors: &mut Vec<OtherError>,
     text: &str,
@@ -68,7 +68,7 @@ pub fn push_error(
 }
 
 /// The class of the exception that the stub of a name raises, where it is another.
-pub fn class_named<'a>(errors: &'a [OtherError], name: &str) -> Option<&'a str> {
+pub(crate) fn class_named<'a>(errors: &'a [OtherError], name: &str) -> Option<&'a str> {
     for error in errors {
         if error.name.as_str() == name {
             return Some(error.class.as_str());

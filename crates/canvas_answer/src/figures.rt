@@ -49,7 +49,7 @@ fn bytes_of(messages: &[Envelope]) -> u64 {
 }
 
 impl Figures {
-    /// The same as a JSON object in a line.
+    /// The figures as a JSON object in a line.
     fn json_line(self, alloc: Global) -> Result<String, AllocError> {
         let Figures {
             tasks,

@@ -73,8 +73,9 @@ fn finding_json(alloc: Global, finding: &Finding) -> Result<String, AllocError> 
     )
 }
 
-/// The same of what no signature of the text has, as one that is refused once it is adapted.
-pub fn fault_json(alloc: Global, fault: SigFault) -> Result<String, AllocError> {
+/// A refusal as a JSON object in a line, where no signature of the text has it, as where the text
+/// is refused once it is adapted.
+pub(crate) fn fault_json(alloc: Global, fault: SigFault) -> Result<String, AllocError> {
     let code = fault.code();
     format!(in alloc;
         "{{\"code\":{code},\"name\":\"{fault}\",\"note\":\"\",\"pointer\":null,\"task\":null}}\n"

@@ -85,7 +85,7 @@ where
     }
 }
 
-fn report_text<T>(
+fn picture_text<T>(
     alloc: Global,
     plans: &Plans,
     report: &Report,
@@ -103,5 +103,5 @@ pub fn report_picture<'w, T>(
     report: &Report,
     source: &Source<'_, T>,
 ) -> Result<Answer<'w>, Refusal<'w>> {
-    Ok(Answer::whole(report_text(alloc, plans, report, source)?.into_bytes()))
+    Ok(Answer::whole(picture_text(alloc, plans, report, source)?.into_bytes()))
 }

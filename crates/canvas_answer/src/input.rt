@@ -83,7 +83,7 @@ where
     bytes_of(rt, file, input, MOST_BYTES + 1)
 }
 
-/// Lines with a canvas each, likewise. More bytes than are taken are refused.
+/// Lines with a canvas each. More bytes than are taken are refused.
 pub fn lines_of<'w, S, R: Read>(
     rt: &S,
     file: &'w str,
@@ -100,7 +100,7 @@ where
 }
 
 /// The results that Celery's workers stored, a line each.
-pub fn results_of<'w, S, R: Read>(
+pub(crate) fn results_of<'w, S, R: Read>(
     rt: &S,
     file: &'w str,
     input: &mut R,

@@ -84,7 +84,7 @@ impl Manner {
     }
 
     /// A report that doesn't tell which tasks were called, and the status that its result has.
-    pub fn untold<'w>(
+    pub(crate) fn untold<'w>(
         &self,
         alloc: Global,
         plan: &Plan,

@@ -31,7 +31,7 @@ pub struct Source<'a, T> {
 
 /// What is foreseen of a signature.
 #[derive(Clone, Copy)]
-pub struct Foreseen<'a> {
+pub(crate) struct Foreseen<'a> {
     pub forecast: Forecast,
     is_task: bool,
     /// Of a call that is a TypeError the parameter that is at fault, if it is one; none where no
@@ -41,7 +41,7 @@ pub struct Foreseen<'a> {
 
 impl<'a> Foreseen<'a> {
     /// The parameter that makes its call a TypeError, where that is known.
-    pub fn blame(&self) -> Option<Blame<'a>> {
+    pub(crate) fn blame(&self) -> Option<Blame<'a>> {
         match self.blame {
             Some(blame) => blame,
             None => None,
@@ -116,7 +116,7 @@ impl<'a, T> Source<'a, T> {
     }
 
     /// The rows of a whole run, with the exceptions that stubs raise.
-    pub fn named_rows(
+    pub(crate) fn named_rows(
         &self,
         alloc: Global,
         plans: &Plans,
@@ -178,7 +178,7 @@ impl<'a, T: Tasks> Source<'a, T> {
     }
 
     /// What is foreseen of each signature of a canvas, in file order.
-    pub fn all_foreseen<'c>(
+    pub(crate) fn all_foreseen<'c>(
         &self,
         alloc: Global,
         canvas: &'c Canvas,
@@ -233,7 +233,7 @@ impl<'a, T: Tasks> Source<'a, T> {
     }
 
     /// The report of a whole run as JSON lines.
-    pub fn json_of<'w>(
+    pub(crate) fn json_of<'w>(
         &self,
         alloc: Global,
         plans: &Plans,

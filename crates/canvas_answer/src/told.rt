@@ -74,7 +74,7 @@ fn told_object(alloc: Global, refusal: &Refusal<'_>) -> Result<Option<String>, A
 }
 
 /// A refusal as it is printed where JSON is asked for.
-pub fn told_in_json<'w>(alloc: Global, refusal: Refusal<'w>) -> Refusal<'w> {
+pub(crate) fn told_in_json<'w>(alloc: Global, refusal: Refusal<'w>) -> Refusal<'w> {
     match told_object(alloc, &refusal) {
         Ok(Some(text)) => Refusal::Found(text),
         Ok(None) => refusal,
@@ -89,7 +89,8 @@ fn found<'w>(told: Result<String, Memory>) -> Refusal<'w> {
     }
 }
 
-/// The same where it may be that of a canvas, which has this text.
+/// A refusal as it is printed where JSON is asked for, where it may be that of a canvas with this
+/// text.
 pub fn told_of_text<'w>(alloc: Global, text: &[u8], refusal: Refusal<'w>) -> Refusal<'w> {
     match refusal {
         Refusal::Canvas(fault) => found(refusal_json(alloc, text, fault)),

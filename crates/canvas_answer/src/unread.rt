@@ -20,7 +20,7 @@ pub enum Unread {
 
 impl Unread {
     /// What an error of reading comes to.
-    pub fn of(error: &Error) -> Unread {
+    pub(crate) fn of(error: &Error) -> Unread {
         match error.kind() {
             ErrorKind::NotFound => Unread::Missing,
             ErrorKind::PermissionDenied => Unread::Forbidden,

@@ -229,7 +229,7 @@ impl Warnings {
     }
 
     /// Writes each as a line, for a person.
-    pub fn push_lines(&self, text: &mut String) -> Result<(), AllocError> {
+    pub(crate) fn push_lines(&self, text: &mut String) -> Result<(), AllocError> {
         for warning in &self.found {
             push_line(text, warning)?;
         }
@@ -237,7 +237,7 @@ impl Warnings {
     }
 
     /// Writes each as a JSON object in a line.
-    pub fn push_objects(&self, text: &mut String) -> Result<(), AllocError> {
+    pub(crate) fn push_objects(&self, text: &mut String) -> Result<(), AllocError> {
         for warning in &self.found {
             push_object(self.alloc, text, warning)?;
         }

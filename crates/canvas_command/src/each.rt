@@ -14,7 +14,7 @@ use std::random::RandomSource;
 use std::sync::Wait;
 use std::thread::Threads;
 
-/// The same of a canvas's run, and whether its result is a failure.
+/// The report of a canvas's run as an object in a line, and whether its result is a failure.
 fn ran<'w, S, T>(
     rt: &S,
     workers: u32,

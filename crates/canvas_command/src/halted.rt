@@ -8,8 +8,8 @@ use canvas_answer::source::Source;
 use canvas_engine::{Cause, Report, RunFault};
 use std::alloc::Global;
 
-/// Why a run has no whole report.
-pub(crate) fn refused<'w>(fault: &RunFault) -> Refusal<'w> {
+/// Why a run has no whole report, as the program says it.
+pub fn refused<'w>(fault: &RunFault) -> Refusal<'w> {
     match fault {
         RunFault::BadWorkers => Refusal::BadWorkers,
         RunFault::BadTurn => Refusal::BadTurn,

@@ -1,6 +1,6 @@
 //! Refusals that no run of the program shows, with their statuses and texts.
 
-use canvas_command::{Refusal, refuse_words};
+use canvas_command::{Refusal, refuse_words, refused};
 use canvas_engine::{Cause, RunFault};
 use canvas_lists::EntryFault;
 use std::alloc::Global;
@@ -18,7 +18,7 @@ fn is_told(alloc: Global, refusal: &Refusal<'_>, told: &str) -> bool {
 /// The program asks no run to stop, but one that did would say so.
 #[test]
 fn a_run_that_is_stopped(rt: HostRuntime) {
-    let refusal = Refusal::from(RunFault::Halted {
+    let refusal = refused(&RunFault::Halted {
         cause: Cause::Stopped,
         rows: None,
     });

@@ -110,16 +110,18 @@ fn called_back(
         (number_of message.now.own) outcome.now)) }
 {
     let parent = Some(message.task);
-    let mut messages = Vec::new(alloc);
     match outcome {
         Outcome::Success(number) => {
+            let links = message.links.get();
             let input = Input::Number(*number);
-            call_back(alloc, message.links.get(), &input, &parent, &mut messages)?;
+            let mut messages = Vec::with_capacity(alloc, links.len())?;
+            call_back(alloc, links, &input, &parent, &mut messages)?;
             Ok(messages)
         }
         Outcome::Failure(_fault) => {
             let errbacks = message.errbacks.get();
             let input = Input::Ident(message.task);
+            let mut messages = Vec::with_capacity(alloc, errbacks.len())?;
             call_back(alloc, errbacks, &input, &parent, &mut messages)?;
             Ok(messages)
         }

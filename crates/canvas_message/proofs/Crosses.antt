@@ -11,7 +11,7 @@ use Rattle.canvas_task.proofs.map_of.MapOf.TheSendSync.{the_send as map_send, th
 use Rattle.canvas_task.proofs.number.GroupNo.TheSendSync.{the_send as group_send, the_sync as group_sync}
 use Rattle.canvas_task.proofs.number.TaskNo.TheSendSync.{the_send as task_send, the_sync as task_sync}
 use Rattle.canvas_task.proofs.text_of.TextOf.TheSendSync.{the_send as text_send, the_sync as text_sync}
-use Rattle.canvas_message.specs.contracts.kept.Listed as Listed
+use Rattle.canvas_message.specs.contracts.kept.Waiting as Waiting
 use Rattle.canvas_message.specs.contracts.letter.Letter as Letter
 use Rattle.canvas_message.specs.contracts.message.Message as Message
 use Rattle.canvas_message.proofs.carried_text.CarriedText.TheSendSync.{the_send as carried_send, the_sync as carried_sync}
@@ -71,8 +71,8 @@ ruleset written = (
 message : IsSend Message.the_row
 message = search (task, line, place, written, plain) depth 40 fits 100000
 
-listed : IsSend Listed.the_row
-listed = search (task, line, place, written, plain) depth 40 fits 100000
+waiting : IsSend Waiting.the_row
+waiting = search (task, line, place, written, plain) depth 40 fits 100000
 
 pub letter : IsSend Letter.the_row
-letter = search (message, listed, written, plain) depth 40 fits 100000
+letter = search (message, waiting, written, plain) depth 40 fits 100000

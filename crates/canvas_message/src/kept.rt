@@ -2,7 +2,7 @@
 
 ghost use Rattle.std.specs.Prelude.{◌≡◌, None, Some, IfOk, IfSome};
 ghost use Rattle.canvas_task.specs.Entries.{named, Ascends};
-ghost use Rattle.canvas_message.specs.Kept.{kept};
+ghost use Rattle.canvas_message.specs.steps.Kept.{kept};
 
 use crate::{Message, Texts};
 use canvas_rewrite::{FrozenLine, FrozenTask, Place};
@@ -14,7 +14,7 @@ use std::mem;
 
 /// A message whose keyword arguments stand in a list, in the order of their names.
 #[derive(Drop)]
-pub(crate) struct Listed {
+pub(crate) struct Waiting {
     task: TaskNo,
     name: TextOf,
     parent: Option<TaskNo>,
@@ -27,7 +27,7 @@ pub(crate) struct Listed {
     texts: Texts,
 }
 
-impl Model for Listed {
+impl Model for Waiting {
     ghost use Rattle.std.specs.Prelude.{◌≡◌, true};
     ghost use Rattle.canvas_task.specs.Entries.{named, Ascends};
     ghost use Rattle.canvas_message.specs.Content.{Content};
@@ -61,8 +61,8 @@ fn map_of(alloc: Global, entries: Vec<(String, Arg)>) -> Result<BTreeMap<String,
     Ok(map)
 }
 
-impl Listed {
-    fn of(alloc: Global, message: Message) -> Result<Listed, AllocError>
+impl Waiting {
+    fn of(alloc: Global, message: Message) -> Result<Waiting, AllocError>
         ensures { IfOk result (λ l. l ≡ message) }
     {
         let Message {
@@ -78,7 +78,7 @@ impl Listed {
             texts,
         } = message;
         let kwargs = kwargs.into_plain().into_iter().collect(alloc)?;
-        Ok(Listed {
+        Ok(Waiting {
             task,
             name,
             parent,
@@ -95,7 +95,7 @@ impl Listed {
     fn into_message(self, alloc: Global) -> Result<Message, AllocError>
         ensures { IfOk result (λ m. m ≡ self) }
     {
-        let Listed {
+        let Waiting {
             task,
             name,
             parent,
@@ -130,15 +130,15 @@ pub(crate) enum Kept {
     Whole(Box<Message>),
     /// One with keyword arguments: a map takes room for fifteen with its first, and as many letters
     /// may wait as a canvas has tasks.
-    Listed(Box<Listed>),
+    Waiting(Box<Waiting>),
 }
 
 impl Kept {
-    fn listed(alloc: Global, message: Message) -> Result<Kept, AllocError>
+    fn waiting(alloc: Global, message: Message) -> Result<Kept, AllocError>
         ensures { IfOk result (λ k. kept k ≡ Some message) }
     {
-        let listed = Listed::of(alloc, message)?;
-        Ok(Kept::Listed(Box::new(alloc, listed)?))
+        let waiting = Waiting::of(alloc, message)?;
+        Ok(Kept::Waiting(Box::new(alloc, waiting)?))
     }
 
     fn whole(alloc: Global, message: Message) -> Result<Kept, AllocError>
@@ -154,7 +154,7 @@ impl Kept {
         let made = if message.kwargs.get().is_empty() {
             Kept::whole(alloc, message)
         } else {
-            Kept::listed(alloc, message)
+            Kept::waiting(alloc, message)
         };
         match made {
             Ok(kept) => kept,
@@ -170,8 +170,8 @@ impl Kept {
         match mem::replace(self, Kept::Nothing) {
             Kept::Nothing => None,
             Kept::Whole(message) => Some(message),
-            Kept::Listed(listed) => {
-                let message = Box::into_inner(listed).into_message(alloc).ok()?;
+            Kept::Waiting(waiting) => {
+                let message = Box::into_inner(waiting).into_message(alloc).ok()?;
                 Box::new(alloc, message).ok()
             }
         }

@@ -22,7 +22,7 @@ struct Held {
 impl Model for Held {
     ghost use Rattle.std.specs.Prelude.{IfSome};
     ghost use Rattle.canvas_message.specs.EnvelopeFaults.{Says};
-    ghost use Rattle.canvas_message.specs.Kept.{kept};
+    ghost use Rattle.canvas_message.specs.steps.Kept.{kept};
     ghost use Rattle.canvas_message.specs.Pieces.{envelope_seen};
     ghost use Rattle.canvas_message.specs.declared.envelope.Envelope.{Envelope};
 

@@ -96,7 +96,7 @@ fn put_quoted(out: &mut String, text: &str) -> Result<(), AllocError>
     put(out, "\"")
 }
 
-/// How many bytes a text takes more than its own: quotes, and some escapes.
+/// Room for the quotes of a text and some escapes, beside its own bytes.
 const ESCAPES_ROOM: usize = 16;
 
 fn escaped(alloc: Global, text: &str) -> Result<String, AllocError>

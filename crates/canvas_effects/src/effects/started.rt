@@ -131,7 +131,6 @@ pub(super) fn call_back(
         ++ messages_in (callbacks (p_tasks_of (map p_task_view tasks.now))
         (input_seen input.now) parent.now)) }
 {
-    messages.reserve_exact(tasks.len())?;
     for task in tasks {
         let place = share_if_some(&task.place)?;
         let message = message_of(alloc, task, input, parent, place, None, Texts::none())?;

@@ -1,6 +1,6 @@
 use Rattle.std.proofs.Common.{◌≡◌, [], ◌∷◌, ◌++◌, sym, ap, ◌∙◌, append_assoc}
 use Rattle.canvas_task.specs.Entries.{named}
-use Rattle.canvas_message.proofs.Listing.{Entry, next_goes_last}
+use Rattle.canvas_message.proofs.InOrder.{Entry, next_goes_last}
 use Rattle.canvas_message.proofs.kept.map_of.Goals as goal
 
 pub loop-name-preserved : goal.loop-name-preserved
