@@ -1,24 +1,26 @@
 //! Messages of a chord of three members, changed in one place. Task 2 is its second member, task 4
 //! its body, task 5 the body's error callback.
 
-/// The properties, headers and body of a message, in the notation of frozen texts.
-pub(crate) type Texts = [&'static str; 3];
-
-/// The message of the second member.
-pub(crate) const MEMBER: Texts = [
+/// The message of the second member: its properties, headers and body, each on a line, in the
+/// notation of frozen texts.
+pub(crate) const MEMBER: &str = concat!(
     r#"{"content_encoding":"utf-8","content_type":"application/json","correlation_id":"%2"}"#,
+    "\n",
     r#"{"group":"@1","id":"%2","lang":"rs","parent_id":null,"root_id":"%1","task":"tasks.div"}"#,
-    r#"[[1,0],{},{"callbacks":null,"chain":null,"chord":{"args":[],"chord_size":3,"immutable":false,"kwargs":{},"options":{"link_error":[{"args":[],"immutable":false,"kwargs":{},"options":{"task_id":"%5"},"subtask_type":null,"task":"tasks.log_error"}],"task_id":"%4"},"subtask_type":null,"task":"tasks.xsum"},"errbacks":null}]"#,
-];
+    "\n",
+    r#"[[1,0],{},{"callbacks":null,"chain":null,"chord":{"args":[],"chord_size":3,"immutable":false,"kwargs":{},"options":{"link_error":[{"args":[],"immutable":false,"kwargs":{},"options":{"task_id":"%5"},"subtask_type":null,"task":"tasks.log_error"}],"task_id":"%4"},"subtask_type":null,"task":"tasks.xsum"},"errbacks":null}]"#
+);
 
-/// The message of the body's error callback.
-pub(crate) const CALLBACK: Texts = [
+/// The message of the body's error callback, in the same way.
+pub(crate) const CALLBACK: &str = concat!(
     r#"{"content_encoding":"utf-8","content_type":"application/json","correlation_id":"%5"}"#,
+    "\n",
     r#"{"group":null,"id":"%5","lang":"rs","parent_id":"%4","root_id":"%1","task":"tasks.log_error"}"#,
-    r#"[["%4"],{},{"callbacks":null,"chain":null,"chord":null,"errbacks":null}]"#,
-];
+    "\n",
+    r#"[["%4"],{},{"callbacks":null,"chain":null,"chord":null,"errbacks":null}]"#
+);
 
-/// A change: what stands in the message, in each text where it does, and what is put there.
+/// A change: what stands in the message, everywhere where it does, and what is put there.
 pub(crate) type Change = [&'static str; 2];
 
 /// Changes of the member's message: names that the plan doesn't have, or has elsewhere.

@@ -67,6 +67,31 @@ where
     }
 }
 
+/// The same of one worker, of two and of sixteen.
+fn stopped_each<R>(rt: &R, way: Way, most: Option<u32>) -> [Option<usize>; 3]
+where
+    R: Threads + Wait + RandomSource + AllocGlobal + Sync,
+{
+    [
+        stopped(rt, way, most, 1),
+        stopped(rt, way, most, 2),
+        stopped(rt, way, most, 16),
+    ]
+}
+
+fn is_within(rows: Option<usize>, least: usize, greatest: usize) -> bool {
+    match rows {
+        Some(rows) => least <= rows && rows <= greatest,
+        None => false,
+    }
+}
+
+/// Whether one worker has stored so many rows, and several a number within these bounds.
+fn are_stored(rows: &[Option<usize>; 3], one: usize, least: usize, greatest: usize) -> bool {
+    let [alone, two, sixteen] = *rows;
+    alone == Some(one) && is_within(two, least, greatest) && is_within(sixteen, least, greatest)
+}
+
 /// A worker stores the outcome for which it has asked the gate, and then sees the stop. One that
 /// the gate holds back sees it at its next poll. Where envelopes are delivered again, one worker is
 /// asked before the store of each task and behind it.
@@ -83,15 +108,11 @@ fn by_a_gate(rt: HostRuntime) {
         (Way::Again, Some(3), 2, 0, 16),
         (Way::Again, Some(50), 25, 0, 66),
     ] {
-        let alone = stopped(&rt, way, most, 1);
-        assert_eq!(rt; alone, Some(one), "{way:?} after {most:?}");
-        for &workers in &[2, 16] {
-            let rows = stopped(&rt, way, most, workers);
-            assert!(rt;
-                rows.is_some_and(|rows| least <= rows && rows <= greatest),
-                "{way:?} after {most:?}, {workers} workers: {rows:?}"
-            );
-        }
+        let rows = stopped_each(&rt, way, most);
+        assert!(rt;
+            are_stored(&rows, one, least, greatest),
+            "{way:?} after {most:?}: {rows:?}"
+        );
     }
 }
 
@@ -159,35 +180,42 @@ fn is_lost(ran: &Result<String, TextFault>) -> bool {
     }
 }
 
-/// How many rows a text's run has stored whose stop is asked at a draw; and whether one that fails
-/// at this draw is lost, and asks its stop.
+/// A text's run, at one draw of which its stop is asked, or which fails.
+fn ran_drawing<R>(rt: &Drawing<'_, R>, text: &str, workers: u32) -> Result<String, TextFault>
+where
+    R: Threads + Wait + RandomSource + AllocGlobal + Sync,
+{
+    let (bytes, alloc) = (text.as_bytes(), rt.alloc());
+    run_text_threads(rt, alloc, bytes, &BuiltinTasks, workers, &OpenGate, rt.stop)
+}
+
+/// How many rows a text's run has stored whose stop is asked at a draw.
+fn rows_drawn<R>(rt: &R, text: &str, at: u32, workers: u32) -> Option<usize>
+where
+    R: Threads + Wait + RandomSource + AllocGlobal + Sync,
+{
+    let stop = Stop::new();
+    stored_rows(&ran_drawing(&Drawing::of(rt, &stop, at, false), text, workers))
+}
+
+/// Whether one that fails at this draw is lost, and asks its stop.
+fn is_lost_drawing<R>(rt: &R, text: &str, at: u32, workers: u32) -> bool
+where
+    R: Threads + Wait + RandomSource + AllocGlobal + Sync,
+{
+    let stop = Stop::new();
+    is_lost(&ran_drawing(&Drawing::of(rt, &stop, at, true), text, workers)) && stop.asked()
+}
+
+/// Both.
 fn drawn_text<R>(rt: &R, text: &str, at: u32, workers: u32) -> (Option<usize>, bool)
 where
     R: Threads + Wait + RandomSource + AllocGlobal + Sync,
 {
-    let (stop, other) = (Stop::new(), Stop::new());
-    let asks = Drawing::of(rt, &stop, at, false);
-    let fails = Drawing::of(rt, &other, at, true);
-    let (bytes, alloc) = (text.as_bytes(), rt.alloc());
-    let stopped = run_text_threads(
-        &asks,
-        alloc,
-        bytes,
-        &BuiltinTasks,
-        workers,
-        &OpenGate,
-        &stop,
-    );
-    let lost = run_text_threads(
-        &fails,
-        alloc,
-        bytes,
-        &BuiltinTasks,
-        workers,
-        &OpenGate,
-        &other,
-    );
-    (stored_rows(&stopped), is_lost(&lost) && other.asked())
+    (
+        rows_drawn(rt, text, at, workers),
+        is_lost_drawing(rt, text, at, workers),
+    )
 }
 
 /// The same of a chord of five tasks.
@@ -207,8 +235,10 @@ where
 fn where_an_executor_begins(rt: HostRuntime) {
     for &(workers, at) in &[(1, 2), (2, 3), (4, 5)] {
         let last = drawn(&rt, at, workers);
-        assert_eq!(rt; last, (Some(5), true), "{workers} workers");
         let (rows, is_lost) = drawn(&rt, workers, workers);
-        assert!(rt; is_lost && rows.is_some(), "{workers} workers");
+        assert!(rt;
+            last == (Some(5), true) && is_lost && rows.is_some(),
+            "{workers} workers: {last:?}, {rows:?}, {is_lost}"
+        );
     }
 }

@@ -1,8 +1,9 @@
 //! Lists that are nested deeply in the bodies of messages.
 
+use crate::states::envelope_of;
 use canvas_codec::decode;
 use canvas_message::Envelope;
-use canvas_samples::frozen_texts::bytes_of;
+use canvas_task::Memory;
 use std::alloc::{AllocError, Global};
 
 /// Nested lists, so many deep, between two texts.
@@ -18,31 +19,40 @@ fn nested(alloc: Global, before: &str, depth: u32, behind: &str) -> Result<Strin
     Ok(text)
 }
 
-fn envelope_of(
-    alloc: Global,
-    before: &str,
-    depth: u32,
-    behind: &str,
-) -> Result<Envelope, AllocError> {
-    Ok(Envelope {
-        properties: bytes_of(
-            alloc,
-            r#"{"content_encoding":"utf-8","content_type":"application/json"}"#,
-        )?,
-        headers: bytes_of(alloc, r#"{"id":"%1","task":"tasks.add"}"#)?,
-        body: bytes_of(alloc, &nested(alloc, before, depth, behind)?)?,
-    })
+const PROPERTIES: &str = r#"{"content_encoding":"utf-8","content_type":"application/json"}"#;
+
+const HEADERS: &str = r#"{"id":"%1","task":"tasks.add"}"#;
+
+/// The number of an envelope's refusal, 0 where there is none.
+fn code_of(alloc: Global, envelope: &Envelope) -> u8 {
+    match decode(alloc, envelope) {
+        Ok(_) => 0,
+        Err(fault) => fault.code(),
+    }
 }
 
-/// The number of a body's refusal, 0 where there is none.
-fn body_code_of(alloc: Global, before: &str, depth: u32, behind: &str) -> Option<u8> {
-    match envelope_of(alloc, before, depth, behind) {
-        Ok(envelope) => match decode(alloc, &envelope) {
-            Ok(_) => Some(0),
-            Err(fault) => Some(fault.code()),
-        },
+/// The same of a body.
+fn body_code_of(alloc: Global, body: &str) -> Option<u8> {
+    match envelope_of(alloc, PROPERTIES, HEADERS, body) {
+        Ok(envelope) => Some(code_of(alloc, &envelope)),
+        Err(Memory) => None,
+    }
+}
+
+/// The same of nested lists, so many deep, between two texts.
+fn nested_code_of(alloc: Global, before: &str, depth: u32, behind: &str) -> Option<u8> {
+    match nested(alloc, before, depth, behind) {
+        Ok(body) => body_code_of(alloc, &body),
         Err(_) => None,
     }
+}
+
+/// The same of lists a hundred and two hundred deep.
+fn codes_of(alloc: Global, before: &str, behind: &str) -> [Option<u8>; 2] {
+    [
+        nested_code_of(alloc, before, 100, behind),
+        nested_code_of(alloc, before, 200, behind),
+    ]
 }
 
 /// JSON nests at most 127 deep.
@@ -58,15 +68,7 @@ fn in_bodies(rt: HostRuntime) {
         (r#"[[],{},{"chord":"#, "}]", 7),
         (r#"[[],{},{"x":"#, "}]", 0),
     ] {
-        assert_eq!(rt;
-            body_code_of(rt.alloc(), before, 100, behind),
-            Some(code),
-            "{before}"
-        );
-        assert_eq!(rt;
-            body_code_of(rt.alloc(), before, 200, behind),
-            Some(1),
-            "{before}"
-        );
+        let found = codes_of(rt.alloc(), before, behind);
+        assert!(rt; found == [Some(code), Some(1)], "{before}: {found:?}");
     }
 }

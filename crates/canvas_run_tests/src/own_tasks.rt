@@ -4,14 +4,14 @@
 ghost use Rattle.std.specs.Prelude.{◌+ℤ◌, Ok};
 
 use crate::states::spelled_plan;
-use canvas_engine::{run, run_text_threads};
+use canvas_engine::{Records, Report, RunFault, run, run_text_threads};
 use canvas_rewrite::Plan;
 use canvas_samples::spelled;
 use canvas_task::{
     Add, Arg, BuiltinTasks, Kind, Memory, OfTwo, Outcome, TaskOfTwo, Tasks, registry_of,
 };
 use canvas_worker::{OpenGate, Stop};
-use std::alloc::{AllocGlobal, Global};
+use std::alloc::{AllocError, AllocGlobal, Global};
 use std::collections::BTreeMap;
 use std::random::RandomSource;
 use std::sync::Wait;
@@ -123,16 +123,27 @@ enum Group {
     Heavy,
 }
 
-fn heavy(alloc: Global) -> Result<String, Memory> {
+fn heavy(alloc: Global) -> Result<String, AllocError> {
     let call = format!(in alloc; "xsum:[{}1] ", "1,".repeat(alloc, 4_000)?)?;
-    spelled::canvas(alloc, TWENTY, &call.repeat(alloc, 20)?)
+    call.repeat(alloc, 20)
+}
+
+fn calls_of(alloc: Global, group: Group) -> Result<String, AllocError> {
+    match group {
+        Group::Light => "add:1,1 ".repeat(alloc, 20),
+        Group::Behind => "ident:1 ".repeat(alloc, 21),
+        Group::Heavy => heavy(alloc),
+    }
 }
 
 fn text_of(alloc: Global, group: Group) -> Result<String, Memory> {
-    match group {
-        Group::Light => spelled::canvas(alloc, TWENTY, &"add:1,1 ".repeat(alloc, 20)?),
-        Group::Behind => spelled::canvas(alloc, BEHIND_ONE, &"ident:1 ".repeat(alloc, 21)?),
-        Group::Heavy => heavy(alloc),
+    let frame = match group {
+        Group::Behind => BEHIND_ONE,
+        Group::Light | Group::Heavy => TWENTY,
+    };
+    match calls_of(alloc, group) {
+        Ok(calls) => spelled::canvas(alloc, frame, &calls),
+        Err(_) => Err(Memory),
     }
 }
 
@@ -143,10 +154,8 @@ where
 {
     let tasks = Meeting::of(before, workers);
     let (bytes, alloc) = (text.as_bytes(), rt.alloc());
-    match run_text_threads(rt, alloc, bytes, &tasks, workers, &OpenGate, &Stop::new()) {
-        Ok(_) => !tasks.gave_up(),
-        Err(_) => false,
-    }
+    let ran = run_text_threads(rt, alloc, bytes, &tasks, workers, &OpenGate, &Stop::new());
+    ran.is_ok() && !tasks.gave_up()
 }
 
 /// The same of a group. A first task in front of it doesn't wait.
@@ -195,19 +204,24 @@ impl OfTwo for Slow {
     }
 }
 
-/// How many of four workers take a message.
-fn taking<R, T>(rt: &R, alloc: Global, plan: &Plan, tasks: &T) -> Option<usize>
-where
-    R: Threads + Wait + RandomSource + AllocGlobal + Sync,
-    T: Tasks + Sync,
-{
-    match run(rt, alloc, plan, tasks, 4, &OpenGate, &Stop::new()) {
+/// How many workers of a run took a message.
+fn taken(ran: &Result<(Report, Records), RunFault>) -> Option<usize> {
+    match ran {
         Ok((_, records)) => {
             let tallies = records.workers.get().iter();
             Some(tallies.filter(|tally| tally.taken > 0).count())
         }
         Err(_) => None,
     }
+}
+
+/// How many of four workers take a message.
+fn taking<R, T>(rt: &R, alloc: Global, plan: &Plan, tasks: &T) -> Option<usize>
+where
+    R: Threads + Wait + RandomSource + AllocGlobal + Sync,
+    T: Tasks + Sync,
+{
+    taken(&run(rt, alloc, plan, tasks, 4, &OpenGate, &Stop::new()))
 }
 
 /// The same where the task of all is a slow one of a registry.

@@ -48,6 +48,25 @@ fn of_two(polls: u32, fault: Option<Cause>, taken: u64) -> Left {
     }
 }
 
+/// Whether a worker ends so.
+fn is_of_two(left: &Option<Left>, polls: u32, fault: Option<Cause>, taken: u64) -> bool {
+    *left == Some(of_two(polls, fault, taken))
+}
+
+/// What a gate is asked.
+type Asked = (u32, u32);
+
+/// How a worker of two tasks ends, and what its gate is asked, which is shut so often and has the
+/// envelope of this ask delivered again.
+fn counted<R>(rt: &R, shut: u32, at: u32, others: u64) -> (Option<Left>, Asked)
+where
+    R: Wait + RandomSource + AllocGlobal,
+{
+    let gate = Counting::of(shut, at, 1);
+    let left = left_of_two(rt, &gate, others);
+    (left, gate.asked())
+}
+
 /// To take, to store, to publish and to acknowledge are four for the first task, and to take, to
 /// store and to acknowledge three for the second; then a take that finds nothing, and the rest.
 ///
@@ -64,10 +83,11 @@ fn polls_of_two_tasks(rt: HostRuntime) {
         (0, 3, 3, 13, (3, 6)),
         (0, 4, 3, 13, (3, 6)),
     ] {
-        let gate = Counting::of(shut, at, 1);
-        let left = left_of_two(&rt, &gate, 0);
-        assert_eq!(rt; left, Some(of_two(polls, None, taken)), "asked {at}");
-        assert_eq!(rt; gate.asked(), asked, "asked {at}");
+        let (left, found) = counted(&rt, shut, at, 0);
+        assert!(rt;
+            is_of_two(&left, polls, None, taken) && found == asked,
+            "asked {at}: {left:?}, {found:?}"
+        );
     }
 }
 
@@ -76,8 +96,10 @@ fn polls_of_two_tasks(rt: HostRuntime) {
 #[test]
 fn a_worker_stays_for_others(rt: HostRuntime) {
     for &(at, taken) in &[(0, 2), (1, 3), (2, 3), (3, 3), (4, 3)] {
-        let gate = Counting::of(0, at, 1);
-        let stopped = of_two(MOST + 1, Some(Cause::Stopped), taken);
-        assert_eq!(rt; left_of_two(&rt, &gate, 1), Some(stopped), "asked {at}");
+        let (left, _) = counted(&rt, 0, at, 1);
+        assert!(rt;
+            is_of_two(&left, MOST + 1, Some(Cause::Stopped), taken),
+            "asked {at}: {left:?}"
+        );
     }
 }

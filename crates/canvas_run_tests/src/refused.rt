@@ -5,7 +5,8 @@
 use crate::refused_objects::{core, plain_queue, plain_table, queue, registry, table};
 use crate::refused_parts::{arguments, effects, messages, plans, signatures};
 use crate::refused_runs::{CANVASES, How, runs, turns};
-use crate::states::Canvas;
+use crate::states::{Canvas, FAILING, spelled_plan};
+use canvas_rewrite::Plan;
 use canvas_task::Memory;
 use std::alloc::{AllocGlobal, Global};
 use std::random::RandomSource;
@@ -29,21 +30,37 @@ enum Calls {
     Turns,
 }
 
+/// Whether these calls come to their answers, which are about a plan.
+fn answered_of(alloc: Global, plan: &Plan, calls: Calls) -> Result<bool, Memory> {
+    match calls {
+        Calls::Messages => messages(alloc, plan),
+        Calls::Effects => effects(alloc, plan),
+        Calls::PlainTable => plain_table(alloc, plan),
+        Calls::Table => table(alloc, plan),
+        Calls::Core => core(alloc, plan),
+        _ => Ok(false),
+    }
+}
+
+/// The same of a chord's plan, whose messages carry its body with an error callback.
+fn answered_of_chord(alloc: Global, calls: Calls) -> Result<bool, Memory> {
+    match spelled_plan(alloc, &FAILING) {
+        Some(plan) => answered_of(alloc, &plan, calls),
+        None => Err(Memory),
+    }
+}
+
 /// Whether these calls come to their answers.
 fn answered<R: Wait>(rt: &R, alloc: Global, calls: Calls) -> Result<bool, Memory> {
     match calls {
         Calls::Signatures => signatures(alloc),
         Calls::Plans => plans(alloc),
         Calls::Arguments => arguments(alloc),
-        Calls::Messages => messages(alloc),
-        Calls::Effects => effects(alloc),
         Calls::PlainQueue => plain_queue(alloc),
         Calls::Queue => queue(rt, alloc),
-        Calls::PlainTable => plain_table(alloc),
-        Calls::Table => table(alloc),
-        Calls::Core => core(alloc),
         Calls::Registry => registry(alloc),
         Calls::Turns => turns(alloc),
+        _ => answered_of_chord(alloc, calls),
     }
 }
 
@@ -106,20 +123,23 @@ where
 #[test]
 fn runs_by_turns(rt: HostRuntime) {
     for &how in &[How::Turns(1), How::Turns(2), How::Again(1), How::Again(2)] {
-        assert_eq!(rt; first_wrong(&rt, how), None, "{how:?}");
+        let wrong = first_wrong(&rt, how);
+        assert!(rt; wrong.is_none(), "{how:?}: {wrong:?}");
     }
 }
 
 #[test]
 fn runs_on_threads(rt: HostRuntime) {
     for &how in &[How::Threads(2), How::ByHand] {
-        assert_eq!(rt; first_wrong(&rt, how), None, "{how:?}");
+        let wrong = first_wrong(&rt, how);
+        assert!(rt; wrong.is_none(), "{how:?}: {wrong:?}");
     }
 }
 
 #[test]
 fn runs_of_texts(rt: HostRuntime) {
     for &how in &[How::Text, How::TextThreads] {
-        assert_eq!(rt; first_wrong(&rt, how), None, "{how:?}");
+        let wrong = first_wrong(&rt, how);
+        assert!(rt; wrong.is_none(), "{how:?}: {wrong:?}");
     }
 }

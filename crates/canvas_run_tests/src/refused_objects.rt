@@ -4,12 +4,11 @@
 ghost use Rattle.std.specs.Prelude.{◌≡◌, IfSome};
 ghost use Rattle.canvas_worker.specs.Asks.{FoundInRange};
 
-use crate::states::{FAILING, first_envelopes, spelled_plan};
+use crate::states::{envelope_of, first_envelopes};
 use canvas_backend::{Backend, BackendSeat, PlainBackend, Stored};
 use canvas_broker::{Broker, BrokerPass, PlainBroker};
 use canvas_message::{Envelope, Letter};
 use canvas_rewrite::Plan;
-use canvas_samples::frozen_texts::bytes_of;
 use canvas_task::{
     Add, AddFault, Arg, BuiltinTasks, Fault, Kind, Memory, Outcome, Registry, TaskNo,
 };
@@ -19,11 +18,11 @@ use std::collections::BTreeMap;
 use std::sync::Wait;
 
 fn envelope(alloc: Global) -> Result<Envelope, Memory> {
-    Ok(Envelope {
-        properties: bytes_of(alloc, "properties")?,
-        headers: bytes_of(alloc, "headers")?,
-        body: bytes_of(alloc, "body")?,
-    })
+    envelope_of(alloc, "properties", "headers", "body")
+}
+
+fn letter(alloc: Global) -> Result<Letter, Memory> {
+    Letter::new(alloc, envelope(alloc)?)
 }
 
 // ---- the queue of one thread
@@ -56,10 +55,25 @@ fn gives(taken: Option<Letter>, same: &Envelope) -> bool {
     }
 }
 
+/// Whether a queue gives the envelope that was published, and has nothing else then.
+fn trades_plain(broker: &mut PlainBroker, sent: Letter, same: &Envelope) -> bool {
+    publish_plain(broker, sent, same) && gives(broker.take(), same) && broker.is_empty()
+}
+
+/// The same of a queue, and of its letter.
+fn trades_letter(alloc: Global, broker: &mut PlainBroker, same: &Envelope) -> Result<bool, Memory> {
+    match letter(alloc) {
+        Ok(sent) => Ok(trades_plain(broker, sent, same)),
+        Err(Memory) => Err(Memory),
+    }
+}
+
 pub(crate) fn plain_queue(alloc: Global) -> Result<bool, Memory> {
-    let (sent, same) = (Letter::new(alloc, envelope(alloc)?)?, envelope(alloc)?);
     let mut broker = PlainBroker::new(alloc);
-    Ok(publish_plain(&mut broker, sent, &same) && gives(broker.take(), &same) && broker.is_empty())
+    match envelope(alloc) {
+        Ok(same) => trades_letter(alloc, &mut broker, &same),
+        Err(Memory) => Err(Memory),
+    }
 }
 
 // ---- the queue that threads share
@@ -125,32 +139,54 @@ fn trades<R: Wait>(
     }
 }
 
+/// The same of a letter.
+fn trades_shared<R: Wait>(
+    rt: &R,
+    alloc: Global,
+    broker: &Broker,
+    pass: &mut BrokerPass,
+    same: &Envelope,
+) -> Result<bool, Memory>
+    requires { pass.old.of ≡ broker.now }
+{
+    match letter(alloc) {
+        Ok(sent) => trades(rt, broker, pass, sent, same),
+        Err(Memory) => Err(Memory),
+    }
+}
+
+/// The same of a queue of its own.
+fn queue_trades<R: Wait>(rt: &R, alloc: Global, same: &Envelope) -> Result<bool, Memory> {
+    match Broker::new(alloc) {
+        Ok((broker, mut pass)) => trades_shared(rt, alloc, &broker, &mut pass, same),
+        Err(Memory) => Err(Memory),
+    }
+}
+
 pub(crate) fn queue<R: Wait>(rt: &R, alloc: Global) -> Result<bool, Memory> {
-    let (sent, same) = (Letter::new(alloc, envelope(alloc)?)?, envelope(alloc)?);
-    let (broker, mut pass) = Broker::new(alloc)?;
-    trades(rt, &broker, &mut pass, sent, &same)
+    match envelope(alloc) {
+        Ok(same) => queue_trades(rt, alloc, &same),
+        Err(Memory) => Err(Memory),
+    }
 }
 
 // ---- the tables
 
-/// Whether a table keeps the first outcome of a task.
-fn keeps_plain(backend: &mut PlainBackend, task: TaskNo) -> bool {
+/// Whether a table keeps the first outcome of its first task.
+fn keeps_plain(backend: &mut PlainBackend) -> bool {
+    let Some(task) = TaskNo::new(1) else {
+        return false;
+    };
     backend.roster().knows(task)
         && backend.store(task, &Outcome::Success(8)) == Stored::First
         && backend.store(task, &Outcome::Success(9)) == Stored::Again
         && backend.read(task) == Some(Outcome::Success(8))
 }
 
-fn plan_of(alloc: Global) -> Result<Plan, Memory> {
-    spelled_plan(alloc, &FAILING).ok_or(Memory)
-}
-
-pub(crate) fn plain_table(alloc: Global) -> Result<bool, Memory> {
-    let plan = plan_of(alloc)?;
-    let mut backend = PlainBackend::new(alloc, &plan)?;
-    match TaskNo::new(1) {
-        Some(task) => Ok(keeps_plain(&mut backend, task)),
-        None => Ok(false),
+pub(crate) fn plain_table(alloc: Global, plan: &Plan) -> Result<bool, Memory> {
+    match PlainBackend::new(alloc, plan) {
+        Ok(mut backend) => Ok(keeps_plain(&mut backend)),
+        Err(Memory) => Err(Memory),
     }
 }
 
@@ -175,14 +211,9 @@ fn shares(backend: &Backend, seat: &mut BackendSeat) -> Result<bool, Memory>
     }
 }
 
-fn table_of(alloc: Global, plan: &Plan) -> Result<bool, Memory> {
+pub(crate) fn table(alloc: Global, plan: &Plan) -> Result<bool, Memory> {
     let (backend, mut seat) = Backend::new(alloc, plan)?;
     shares(&backend, &mut seat)
-}
-
-pub(crate) fn table(alloc: Global) -> Result<bool, Memory> {
-    let plan = plan_of(alloc)?;
-    table_of(alloc, &plan)
 }
 
 // ---- a core
@@ -234,6 +265,19 @@ fn reply_of(step: u32) -> Option<Reply>
     }
 }
 
+/// Whether a core goes on with the reply of this number.
+fn steps_on(
+    alloc: Global,
+    backend: &PlainBackend,
+    core: &mut Core,
+    step: u32,
+) -> Result<bool, Memory> {
+    match reply_of(step) {
+        Some(reply) => goes_on(alloc, backend, core, reply),
+        None => Ok(false),
+    }
+}
+
 /// Whether a core that is inside that message comes to its end, with one envelope to publish and
 /// its own acknowledged last.
 fn completes(alloc: Global, backend: &PlainBackend, core: &mut Core) -> Result<bool, Memory> {
@@ -242,13 +286,8 @@ fn completes(alloc: Global, backend: &PlainBackend, core: &mut Core) -> Result<b
         if core.envelope().is_some() {
             published = published.saturating_add(1);
         }
-        match reply_of(step) {
-            Some(reply) => {
-                if !goes_on(alloc, backend, core, reply)? {
-                    return Ok(false);
-                }
-            }
-            None => return Ok(false),
+        if !steps_on(alloc, backend, core, step)? {
+            return Ok(false);
         }
     }
     Ok(published == 1 && core.next() == Ask::Take && core.held().is_none())
@@ -274,23 +313,29 @@ fn works(
     }
 }
 
-fn new_core_works(
+/// The same of the envelope of a plan's third member.
+fn works_last(
     alloc: Global,
     backend: &PlainBackend,
-    taken: Option<Letter>,
+    core: &mut Core,
+    plan: &Plan,
 ) -> Result<bool, Memory> {
+    match last_member(alloc, plan) {
+        Ok(taken) => works(alloc, backend, core, taken),
+        Err(Memory) => Err(Memory),
+    }
+}
+
+fn new_core_works(alloc: Global, backend: &PlainBackend, plan: &Plan) -> Result<bool, Memory> {
     let mut core = Core::new(alloc);
-    works(alloc, backend, &mut core, taken)
+    works_last(alloc, backend, &mut core, plan)
 }
 
-fn core_of(alloc: Global, plan: &Plan) -> Result<bool, Memory> {
-    let backend = PlainBackend::new(alloc, plan)?;
-    new_core_works(alloc, &backend, last_member(alloc, plan)?)
-}
-
-pub(crate) fn core(alloc: Global) -> Result<bool, Memory> {
-    let plan = plan_of(alloc)?;
-    core_of(alloc, &plan)
+pub(crate) fn core(alloc: Global, plan: &Plan) -> Result<bool, Memory> {
+    match PlainBackend::new(alloc, plan) {
+        Ok(backend) => new_core_works(alloc, &backend, plan),
+        Err(Memory) => Err(Memory),
+    }
 }
 
 // ---- a registry

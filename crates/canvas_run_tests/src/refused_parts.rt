@@ -4,16 +4,15 @@
 ghost use Rattle.std.specs.Prelude.{IfSome, All};
 ghost use Rattle.canvas_task.specs.Apply.{IsInRange};
 
-use crate::states::{FAILING, spelled_plan};
 use canvas_codec::{decode, encode};
-use canvas_effects::{PartCall, after, body_after, first_messages, into_todo};
+use canvas_effects::{PartCall, Todo, after, body_after, first_messages, into_todo};
 use canvas_message::{Envelope, Message, MessageFault};
 use canvas_rewrite::{Plan, freeze, node_of, normalise};
 use canvas_samples::spelled;
 use canvas_sig::{
     Canvas, Node, SigFault, read_arg, read_canvas, write_arg, write_canvas, write_node,
 };
-use canvas_task::{Fault, Kind, Memory, Outcome, TaskNo};
+use canvas_task::{Arg, Fault, Kind, Memory, Outcome, TaskNo};
 use serde_json::Value;
 use std::alloc::Global;
 
@@ -25,21 +24,11 @@ const FAILS: Outcome = Outcome::Failure(Fault::Plain(Kind::ZeroDivision));
 const NORMAL: &str =
     r#"{"args":[],"immutable":false,"kwargs":{"body":{"args":[],"immutable":false,"kwargs":{"tasks":[{"args":[],"immutable":false,"kwargs":{},"options":{},"subtask_type":null,"task":"tasks.xsum"},{"args":[2],"immutable":false,"kwargs":{},"options":{},"subtask_type":null,"task":"tasks.mul"}]},"options":{},"subtask_type":"chain","task":"celery.chain"},"header":[{"args":[1,1],"immutable":false,"kwargs":{},"options":{},"subtask_type":null,"task":"tasks.add"},{"args":[2,2],"immutable":false,"kwargs":{},"options":{},"subtask_type":null,"task":"tasks.add"}]},"options":{},"subtask_type":"chord","task":"celery.chord"}"#;
 
-/// The canvas of a text; None where it is refused for another cause than memory.
-fn read(alloc: Global, text: &str) -> Result<Option<Canvas>, Memory> {
-    match read_canvas(alloc, text.as_bytes()) {
-        Ok(canvas) => Ok(Some(canvas)),
-        Err(SigFault::Memory) => Err(Memory),
-        Err(_) => Ok(None),
-    }
-}
-
-/// The same of a signature.
-fn checked(alloc: Global, node: Node) -> Result<Option<Canvas>, Memory> {
-    match Canvas::of(alloc, node) {
-        Ok(canvas) => Ok(Some(canvas)),
-        Err(SigFault::Memory) => Err(Memory),
-        Err(_) => Ok(None),
+/// What a refusal comes to: an error where it is one of memory.
+fn refusal(fault: SigFault) -> Result<bool, Memory> {
+    match fault {
+        SigFault::Memory => Err(Memory),
+        _ => Ok(false),
     }
 }
 
@@ -61,26 +50,46 @@ fn normal_node(alloc: Global, canvas: &Canvas) -> Result<Node, Memory> {
 
 /// Whether a signature is that of a canvas with the normal text.
 fn is_canvas(alloc: Global, node: Node) -> Result<bool, Memory> {
-    match checked(alloc, node)? {
-        Some(canvas) => is_written(alloc, &canvas),
-        None => Ok(false),
+    match Canvas::of(alloc, node) {
+        Ok(canvas) => is_written(alloc, &canvas),
+        Err(fault) => refusal(fault),
     }
 }
 
-/// Whether a canvas has the normal text, and its normal signature is a canvas.
-fn is_rewritten(alloc: Global, canvas: &Canvas) -> Result<bool, Memory> {
-    if is_normal(alloc, &normal_node(alloc, canvas)?)? {
-        is_canvas(alloc, normal_node(alloc, canvas)?)
-    } else {
-        Ok(false)
+/// Whether a canvas's normal signature has the normal text.
+fn becomes_normal(alloc: Global, canvas: &Canvas) -> Result<bool, Memory> {
+    match normal_node(alloc, canvas) {
+        Ok(node) => is_normal(alloc, &node),
+        Err(Memory) => Err(Memory),
+    }
+}
+
+/// Whether it is that of a canvas with the normal text.
+fn becomes_canvas(alloc: Global, canvas: &Canvas) -> Result<bool, Memory> {
+    match normal_node(alloc, canvas) {
+        Ok(node) => is_canvas(alloc, node),
+        Err(Memory) => Err(Memory),
+    }
+}
+
+/// Whether both hold of a canvas's text.
+fn is_rewritten(alloc: Global, text: &str) -> Result<bool, Memory> {
+    match read_canvas(alloc, text.as_bytes()) {
+        Ok(canvas) => {
+            if becomes_normal(alloc, &canvas)? {
+                becomes_canvas(alloc, &canvas)
+            } else {
+                Ok(false)
+            }
+        }
+        Err(fault) => refusal(fault),
     }
 }
 
 pub(crate) fn signatures(alloc: Global) -> Result<bool, Memory> {
-    let text = spelled::canvas(alloc, "C(H[.,.|.],.)", "add:1,1 add:2,2 xsum: mul:2")?;
-    match read(alloc, &text)? {
-        Some(canvas) => is_rewritten(alloc, &canvas),
-        None => Ok(false),
+    match spelled::canvas(alloc, "C(H[.,.|.],.)", "add:1,1 add:2,2 xsum: mul:2") {
+        Ok(text) => is_rewritten(alloc, &text),
+        Err(Memory) => Err(Memory),
     }
 }
 
@@ -95,48 +104,43 @@ fn is_frozen(alloc: Global, canvas: &Canvas) -> Result<bool, Memory> {
 }
 
 pub(crate) fn plans(alloc: Global) -> Result<bool, Memory> {
-    match read(alloc, NORMAL)? {
-        Some(canvas) => is_frozen(alloc, &canvas),
-        None => Ok(false),
+    match read_canvas(alloc, NORMAL.as_bytes()) {
+        Ok(canvas) => is_frozen(alloc, &canvas),
+        Err(fault) => refusal(fault),
     }
+}
+
+fn has_value(alloc: Global, arg: &Arg, value: &Value) -> Result<bool, Memory> {
+    let written = write_arg(alloc, arg)?;
+    Ok(written == *value)
 }
 
 /// Whether a value reads as an argument that is written as it.
 fn is_argument(alloc: Global, value: &Value) -> Result<bool, Memory> {
     match read_arg(alloc, value) {
-        Ok(arg) => {
-            let written = write_arg(alloc, &arg)?;
-            Ok(written == *value)
-        }
-        Err(SigFault::Memory) => Err(Memory),
-        Err(_) => Ok(false),
+        Ok(arg) => has_value(alloc, &arg, value),
+        Err(fault) => refusal(fault),
+    }
+}
+
+/// The same of a value's text.
+fn is_text(alloc: Global, text: &str) -> Result<bool, Memory> {
+    match Value::from_str(alloc, text) {
+        Ok(value) => is_argument(alloc, &value),
+        Err(_) => Err(Memory),
     }
 }
 
 pub(crate) fn arguments(alloc: Global) -> Result<bool, Memory> {
     for &text in &["[1,2]", r#""text""#, "7"] {
-        match Value::from_str(alloc, text) {
-            Ok(value) => {
-                if !is_argument(alloc, &value)? {
-                    return Ok(false);
-                }
-            }
-            Err(_) => return Err(Memory),
+        if !is_text(alloc, text)? {
+            return Ok(false);
         }
     }
     Ok(true)
 }
 
 // ---- messages
-
-/// The message of an envelope; None where it is refused for another cause than memory.
-fn opened(alloc: Global, envelope: &Envelope) -> Result<Option<Message>, Memory> {
-    match decode(alloc, envelope) {
-        Ok(message) => Ok(Some(message)),
-        Err(MessageFault::Memory) => Err(Memory),
-        Err(_) => Ok(None),
-    }
-}
 
 fn has_envelope(alloc: Global, message: &Message, envelope: &Envelope) -> Result<bool, Memory> {
     let found = encode(alloc, message)?;
@@ -145,9 +149,10 @@ fn has_envelope(alloc: Global, message: &Message, envelope: &Envelope) -> Result
 
 /// Whether an envelope reads as a message with that envelope.
 fn reads_back(alloc: Global, envelope: &Envelope) -> Result<bool, Memory> {
-    match opened(alloc, envelope)? {
-        Some(message) => has_envelope(alloc, &message, envelope),
-        None => Ok(false),
+    match decode(alloc, envelope) {
+        Ok(message) => has_envelope(alloc, &message, envelope),
+        Err(MessageFault::Memory) => Err(Memory),
+        Err(_) => Ok(false),
     }
 }
 
@@ -156,9 +161,8 @@ fn is_carried(alloc: Global, message: &Message) -> Result<bool, Memory> {
     reads_back(alloc, &encode(alloc, message)?)
 }
 
-fn are_carried(alloc: Global, plan: &Plan) -> Result<bool, Memory> {
-    let messages = first_messages(alloc, plan)?;
-    for message in &messages {
+fn are_carried(alloc: Global, messages: &[Message]) -> Result<bool, Memory> {
+    for message in messages {
         if !is_carried(alloc, message)? {
             return Ok(false);
         }
@@ -166,21 +170,11 @@ fn are_carried(alloc: Global, plan: &Plan) -> Result<bool, Memory> {
     Ok(messages.len() == 3)
 }
 
-/// A plan whose messages carry a chord's body with an error callback.
-pub(crate) fn messages(alloc: Global) -> Result<bool, Memory> {
-    match spelled_plan(alloc, &FAILING) {
-        Some(plan) => are_carried(alloc, &plan),
-        None => Err(Memory),
-    }
-}
-
-/// The part that the end of a message's task returns, where nothing else follows it.
-fn part_after(alloc: Global, message: &Message) -> Result<Option<PartCall>, Memory> {
-    let todo = after(alloc, message, &FAILS)?;
-    if todo.stores.get().is_empty() && todo.messages.get().is_empty() {
-        Ok(todo.part)
-    } else {
-        Ok(None)
+/// The messages that a plan of three begins with.
+pub(crate) fn messages(alloc: Global, plan: &Plan) -> Result<bool, Memory> {
+    match first_messages(alloc, plan) {
+        Ok(messages) => are_carried(alloc, &messages),
+        Err(Memory) => Err(Memory),
     }
 }
 
@@ -197,57 +191,74 @@ fn outcomes() -> Option<[(TaskNo, Outcome); 3]>
     ])
 }
 
+fn is_one_of_each(todo: &Todo) -> bool {
+    todo.stores.get().len() == 1 && todo.messages.get().len() == 1 && todo.part.is_none()
+}
+
 /// Whether behind a header of which a member failed its body is stored, and the body's error
 /// callback published.
 fn raises(alloc: Global, part: &PartCall) -> Result<bool, Memory> {
     match outcomes() {
-        Some(outcomes) => {
-            let todo = body_after(alloc, &part.chord, &outcomes)?;
-            Ok(
-                todo.stores.get().len() == 1
-                    && todo.messages.get().len() == 1
-                    && todo.part.is_none(),
-            )
-        }
+        Some(outcomes) => match body_after(alloc, &part.chord, &outcomes) {
+            Ok(todo) => Ok(is_one_of_each(&todo)),
+            Err(Memory) => Err(Memory),
+        },
         None => Ok(false),
     }
 }
 
-/// Whether a message's end returns a part, and what follows its chord is right.
+/// Whether there is a part and nothing else, and what follows its chord is right.
+fn is_part(alloc: Global, todo: &Todo) -> Result<bool, Memory> {
+    match &todo.part {
+        Some(part) if todo.stores.get().is_empty() && todo.messages.get().is_empty() => {
+            raises(alloc, part)
+        }
+        _ => Ok(false),
+    }
+}
+
+/// Whether the end of a message's task returns such a part.
 fn returns(alloc: Global, message: &Message) -> Result<bool, Memory> {
-    match part_after(alloc, message)? {
-        Some(part) => raises(alloc, &part),
-        None => Ok(false),
+    match after(alloc, message, &FAILS) {
+        Ok(todo) => is_part(alloc, &todo),
+        Err(Memory) => Err(Memory),
     }
 }
 
 /// Whether a part is returned where the message is given up for it.
 fn gives_part(alloc: Global, message: Message) -> Result<bool, Memory> {
-    let todo = into_todo(alloc, message, &FAILS)?;
-    Ok(todo.part.is_some())
+    match into_todo(alloc, message, &FAILS) {
+        Ok(todo) => Ok(todo.part.is_some()),
+        Err(Memory) => Err(Memory),
+    }
 }
 
-/// Both.
-fn ends(alloc: Global, message: Message) -> Result<bool, Memory> {
-    if returns(alloc, &message)? {
-        gives_part(alloc, message)
+fn last_returns(alloc: Global, messages: &[Message]) -> Result<bool, Memory> {
+    match messages.last() {
+        Some(message) => returns(alloc, message),
+        None => Ok(false),
+    }
+}
+
+fn last_gives_part(alloc: Global, messages: &mut Vec<Message>) -> Result<bool, Memory> {
+    match messages.pop() {
+        Some(message) => gives_part(alloc, message),
+        None => Ok(false),
+    }
+}
+
+/// Whether both hold of the last of these messages.
+fn ends(alloc: Global, messages: &mut Vec<Message>) -> Result<bool, Memory> {
+    if last_returns(alloc, messages)? {
+        last_gives_part(alloc, messages)
     } else {
         Ok(false)
     }
 }
 
-/// The last of the messages that a plan begins with.
-fn last_message(alloc: Global, plan: &Plan) -> Result<Option<Message>, Memory> {
-    let mut messages = first_messages(alloc, plan)?;
-    Ok(messages.pop())
-}
-
-pub(crate) fn effects(alloc: Global) -> Result<bool, Memory> {
-    match spelled_plan(alloc, &FAILING) {
-        Some(plan) => match last_message(alloc, &plan)? {
-            Some(message) => ends(alloc, message),
-            None => Ok(false),
-        },
-        None => Err(Memory),
+pub(crate) fn effects(alloc: Global, plan: &Plan) -> Result<bool, Memory> {
+    match first_messages(alloc, plan) {
+        Ok(mut messages) => ends(alloc, &mut messages),
+        Err(Memory) => Err(Memory),
     }
 }

@@ -6,8 +6,8 @@ use crate::gates::Counting;
 use crate::own_tasks::Called;
 use crate::states::{Canvas, FAILING, first_envelopes, spelled_plan};
 use canvas_engine::{
-    RunFault, TextFault, When, read_turns, run, run_text, run_text_threads, run_turns,
-    run_turns_again,
+    Records, Report, RunFault, TextFault, When, read_turns, run, run_text, run_text_threads,
+    run_turns, run_turns_again,
 };
 use canvas_rewrite::Plan;
 use canvas_samples::spelled;
@@ -84,6 +84,19 @@ fn refused_on_threads(
     }
 }
 
+/// Whether a run on threads came to its end.
+fn ended_on_threads(
+    ran: &Result<(Report, Records), RunFault>,
+    called: u32,
+    workers: u32,
+    stop: &Stop,
+) -> Result<bool, Memory> {
+    match ran {
+        Ok(_) => Ok(true),
+        Err(fault) => refused_on_threads(fault, called, workers, stop),
+    }
+}
+
 fn by_turns(alloc: Global, plan: &Plan, workers: u32) -> Result<bool, Memory> {
     let tasks = Called::new();
     match run_turns(alloc, plan, &tasks, workers, &[]) {
@@ -128,10 +141,8 @@ where
     R: Threads + Wait + RandomSource + AllocGlobal + Sync,
 {
     let (tasks, stop) = (Called::new(), Stop::new());
-    match run(rt, rt.alloc(), plan, &tasks, workers, &OpenGate, &stop) {
-        Ok(_) => Ok(true),
-        Err(fault) => refused_on_threads(&fault, tasks.times(), workers, &stop),
-    }
+    let ran = run(rt, rt.alloc(), plan, &tasks, workers, &OpenGate, &stop);
+    ended_on_threads(&ran, tasks.times(), workers, &stop)
 }
 
 fn by_hand<R: Wait + RandomSource + AllocGlobal>(rt: &R, plan: &Plan) -> Result<bool, Memory> {
@@ -198,19 +209,44 @@ where
     }
 }
 
-/// The same of a canvas, as a plan or as a text.
-pub(crate) fn runs<R>(rt: &R, canvas: &Canvas, how: How) -> Result<bool, Memory>
+/// The same of a canvas's plan.
+fn runs_as_plan<R>(rt: &R, canvas: &Canvas, how: How) -> Result<bool, Memory>
+where
+    R: Threads + Wait + RandomSource + AllocGlobal + Sync,
+{
+    match spelled_plan(rt.alloc(), canvas) {
+        Some(plan) => runs_plan(rt, &plan, how),
+        None => Err(Memory),
+    }
+}
+
+/// The same of its text, on threads or by turns.
+fn runs_as_text<R>(rt: &R, canvas: &Canvas, on_threads: bool) -> Result<bool, Memory>
 where
     R: Threads + Wait + RandomSource + AllocGlobal + Sync,
 {
     let [frame, calls] = *canvas;
+    match spelled::canvas(rt.alloc(), frame, calls) {
+        Ok(text) => {
+            if on_threads {
+                by_text_threads(rt, &text)
+            } else {
+                by_text(rt.alloc(), &text)
+            }
+        }
+        Err(Memory) => Err(Memory),
+    }
+}
+
+/// Whether a canvas's run comes to its end, as a plan or as a text.
+pub(crate) fn runs<R>(rt: &R, canvas: &Canvas, how: How) -> Result<bool, Memory>
+where
+    R: Threads + Wait + RandomSource + AllocGlobal + Sync,
+{
     match how {
-        How::Text => by_text(rt.alloc(), &spelled::canvas(rt.alloc(), frame, calls)?),
-        How::TextThreads => by_text_threads(rt, &spelled::canvas(rt.alloc(), frame, calls)?),
-        _ => match spelled_plan(rt.alloc(), canvas) {
-            Some(plan) => runs_plan(rt, &plan, how),
-            None => Err(Memory),
-        },
+        How::Text => runs_as_text(rt, canvas, false),
+        How::TextThreads => runs_as_text(rt, canvas, true),
+        _ => runs_as_plan(rt, canvas, how),
     }
 }
 

@@ -2,8 +2,9 @@
 
 use canvas_codec::seal;
 use canvas_effects::first_messages;
-use canvas_message::Letter;
+use canvas_message::{Envelope, Letter};
 use canvas_rewrite::Plan;
+use canvas_samples::frozen_texts::bytes_of;
 use canvas_samples::sample::plan_of;
 use canvas_samples::spelled;
 use canvas_task::Memory;
@@ -24,11 +25,37 @@ pub(crate) fn spelled_plan(alloc: Global, canvas: &Canvas) -> Option<Plan> {
     }
 }
 
-/// The envelopes of the messages that a plan begins with.
-pub(crate) fn first_envelopes(alloc: Global, plan: &Plan) -> Result<Vec<Letter>, Memory> {
-    let mut envelopes = Vec::new(alloc);
+/// Puts the envelopes of the messages that a plan begins with behind others.
+pub(crate) fn push_first(
+    alloc: Global,
+    plan: &Plan,
+    envelopes: &mut Vec<Letter>,
+) -> Result<(), Memory> {
     for message in first_messages(alloc, plan)? {
         envelopes.push(seal(alloc, message)?)?;
     }
-    Ok(envelopes)
+    Ok(())
+}
+
+/// These envelopes alone.
+pub(crate) fn first_envelopes(alloc: Global, plan: &Plan) -> Result<Vec<Letter>, Memory> {
+    let mut envelopes = Vec::new(alloc);
+    match push_first(alloc, plan, &mut envelopes) {
+        Ok(()) => Ok(envelopes),
+        Err(Memory) => Err(Memory),
+    }
+}
+
+/// An envelope whose texts are in the notation of frozen texts.
+pub(crate) fn envelope_of(
+    alloc: Global,
+    properties: &str,
+    headers: &str,
+    body: &str,
+) -> Result<Envelope, Memory> {
+    Ok(Envelope {
+        properties: bytes_of(alloc, properties)?,
+        headers: bytes_of(alloc, headers)?,
+        body: bytes_of(alloc, body)?,
+    })
 }

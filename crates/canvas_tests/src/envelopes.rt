@@ -1,5 +1,6 @@
 //! Envelopes and their refusals. The numbers were worked out by hand from the rules of messages.
 
+use crate::tables::{Spot, first_wrong};
 use canvas_codec::decode;
 use canvas_message::{Envelope, Message, MessageFault};
 use canvas_samples::frozen_texts::bytes_of;
@@ -38,7 +39,7 @@ pub(crate) fn read(
 }
 
 /// The number of a refusal, 0 where there is none.
-fn number_of(read: Result<Message, MessageFault>) -> u8 {
+fn number_of(read: &Result<Message, MessageFault>) -> u8 {
     match read {
         Ok(_) => 0,
         Err(fault) => fault.code(),
@@ -60,9 +61,9 @@ pub(crate) fn envelope(
 }
 
 /// The number of its refusal.
-fn code_of(alloc: Global, properties: &str, headers: &str, body: &str) -> u8 {
+pub(crate) fn code_of(alloc: Global, properties: &str, headers: &str, body: &str) -> u8 {
     match envelope(alloc, properties, headers, body) {
-        Ok(envelope) => number_of(decode(alloc, &envelope)),
+        Ok(envelope) => number_of(&decode(alloc, &envelope)),
         Err(_) => u8::MAX,
     }
 }
@@ -98,16 +99,16 @@ fn is_sum(message: &Message, wanted: &[usize; 4]) -> bool {
 
 /// Whether an envelope's message is such.
 fn has_sum(alloc: Global, envelope: &Envelope, wanted: &[usize; 4]) -> bool {
-    match decode(alloc, envelope) {
-        Ok(message) => is_sum(&message, wanted),
+    match &decode(alloc, envelope) {
+        Ok(message) => is_sum(message, wanted),
         Err(_) => false,
     }
 }
 
 /// The same of texts in the short notation.
 fn are_sum(alloc: Global, headers: &str, body: &str, wanted: &[usize; 4]) -> bool {
-    match envelope(alloc, PLAIN, headers, body) {
-        Ok(envelope) => has_sum(alloc, &envelope, wanted),
+    match &envelope(alloc, PLAIN, headers, body) {
+        Ok(envelope) => has_sum(alloc, envelope, wanted),
         Err(_) => false,
     }
 }
@@ -135,22 +136,28 @@ fn length_of(envelope: &Envelope, part: Part) -> usize {
     }
 }
 
-/// The number of an envelope's refusal of which one text is cut to a length. None where the text
-/// isn't longer.
+/// A text that is cut to a length. None where it isn't longer.
+fn cut(text: &[u8], length: usize) -> Option<&[u8]> {
+    if length < text.len() {
+        Some(&text[..length])
+    } else {
+        None
+    }
+}
+
+/// The number of an envelope's refusal of which one text is cut so.
 fn cut_code(alloc: Global, whole: &Envelope, part: Part, length: usize) -> Option<u8> {
-    let (properties, headers) = (whole.properties.get(), whole.headers.get());
-    let body = whole.body.get();
+    let (properties, headers) = (
+        whole.properties.get().as_slice(),
+        whole.headers.get().as_slice(),
+    );
+    let body = whole.body.get().as_slice();
     let read = match part {
-        Part::Properties if length < properties.len() => {
-            read(alloc, &properties[..length], headers, body)
-        }
-        Part::Headers if length < headers.len() => {
-            read(alloc, properties, &headers[..length], body)
-        }
-        Part::Body if length < body.len() => read(alloc, properties, headers, &body[..length]),
-        _ => return None,
+        Part::Properties => read(alloc, cut(properties, length)?, headers, body),
+        Part::Headers => read(alloc, properties, cut(headers, length)?, body),
+        Part::Body => read(alloc, properties, headers, cut(body, length)?),
     };
-    Some(number_of(read))
+    Some(number_of(&read))
 }
 
 /// At how many lengths a text is no JSON, up to the first at which it is, or to its own.
@@ -186,136 +193,136 @@ fn cut_texts(rt: HostRuntime) {
     }
 }
 
+const ALL_PROPERTIES: &[(u8, &str)] = &[
+    (0, PLAIN),
+    (
+        0,
+        r#"{"content_type":"application/json","content_encoding":"utf-8","reply_to":7,"correlation_id":"{00000000-0000-8000-8000-000000000001}"}"#,
+    ),
+    (
+        0,
+        r#"{"content_type":"application/json","content_encoding":"utf-8","correlation_id":"urn:uuid:%1"}"#,
+    ),
+    (
+        0,
+        r#"{"content_type":"application/json","content_encoding":"utf-8","correlation_id":"00000000000080008000000000000001"}"#,
+    ),
+    (
+        0,
+        r#"{"content_type":"application/json","content_encoding":"utf-8","correlation_id":"%2","correlation_id":"%1"}"#,
+    ),
+    (1, ""),
+    (1, "{} 7"),
+    (1, r#"{"reply_to":1e400}"#),
+    (3, "[]"),
+    (3, "null"),
+    (3, r#""application/json""#),
+    (
+        3,
+        r#"{"content_type":"application/json","content_encoding":"utf-8","correlation_id":null}"#,
+    ),
+    (
+        3,
+        r#"{"content_type":"application/json","content_encoding":"utf-8","correlation_id":7}"#,
+    ),
+    (
+        3,
+        r#"{"content_type":"application/json","content_encoding":"utf-8","correlation_id":"x"}"#,
+    ),
+    (
+        3,
+        r#"{"content_type":"application/json","content_encoding":"utf-8","correlation_id":"%2"}"#,
+    ),
+    (
+        3,
+        r#"{"content_type":"application/json","content_encoding":"utf-8","correlation_id":"@1"}"#,
+    ),
+    (
+        3,
+        r#"{"content_type":"text/plain","content_encoding":"utf-8","correlation_id":"%2"}"#,
+    ),
+    (4, "{}"),
+    (
+        4,
+        r#"{"content_type":"text/plain","content_encoding":"utf-8"}"#,
+    ),
+    (4, r#"{"content_type":null,"content_encoding":"utf-8"}"#),
+    (4, r#"{"content_encoding":"utf-8"}"#),
+    (4, r#"{"content_type":"application/json"}"#),
+    (
+        4,
+        r#"{"content_type":"application/json","content_encoding":"UTF-8"}"#,
+    ),
+    (
+        4,
+        r#"{"content_type":"application/json","content_encoding":7}"#,
+    ),
+];
+
 #[test]
 fn properties(rt: HostRuntime) {
-    for &(code, properties) in &[
-        (0, PLAIN),
-        (
-            0,
-            r#"{"content_type":"application/json","content_encoding":"utf-8","reply_to":7,"correlation_id":"{00000000-0000-8000-8000-000000000001}"}"#,
-        ),
-        (
-            0,
-            r#"{"content_type":"application/json","content_encoding":"utf-8","correlation_id":"urn:uuid:%1"}"#,
-        ),
-        (
-            0,
-            r#"{"content_type":"application/json","content_encoding":"utf-8","correlation_id":"00000000000080008000000000000001"}"#,
-        ),
-        (
-            0,
-            r#"{"content_type":"application/json","content_encoding":"utf-8","correlation_id":"%2","correlation_id":"%1"}"#,
-        ),
-        (1, ""),
-        (1, "{} 7"),
-        (1, r#"{"reply_to":1e400}"#),
-        (3, "[]"),
-        (3, "null"),
-        (3, r#""application/json""#),
-        (
-            3,
-            r#"{"content_type":"application/json","content_encoding":"utf-8","correlation_id":null}"#,
-        ),
-        (
-            3,
-            r#"{"content_type":"application/json","content_encoding":"utf-8","correlation_id":7}"#,
-        ),
-        (
-            3,
-            r#"{"content_type":"application/json","content_encoding":"utf-8","correlation_id":"x"}"#,
-        ),
-        (
-            3,
-            r#"{"content_type":"application/json","content_encoding":"utf-8","correlation_id":"%2"}"#,
-        ),
-        (
-            3,
-            r#"{"content_type":"application/json","content_encoding":"utf-8","correlation_id":"@1"}"#,
-        ),
-        (
-            3,
-            r#"{"content_type":"text/plain","content_encoding":"utf-8","correlation_id":"%2"}"#,
-        ),
-        (4, "{}"),
-        (
-            4,
-            r#"{"content_type":"text/plain","content_encoding":"utf-8"}"#,
-        ),
-        (4, r#"{"content_type":null,"content_encoding":"utf-8"}"#),
-        (4, r#"{"content_encoding":"utf-8"}"#),
-        (4, r#"{"content_type":"application/json"}"#),
-        (
-            4,
-            r#"{"content_type":"application/json","content_encoding":"UTF-8"}"#,
-        ),
-        (
-            4,
-            r#"{"content_type":"application/json","content_encoding":7}"#,
-        ),
-    ] {
-        let found = code_of(rt.alloc(), properties, HEADERS, BODY);
-        assert!(rt; found == code, "{found}: {properties}");
-    }
+    let wrong = first_wrong(rt.alloc(), Spot::Properties, ALL_PROPERTIES);
+    assert!(rt; wrong.is_none(), "{wrong:?}");
 }
+
+const ALL_HEADERS: &[(u8, &str)] = &[
+    (0, r#"{"id":"%1","task":"x"}"#),
+    (0, r#"{"id":"%A","task":"x"}"#),
+    (
+        0,
+        r#"{"id":"{00000000-0000-8000-8000-0000FFFFFFFF}","task":"x"}"#,
+    ),
+    (0, r#"{"id":"urn:uuid:%1","task":"x"}"#),
+    (0, r#"{"id":"00000000000080008000000000000001","task":"x"}"#),
+    (
+        0,
+        r#"{"id":"%1","task":"!~","lang":7,"root_id":"x","shadow":[],"timelimit":[1,2]}"#,
+    ),
+    (0, r#"{"id":"%1","task":"x","parent_id":"@1"}"#),
+    (0, r#"{"id":"%1","task":"x","parent_id":7}"#),
+    (0, r#"{"id":"%1","task":"x","group":"@1"}"#),
+    (0, r#"{"id":"%1","task":"x","group":"urn:uuid:@F"}"#),
+    (1, "{'task':7}"),
+    (2, "[]"),
+    (2, "null"),
+    (2, "{}"),
+    (2, r#"{"id":"%1"}"#),
+    (2, r#"{"id":"%1","task":null}"#),
+    (2, r#"{"id":"%1","task":7}"#),
+    (2, r#"{"id":"%1","task":""}"#),
+    (2, r#"{"id":"%1","task":"a b"}"#),
+    (2, r#"{"id":"%1","task":"\u007f"}"#),
+    (2, r#"{"id":"x","task":["x"],"group":7}"#),
+    (3, r#"{"task":"x"}"#),
+    (3, r#"{"id":null,"task":"x"}"#),
+    (3, r#"{"id":1,"task":"x"}"#),
+    (3, r#"{"id":"x","task":"x"}"#),
+    (3, r#"{"id":"","task":"x"}"#),
+    (3, r#"{"id":["%1"],"task":"x"}"#),
+    (3, r#"{"id":"%0","task":"x"}"#),
+    (3, r#"{"id":"@1","task":"x"}"#),
+    (
+        3,
+        r#"{"id":"00000000-0000-7000-8000-000000000001","task":"x"}"#,
+    ),
+    (
+        3,
+        r#"{"id":"00000000-0000-8000-8000-000100000001","task":"x"}"#,
+    ),
+    (
+        3,
+        r#"{"id":"00000000-0000-8000-a000-000000000001","task":"x"}"#,
+    ),
+    (3, r#"{"id":"%1","task":"x","group":"%1"}"#),
+    (3, r#"{"id":"%1","task":"x","group":"@0"}"#),
+    (3, r#"{"id":"%1","task":"x","group":"x"}"#),
+    (3, r#"{"id":"%1","task":"x","group":7}"#),
+];
 
 #[test]
 fn headers(rt: HostRuntime) {
-    for &(code, headers) in &[
-        (0, r#"{"id":"%1","task":"x"}"#),
-        (0, r#"{"id":"%A","task":"x"}"#),
-        (
-            0,
-            r#"{"id":"{00000000-0000-8000-8000-0000FFFFFFFF}","task":"x"}"#,
-        ),
-        (0, r#"{"id":"urn:uuid:%1","task":"x"}"#),
-        (0, r#"{"id":"00000000000080008000000000000001","task":"x"}"#),
-        (
-            0,
-            r#"{"id":"%1","task":"!~","lang":7,"root_id":"x","shadow":[],"timelimit":[1,2]}"#,
-        ),
-        (0, r#"{"id":"%1","task":"x","parent_id":"@1"}"#),
-        (0, r#"{"id":"%1","task":"x","parent_id":7}"#),
-        (0, r#"{"id":"%1","task":"x","group":"@1"}"#),
-        (0, r#"{"id":"%1","task":"x","group":"urn:uuid:@F"}"#),
-        (1, "{'task':7}"),
-        (2, "[]"),
-        (2, "null"),
-        (2, "{}"),
-        (2, r#"{"id":"%1"}"#),
-        (2, r#"{"id":"%1","task":null}"#),
-        (2, r#"{"id":"%1","task":7}"#),
-        (2, r#"{"id":"%1","task":""}"#),
-        (2, r#"{"id":"%1","task":"a b"}"#),
-        (2, r#"{"id":"%1","task":"\u007f"}"#),
-        (2, r#"{"id":"x","task":["x"],"group":7}"#),
-        (3, r#"{"task":"x"}"#),
-        (3, r#"{"id":null,"task":"x"}"#),
-        (3, r#"{"id":1,"task":"x"}"#),
-        (3, r#"{"id":"x","task":"x"}"#),
-        (3, r#"{"id":"","task":"x"}"#),
-        (3, r#"{"id":["%1"],"task":"x"}"#),
-        (3, r#"{"id":"%0","task":"x"}"#),
-        (3, r#"{"id":"@1","task":"x"}"#),
-        (
-            3,
-            r#"{"id":"00000000-0000-7000-8000-000000000001","task":"x"}"#,
-        ),
-        (
-            3,
-            r#"{"id":"00000000-0000-8000-8000-000100000001","task":"x"}"#,
-        ),
-        (
-            3,
-            r#"{"id":"00000000-0000-8000-a000-000000000001","task":"x"}"#,
-        ),
-        (3, r#"{"id":"%1","task":"x","group":"%1"}"#),
-        (3, r#"{"id":"%1","task":"x","group":"@0"}"#),
-        (3, r#"{"id":"%1","task":"x","group":"x"}"#),
-        (3, r#"{"id":"%1","task":"x","group":7}"#),
-    ] {
-        let found = code_of(rt.alloc(), PLAIN, headers, "[[],{},null]");
-        assert!(rt; found == code, "{found}: {headers}");
-    }
+    let wrong = first_wrong(rt.alloc(), Spot::Headers, ALL_HEADERS);
+    assert!(rt; wrong.is_none(), "{wrong:?}");
 }
 
 /// The number of a refusal of a task's name.
@@ -342,70 +349,93 @@ fn length_code(alloc: Global, length: u32) -> u8 {
     }
 }
 
-#[test]
-fn lengths_of_names(rt: HostRuntime) {
+/// The first length of a name whose number is another than it should be, with that number.
+fn first_wrong_length(alloc: Global) -> Option<(u8, u32)> {
     for length in 0..130 {
         let code = if 1 <= length && length <= 128 { 0 } else { 2 };
-        let found = length_code(rt.alloc(), length);
-        assert!(rt; found == code, "{found}: {length}");
+        let found = length_code(alloc, length);
+        if found != code {
+            return Some((found, length));
+        }
     }
+    None
 }
 
 #[test]
-fn bodies(rt: HostRuntime) {
-    for &(code, body) in &[
-        (0, "[[],null,null]"),
-        (0, r#"[["a",[1,2],[],-3],{"b":[],"a":"x"},null]"#),
-        (0, "[[1152921504606846976,-1152921504606846976],{},{}]"),
-        (1, "[[1e400],{},null]"),
-        (5, "null"),
-        (5, "{}"),
-        (5, "[]"),
-        (5, "[[2,2],{}]"),
-        (5, "[[],{},null,null]"),
-        (5, "[[1.5],{}]"),
-        (6, "[null,{},null]"),
-        (6, "[{},{},null]"),
-        (6, r#"["a",{},null]"#),
-        (6, "[[],[],null]"),
-        (6, r#"[[],"k",null]"#),
-        (6, "[[1.5],{},null]"),
-        (6, "[[-0],{},null]"),
-        (6, "[[null],{},null]"),
-        (6, "[[true],{},null]"),
-        (6, "[[{}],{},null]"),
-        (6, r#"[[["a"]],{},null]"#),
-        (6, "[[1152921504606846977],{},null]"),
-        (6, "[[[1,-1152921504606846977]],{},null]"),
-        (6, r#"[[],{"a":null},null]"#),
-        (6, r#"[[],{"a":1e2},null]"#),
-        (6, "[[1.5],{},7]"),
-        (7, "[[2,2],{},7]"),
-        (7, "[[],{},[]]"),
-        (7, r#"[[],{},"x"]"#),
-    ] {
-        let found = code_of(rt.alloc(), PROPERTIES, HEADERS, body);
-        assert!(rt; found == code, "{found}: {body}");
-    }
+fn lengths_of_names(rt: HostRuntime) {
+    let wrong = first_wrong_length(rt.alloc());
+    assert!(rt; wrong.is_none(), "{wrong:?}");
 }
+
+const BODIES: &[(u8, &str)] = &[
+    (0, "[[],null,null]"),
+    (0, r#"[["a",[1,2],[],-3],{"b":[],"a":"x"},null]"#),
+    (0, "[[1152921504606846976,-1152921504606846976],{},{}]"),
+    (1, "[[1e400],{},null]"),
+    (5, "null"),
+    (5, "{}"),
+    (5, "[]"),
+    (5, "[[2,2],{}]"),
+    (5, "[[],{},null,null]"),
+    (5, "[[1.5],{}]"),
+    (6, "[null,{},null]"),
+    (6, "[{},{},null]"),
+    (6, r#"["a",{},null]"#),
+    (6, "[[],[],null]"),
+    (6, r#"[[],"k",null]"#),
+    (6, "[[1.5],{},null]"),
+    (6, "[[-0],{},null]"),
+    (6, "[[null],{},null]"),
+    (6, "[[true],{},null]"),
+    (6, "[[{}],{},null]"),
+    (6, r#"[[["a"]],{},null]"#),
+    (6, "[[1152921504606846977],{},null]"),
+    (6, "[[[1,-1152921504606846977]],{},null]"),
+    (6, r#"[[],{"a":null},null]"#),
+    (6, r#"[[],{"a":1e2},null]"#),
+    (6, "[[1.5],{},7]"),
+    (7, "[[2,2],{},7]"),
+    (7, "[[],{},[]]"),
+    (7, r#"[[],{},"x"]"#),
+];
+
+#[test]
+fn bodies(rt: HostRuntime) {
+    let wrong = first_wrong(rt.alloc(), Spot::Body, BODIES);
+    assert!(rt; wrong.is_none(), "{wrong:?}");
+}
+
+/// The first of these envelopes whose number is another, with that number.
+fn first_wrong_of_several<'a>(
+    alloc: Global,
+    rows: &'a [(u8, &'a str, &'a str, &'a str)],
+) -> Option<(u8, [&'a str; 3])> {
+    for &(code, properties, headers, body) in rows {
+        let found = code_of(alloc, properties, headers, body);
+        if found != code {
+            return Some((found, [properties, headers, body]));
+        }
+    }
+    None
+}
+
+const SEVERAL_FAULTS: &[(u8, &str, &str, &str)] = &[
+    (1, "{", "{}", "{}"),
+    (1, "[]", "{}", "["),
+    (1, "[]", r#"{"task":"#, "{}"),
+    (2, "[]", r#"{"id":"%1"}"#, "{}"),
+    (2, "{}", "7", "[[1.5],{},7]"),
+    (3, "{}", r#"{"task":"x"}"#, "{}"),
+    (3, "[]", HEADERS, "[[1.5],{},7]"),
+    (4, "{}", HEADERS, "{}"),
+    (4, "{}", HEADERS, "[[1.5],{},7]"),
+    (5, PROPERTIES, HEADERS, "[[1.5],7]"),
+    (6, PROPERTIES, HEADERS, r#"[7,{},{"chain":7}]"#),
+];
 
 /// The first refusal in their order decides.
 #[test]
 fn several_faults(rt: HostRuntime) {
-    for &(code, properties, headers, body) in &[
-        (1, "{", "{}", "{}"),
-        (1, "[]", "{}", "["),
-        (1, "[]", r#"{"task":"#, "{}"),
-        (2, "[]", r#"{"id":"%1"}"#, "{}"),
-        (2, "{}", "7", "[[1.5],{},7]"),
-        (3, "{}", r#"{"task":"x"}"#, "{}"),
-        (3, "[]", HEADERS, "[[1.5],{},7]"),
-        (4, "{}", HEADERS, "{}"),
-        (4, "{}", HEADERS, "[[1.5],{},7]"),
-        (5, PROPERTIES, HEADERS, "[[1.5],7]"),
-        (6, PROPERTIES, HEADERS, r#"[7,{},{"chain":7}]"#),
-    ] {
-        let found = code_of(rt.alloc(), properties, headers, body);
-        assert!(rt; found == code, "{found}: {properties} {headers} {body}");
-    }
+    let wrong = first_wrong_of_several(rt.alloc(), SEVERAL_FAULTS);
+    assert!(rt; wrong.is_none(), "{wrong:?}");
 }

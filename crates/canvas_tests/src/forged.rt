@@ -91,6 +91,12 @@ fn headers_of(alloc: Global, task: &str, group: &str) -> Result<String, AllocErr
     filled(alloc, &text)
 }
 
+/// The same behind a text.
+fn push_behind(text: &mut String, before: &str, notation: &str) -> Result<(), AllocError> {
+    text.push_str(before)?;
+    push_json(text, notation)
+}
+
 fn push_body(
     text: &mut String,
     links: &str,
@@ -98,17 +104,13 @@ fn push_body(
     chain: &str,
     chord: &str,
 ) -> Result<(), AllocError> {
-    text.push_str(r#"[[],{},{"callbacks":["#)?;
-    push_json(text, links)?;
-    text.push_str(r#"],"errbacks":["#)?;
-    push_json(text, errbacks)?;
-    text.push_str(r#"],"chain":["#)?;
-    push_json(text, chain)?;
-    text.push_str(r#"],"chord":"#)?;
+    push_behind(text, r#"[[],{},{"callbacks":["#, links)?;
+    push_behind(text, r#"],"errbacks":["#, errbacks)?;
+    push_behind(text, r#"],"chain":["#, chain)?;
     if chord.is_empty() {
-        text.push_str("null")?;
+        text.push_str(r#"],"chord":null"#)?;
     } else {
-        push_json(text, chord)?;
+        push_behind(text, r#"],"chord":"#, chord)?;
     }
     text.push_str("}]")
 }
@@ -210,18 +212,27 @@ fn push_rest(text: &mut String, rest: &FrozenLine) -> Result<(), AllocError> {
     }
 }
 
-fn push_message(text: &mut String, message: &Message) -> Result<(), AllocError> {
+/// The task of a message, and its parent.
+fn push_tasks(text: &mut String, message: &Message) -> Result<(), AllocError> {
     push_number(text, message.task.get())?;
     text.push('<')?;
     match message.parent {
-        Some(parent) => push_number(text, parent.get())?,
-        None => text.push('-')?,
+        Some(parent) => push_number(text, parent.get()),
+        None => text.push('-'),
     }
+}
+
+fn push_args(text: &mut String, args: &[Arg]) -> Result<(), AllocError> {
     text.push('(')?;
-    for arg in message.args.get() {
+    for arg in args {
         push_arg(text, arg)?;
     }
-    text.push(')')?;
+    text.push(')')
+}
+
+fn push_message(text: &mut String, message: &Message) -> Result<(), AllocError> {
+    push_tasks(text, message)?;
+    push_args(text, message.args.get())?;
     if let Some(place) = &message.place {
         push_place(text, place)?;
     }
@@ -303,7 +314,8 @@ fn follows_given(alloc: Global, message: Message, outcome: &Outcome, text: &str)
 fn follows(alloc: Global, message: Message, outcome: &Outcome, text: &str) -> bool
     requires { IsInRange outcome.now }
 {
-    follows_lent(alloc, &message, outcome, text) && follows_given(alloc, message, outcome, text)
+    let is_lent = follows_lent(alloc, &message, outcome, text);
+    follows_given(alloc, message, outcome, text) && is_lent
 }
 
 fn ends_so(alloc: Global, row: &[&str; 8], outcome: &Outcome, text: &str) -> bool
@@ -319,21 +331,15 @@ fn ends_so(alloc: Global, row: &[&str; 8], outcome: &Outcome, text: &str) -> boo
     }
 }
 
+/// Whether a task ends so where it succeeds, and where it fails.
+fn ends_both(alloc: Global, row: &[&str; 8]) -> bool {
+    ends_so(alloc, row, &Outcome::Success(7), row[6]) && ends_so(alloc, row, &FAILS, row[7])
+}
+
 #[test]
 fn ends_of_tasks(rt: HostRuntime) {
     for row in &ENDS {
-        assert!(rt;
-            ends_so(rt.alloc(), row, &Outcome::Success(7), row[6]),
-            "{}: {}",
-            row[0],
-            row[6]
-        );
-        assert!(rt;
-            ends_so(rt.alloc(), row, &FAILS, row[7]),
-            "{}: {}",
-            row[0],
-            row[7]
-        );
+        assert!(rt; ends_both(rt.alloc(), row), "{row:?}");
     }
 }
 
@@ -389,25 +395,28 @@ fn part_of(alloc: Global, chord: &str) -> Option<PartCall> {
     }
 }
 
+/// Whether this follows the last part of a chord, of which these are the outcomes.
+fn completes_so(alloc: Global, part: &PartCall, outcomes: &str, text: &str) -> bool {
+    match outcomes_of(alloc, outcomes) {
+        Some(outcomes) => match body_after(alloc, &part.chord, &outcomes) {
+            Ok(todo) => is_shown(alloc, &todo, text),
+            Err(_) => false,
+        },
+        None => false,
+    }
+}
+
 fn starts_so(alloc: Global, row: &[&str; 3]) -> bool {
-    let (Some(part), Some(outcomes)) = (part_of(alloc, row[0]), outcomes_of(alloc, row[1])) else {
-        return false;
-    };
-    match body_after(alloc, &part.chord, &outcomes) {
-        Ok(todo) => is_shown(alloc, &todo, row[2]),
-        Err(_) => false,
+    let [chord, outcomes, text] = *row;
+    match part_of(alloc, chord) {
+        Some(part) => completes_so(alloc, &part, outcomes, text),
+        None => false,
     }
 }
 
 #[test]
 fn bodies_of_chords(rt: HostRuntime) {
     for row in &BODIES {
-        assert!(rt;
-            starts_so(rt.alloc(), row),
-            "{} {}: {}",
-            row[0],
-            row[1],
-            row[2]
-        );
+        assert!(rt; starts_so(rt.alloc(), row), "{row:?}");
     }
 }

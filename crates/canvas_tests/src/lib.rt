@@ -24,6 +24,8 @@ mod registries;
 #[cfg(test)]
 mod runs;
 #[cfg(test)]
+mod tables;
+#[cfg(test)]
 mod tasks;
 #[cfg(test)]
 mod turns;

@@ -79,14 +79,19 @@ enum Which {
     GroupOfTen,
 }
 
-/// Whether a canvas's plan is as known.
+/// Whether a plan is as known.
+fn is_plan(plan: &Plan, which: Which) -> bool {
+    match which {
+        Which::ChordAndTask => is_chord_and_task(plan),
+        Which::Chord => is_chord(plan),
+        Which::GroupOfTen => is_group_of_ten(plan),
+    }
+}
+
+/// The same of a canvas's plan.
 fn is_known(alloc: Global, text: &str, which: Which) -> bool {
-    match plan_of(alloc, text) {
-        Some(plan) => match which {
-            Which::ChordAndTask => is_chord_and_task(&plan),
-            Which::Chord => is_chord(&plan),
-            Which::GroupOfTen => is_group_of_ten(&plan),
-        },
+    match &plan_of(alloc, text) {
+        Some(plan) => is_plan(plan, which),
         None => false,
     }
 }

@@ -183,10 +183,7 @@ fn a_task_written_whole(rt: HostRuntime) {
 
 /// Why no registry is made of a sum and a task that always answers 5, if it isn't.
 fn refused_for(alloc: Global, name: &'static str) -> Option<AddFault> {
-    match registry_of!(alloc; Add, Always { number: 5, name }) {
-        Ok(_) => None,
-        Err(cause) => Some(cause),
-    }
+    registry_of!(alloc; Add, Always { number: 5, name }).err()
 }
 
 #[test]
