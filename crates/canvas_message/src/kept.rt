@@ -49,6 +49,17 @@ impl Model for Waiting {
         × AreTexts m.texts (place_seen m.place) (rest_seen m.rest) };
 }
 
+/// The entries of a map, which take no more room than they need.
+fn entries_of(alloc: Global, map: BTreeMap<String, Arg>) -> Result<Vec<(String, Arg)>, AllocError>
+    ensures { IfOk result (λ entries. entries.items ≡ map.entries) }
+{
+    let mut entries = Vec::with_capacity(alloc, map.len())?;
+    for entry in map {
+        entries.push(entry)?;
+    }
+    Ok(entries)
+}
+
 /// The map of entries in the order of their names.
 fn map_of(alloc: Global, entries: Vec<(String, Arg)>) -> Result<BTreeMap<String, Arg>, AllocError>
     requires { Ascends (named entries.items) }
@@ -77,7 +88,7 @@ impl Waiting {
             rest,
             texts,
         } = message;
-        let kwargs = kwargs.into_plain().into_iter().collect(alloc)?;
+        let kwargs = entries_of(alloc, kwargs.into_plain())?;
         Ok(Waiting {
             task,
             name,
