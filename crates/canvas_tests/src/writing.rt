@@ -88,12 +88,17 @@ fn reads_back(alloc: Global, canvas: &Canvas, text: &str) -> bool {
     }
 }
 
-/// Whether a signature is that of a canvas of this text.
-fn is_canvas(alloc: Global, node: Node, text: &str) -> bool {
-    match Canvas::of(alloc, node) {
-        Ok(canvas) => reads_back(alloc, &canvas, text),
+/// Whether there is a canvas of this text.
+fn has_text(alloc: Global, checked: &Result<Canvas, SigFault>, text: &str) -> bool {
+    match checked {
+        Ok(canvas) => reads_back(alloc, canvas, text),
         Err(_) => false,
     }
+}
+
+/// Whether a signature is that of a canvas of this text.
+fn is_canvas(alloc: Global, node: Node, text: &str) -> bool {
+    has_text(alloc, &Canvas::of(alloc, node), text)
 }
 
 fn chain_is_canvas(alloc: Global) -> bool {
