@@ -2,7 +2,7 @@
 
 use crate::states::envelope_of;
 use canvas_codec::decode;
-use canvas_message::Envelope;
+use canvas_message::{Envelope, Message, MessageFault};
 use canvas_task::Memory;
 use std::alloc::{AllocError, Global};
 
@@ -23,12 +23,17 @@ const PROPERTIES: &str = r#"{"content_encoding":"utf-8","content_type":"applicat
 
 const HEADERS: &str = r#"{"id":"%1","task":"tasks.add"}"#;
 
-/// The number of an envelope's refusal, 0 where there is none.
-fn code_of(alloc: Global, envelope: &Envelope) -> u8 {
-    match decode(alloc, envelope) {
+/// The number of a refusal, 0 where there is none.
+fn number_of(read: &Result<Message, MessageFault>) -> u8 {
+    match read {
         Ok(_) => 0,
         Err(fault) => fault.code(),
     }
+}
+
+/// The number of an envelope's refusal.
+fn code_of(alloc: Global, envelope: &Envelope) -> u8 {
+    number_of(&decode(alloc, envelope))
 }
 
 /// The same of a body.

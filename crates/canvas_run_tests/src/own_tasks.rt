@@ -3,8 +3,8 @@
 
 ghost use Rattle.std.specs.Prelude.{◌+ℤ◌, Ok};
 
-use crate::states::spelled_plan;
-use canvas_engine::{Records, Report, RunFault, run, run_text_threads};
+use crate::states::{spelled_plan, tallies};
+use canvas_engine::run_text_threads;
 use canvas_rewrite::Plan;
 use canvas_samples::spelled;
 use canvas_task::{
@@ -204,24 +204,16 @@ impl OfTwo for Slow {
     }
 }
 
-/// How many workers of a run took a message.
-fn taken(ran: &Result<(Report, Records), RunFault>) -> Option<usize> {
-    match ran {
-        Ok((_, records)) => {
-            let tallies = records.workers.get().iter();
-            Some(tallies.filter(|tally| tally.taken > 0).count())
-        }
-        Err(_) => None,
-    }
-}
-
 /// How many of four workers take a message.
-fn taking<R, T>(rt: &R, alloc: Global, plan: &Plan, tasks: &T) -> Option<usize>
+fn taking<R, T>(rt: &R, plan: &Plan, tasks: &T) -> Option<usize>
 where
     R: Threads + Wait + RandomSource + AllocGlobal + Sync,
     T: Tasks + Sync,
 {
-    taken(&run(rt, alloc, plan, tasks, 4, &OpenGate, &Stop::new()))
+    match tallies(rt, plan, tasks, 4, &OpenGate, &Stop::new()) {
+        Ok(tallies) => Some(tallies.get().iter().filter(|tally| tally.taken > 0).count()),
+        Err(_) => None,
+    }
 }
 
 /// The same where the task of all is a slow one of a registry.
@@ -235,7 +227,7 @@ where
         answers: Slow,
     };
     match registry_of!(alloc; Add, slow) {
-        Ok(registry) => taking(rt, alloc, plan, &registry),
+        Ok(registry) => taking(rt, plan, &registry),
         Err(_) => None,
     }
 }

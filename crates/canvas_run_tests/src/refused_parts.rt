@@ -42,6 +42,14 @@ fn is_written(alloc: Global, canvas: &Canvas) -> Result<bool, Memory> {
     Ok(text.as_str() == NORMAL)
 }
 
+/// The same of what a signature comes to.
+fn is_checked(alloc: Global, checked: &Result<Canvas, SigFault>) -> Result<bool, Memory> {
+    match checked {
+        Ok(canvas) => is_written(alloc, canvas),
+        Err(fault) => refusal(*fault),
+    }
+}
+
 /// The signature of a canvas's normal line.
 fn normal_node(alloc: Global, canvas: &Canvas) -> Result<Node, Memory> {
     let line = normalise(alloc, canvas)?;
@@ -50,10 +58,7 @@ fn normal_node(alloc: Global, canvas: &Canvas) -> Result<Node, Memory> {
 
 /// Whether a signature is that of a canvas with the normal text.
 fn is_canvas(alloc: Global, node: Node) -> Result<bool, Memory> {
-    match Canvas::of(alloc, node) {
-        Ok(canvas) => is_written(alloc, &canvas),
-        Err(fault) => refusal(fault),
-    }
+    is_checked(alloc, &Canvas::of(alloc, node))
 }
 
 /// Whether a canvas's normal signature has the normal text.
@@ -72,23 +77,26 @@ fn becomes_canvas(alloc: Global, canvas: &Canvas) -> Result<bool, Memory> {
     }
 }
 
-/// Whether both hold of a canvas's text.
-fn is_rewritten(alloc: Global, text: &str) -> Result<bool, Memory> {
-    match read_canvas(alloc, text.as_bytes()) {
-        Ok(canvas) => {
-            if becomes_normal(alloc, &canvas)? {
-                becomes_canvas(alloc, &canvas)
-            } else {
-                Ok(false)
-            }
-        }
-        Err(fault) => refusal(fault),
+/// Both.
+fn is_rewritten(alloc: Global, canvas: &Canvas) -> Result<bool, Memory> {
+    if becomes_normal(alloc, canvas)? {
+        becomes_canvas(alloc, canvas)
+    } else {
+        Ok(false)
+    }
+}
+
+/// Whether both hold of what a text comes to.
+fn is_read(alloc: Global, read: &Result<Canvas, SigFault>) -> Result<bool, Memory> {
+    match read {
+        Ok(canvas) => is_rewritten(alloc, canvas),
+        Err(fault) => refusal(*fault),
     }
 }
 
 pub(crate) fn signatures(alloc: Global) -> Result<bool, Memory> {
     match spelled::canvas(alloc, "C(H[.,.|.],.)", "add:1,1 add:2,2 xsum: mul:2") {
-        Ok(text) => is_rewritten(alloc, &text),
+        Ok(text) => is_read(alloc, &read_canvas(alloc, text.as_bytes())),
         Err(Memory) => Err(Memory),
     }
 }
@@ -103,11 +111,16 @@ fn is_frozen(alloc: Global, canvas: &Canvas) -> Result<bool, Memory> {
     Ok(plan.tasks() == 4 && plan.groups() == 1)
 }
 
-pub(crate) fn plans(alloc: Global) -> Result<bool, Memory> {
-    match read_canvas(alloc, NORMAL.as_bytes()) {
-        Ok(canvas) => is_frozen(alloc, &canvas),
-        Err(fault) => refusal(fault),
+/// The same of what a text comes to.
+fn is_read_and_frozen(alloc: Global, read: &Result<Canvas, SigFault>) -> Result<bool, Memory> {
+    match read {
+        Ok(canvas) => is_frozen(alloc, canvas),
+        Err(fault) => refusal(*fault),
     }
+}
+
+pub(crate) fn plans(alloc: Global) -> Result<bool, Memory> {
+    is_read_and_frozen(alloc, &read_canvas(alloc, NORMAL.as_bytes()))
 }
 
 fn has_value(alloc: Global, arg: &Arg, value: &Value) -> Result<bool, Memory> {
@@ -147,13 +160,22 @@ fn has_envelope(alloc: Global, message: &Message, envelope: &Envelope) -> Result
     Ok(found == *envelope)
 }
 
-/// Whether an envelope reads as a message with that envelope.
-fn reads_back(alloc: Global, envelope: &Envelope) -> Result<bool, Memory> {
-    match decode(alloc, envelope) {
-        Ok(message) => has_envelope(alloc, &message, envelope),
+/// The same of what an envelope comes to.
+fn is_opened(
+    alloc: Global,
+    opened: &Result<Message, MessageFault>,
+    envelope: &Envelope,
+) -> Result<bool, Memory> {
+    match opened {
+        Ok(message) => has_envelope(alloc, message, envelope),
         Err(MessageFault::Memory) => Err(Memory),
         Err(_) => Ok(false),
     }
+}
+
+/// Whether an envelope reads as a message with that envelope.
+fn reads_back(alloc: Global, envelope: &Envelope) -> Result<bool, Memory> {
+    is_opened(alloc, &decode(alloc, envelope), envelope)
 }
 
 /// Whether a message's envelope does.

@@ -4,14 +4,14 @@
 use crate::by_hand::work;
 use crate::gates::Counting;
 use crate::own_tasks::Called;
-use crate::states::{Canvas, FAILING, first_envelopes, spelled_plan};
+use crate::states::{Canvas, FAILING, first_envelopes, spelled_plan, tallies};
 use canvas_engine::{
-    Records, Report, RunFault, TextFault, When, read_turns, run, run_text, run_text_threads,
-    run_turns, run_turns_again,
+    RunFault, Tally, TextFault, When, read_turns, run_text, run_text_threads, run_turns,
+    run_turns_again,
 };
 use canvas_rewrite::Plan;
 use canvas_samples::spelled;
-use canvas_task::{Memory, TaskNo};
+use canvas_task::{ListOf, Memory, TaskNo};
 use canvas_worker::{Cause, OpenGate, Stop};
 use std::alloc::{AllocGlobal, Global};
 use std::random::RandomSource;
@@ -86,7 +86,7 @@ fn refused_on_threads(
 
 /// Whether a run on threads came to its end.
 fn ended_on_threads(
-    ran: &Result<(Report, Records), RunFault>,
+    ran: &Result<ListOf<Tally>, RunFault>,
     called: u32,
     workers: u32,
     stop: &Stop,
@@ -141,7 +141,7 @@ where
     R: Threads + Wait + RandomSource + AllocGlobal + Sync,
 {
     let (tasks, stop) = (Called::new(), Stop::new());
-    let ran = run(rt, rt.alloc(), plan, &tasks, workers, &OpenGate, &stop);
+    let ran = tallies(rt, plan, &tasks, workers, &OpenGate, &stop);
     ended_on_threads(&ran, tasks.times(), workers, &stop)
 }
 

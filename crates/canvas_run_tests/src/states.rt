@@ -2,13 +2,18 @@
 
 use canvas_codec::seal;
 use canvas_effects::first_messages;
+use canvas_engine::{RunFault, Tally, run};
 use canvas_message::{Envelope, Letter};
 use canvas_rewrite::Plan;
 use canvas_samples::frozen_texts::bytes_of;
 use canvas_samples::sample::plan_of;
 use canvas_samples::spelled;
-use canvas_task::Memory;
-use std::alloc::Global;
+use canvas_task::{ListOf, Memory, Tasks};
+use canvas_worker::{Gate, Stop};
+use std::alloc::{AllocGlobal, Global};
+use std::random::RandomSource;
+use std::sync::Wait;
+use std::thread::Threads;
 
 /// A canvas in short words: its frame and its calls.
 pub(crate) type Canvas = [&'static str; 2];
@@ -58,4 +63,24 @@ pub(crate) fn envelope_of(
         headers: bytes_of(alloc, headers)?,
         body: bytes_of(alloc, body)?,
     })
+}
+
+/// What the workers of a run on threads count.
+pub(crate) fn tallies<R, T, G>(
+    rt: &R,
+    plan: &Plan,
+    tasks: &T,
+    workers: u32,
+    gate: &G,
+    stop: &Stop,
+) -> Result<ListOf<Tally>, RunFault>
+where
+    R: Threads + Wait + RandomSource + AllocGlobal + Sync,
+    T: Tasks + Sync,
+    G: Gate + Sync,
+{
+    match run(rt, rt.alloc(), plan, tasks, workers, gate, stop) {
+        Ok((_, records)) => Ok(records.workers),
+        Err(fault) => Err(fault),
+    }
 }

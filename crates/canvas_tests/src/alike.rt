@@ -3,7 +3,7 @@
 
 use crate::envelopes::{BODY, HEADERS, PLAIN, PROPERTIES, envelope};
 use canvas_codec::{decode, encode};
-use canvas_message::{Envelope, Message};
+use canvas_message::{Envelope, Message, MessageFault};
 use std::alloc::Global;
 
 const NOTHING: &str = r#"{"callbacks":null,"chain":null,"chord":null,"errbacks":null}"#;
@@ -15,12 +15,21 @@ fn is_written_so(alloc: Global, message: &Message, written: &Envelope) -> bool {
     }
 }
 
-/// Whether an envelope is read as the message that is written so; None where it is refused.
-fn alike(alloc: Global, envelope: &Envelope, written: &Envelope) -> Option<bool> {
-    match &decode(alloc, envelope) {
+/// The same of what was read; None where that is a refusal.
+fn is_read_so(
+    alloc: Global,
+    read: &Result<Message, MessageFault>,
+    written: &Envelope,
+) -> Option<bool> {
+    match read {
         Ok(message) => Some(is_written_so(alloc, message, written)),
         Err(_) => None,
     }
+}
+
+/// Whether an envelope is read as the message that is written so; None where it is refused.
+fn alike(alloc: Global, envelope: &Envelope, written: &Envelope) -> Option<bool> {
+    is_read_so(alloc, &decode(alloc, envelope), written)
 }
 
 /// Whether texts are written again as they are.

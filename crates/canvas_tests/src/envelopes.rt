@@ -61,9 +61,14 @@ pub(crate) fn envelope(
 }
 
 /// The number of its refusal.
+fn decoded_code(alloc: Global, envelope: &Envelope) -> u8 {
+    number_of(&decode(alloc, envelope))
+}
+
+/// The same of three texts.
 pub(crate) fn code_of(alloc: Global, properties: &str, headers: &str, body: &str) -> u8 {
     match envelope(alloc, properties, headers, body) {
-        Ok(envelope) => number_of(&decode(alloc, &envelope)),
+        Ok(envelope) => decoded_code(alloc, &envelope),
         Err(_) => u8::MAX,
     }
 }
@@ -97,12 +102,17 @@ fn is_sum(message: &Message, wanted: &[usize; 4]) -> bool {
         && message.rest.is_none()
 }
 
-/// Whether an envelope's message is such.
-fn has_sum(alloc: Global, envelope: &Envelope, wanted: &[usize; 4]) -> bool {
-    match &decode(alloc, envelope) {
+/// Whether what was read is such.
+fn is_read_sum(read: &Result<Message, MessageFault>, wanted: &[usize; 4]) -> bool {
+    match read {
         Ok(message) => is_sum(message, wanted),
         Err(_) => false,
     }
+}
+
+/// Whether an envelope's message is such.
+fn has_sum(alloc: Global, envelope: &Envelope, wanted: &[usize; 4]) -> bool {
+    is_read_sum(&decode(alloc, envelope), wanted)
 }
 
 /// The same of texts in the short notation.
@@ -145,19 +155,21 @@ fn cut(text: &[u8], length: usize) -> Option<&[u8]> {
     }
 }
 
+/// The number of a refusal of these bytes.
+fn bytes_code(alloc: Global, properties: &[u8], headers: &[u8], body: &[u8]) -> u8 {
+    number_of(&read(alloc, properties, headers, body))
+}
+
 /// The number of an envelope's refusal of which one text is cut so.
 fn cut_code(alloc: Global, whole: &Envelope, part: Part, length: usize) -> Option<u8> {
-    let (properties, headers) = (
-        whole.properties.get().as_slice(),
-        whole.headers.get().as_slice(),
-    );
-    let body = whole.body.get().as_slice();
-    let read = match part {
-        Part::Properties => read(alloc, cut(properties, length)?, headers, body),
-        Part::Headers => read(alloc, properties, cut(headers, length)?, body),
-        Part::Body => read(alloc, properties, headers, cut(body, length)?),
+    let (properties, headers) = (whole.properties.get(), whole.headers.get());
+    let body = whole.body.get();
+    let code = match part {
+        Part::Properties => bytes_code(alloc, cut(properties, length)?, headers, body),
+        Part::Headers => bytes_code(alloc, properties, cut(headers, length)?, body),
+        Part::Body => bytes_code(alloc, properties, headers, cut(body, length)?),
     };
-    Some(number_of(&read))
+    Some(code)
 }
 
 /// At how many lengths a text is no JSON, up to the first at which it is, or to its own.

@@ -79,21 +79,21 @@ enum Which {
     GroupOfTen,
 }
 
-/// Whether a plan is as known.
-fn is_plan(plan: &Plan, which: Which) -> bool {
-    match which {
-        Which::ChordAndTask => is_chord_and_task(plan),
-        Which::Chord => is_chord(plan),
-        Which::GroupOfTen => is_group_of_ten(plan),
+/// Whether there is a plan, and it is as known.
+fn is_plan(plan: &Option<Plan>, which: Which) -> bool {
+    match plan {
+        Some(plan) => match which {
+            Which::ChordAndTask => is_chord_and_task(plan),
+            Which::Chord => is_chord(plan),
+            Which::GroupOfTen => is_group_of_ten(plan),
+        },
+        None => false,
     }
 }
 
-/// The same of a canvas's plan.
+/// Whether a canvas's plan is as known.
 fn is_known(alloc: Global, text: &str, which: Which) -> bool {
-    match &plan_of(alloc, text) {
-        Some(plan) => is_plan(plan, which),
-        None => false,
-    }
+    is_plan(&plan_of(alloc, text), which)
 }
 
 #[test]

@@ -66,8 +66,8 @@ fn group(alloc: Global) -> Result<Node, AllocError> {
 
 /// Whether a signature, where it could be composed, is written as this text.
 fn writes(alloc: Global, composed: Result<Node, AllocError>, text: &str) -> bool {
-    match &composed {
-        Ok(node) => is_text(alloc, node, text),
+    match composed {
+        Ok(node) => is_text(alloc, &node, text),
         Err(_) => false,
     }
 }
@@ -88,12 +88,17 @@ fn reads_back(alloc: Global, canvas: &Canvas, text: &str) -> bool {
     }
 }
 
-/// Whether a signature is that of a canvas of this text.
-fn is_canvas(alloc: Global, node: Node, text: &str) -> bool {
-    match &Canvas::of(alloc, node) {
+/// Whether there is a canvas of this text.
+fn has_text(alloc: Global, checked: &Result<Canvas, SigFault>, text: &str) -> bool {
+    match checked {
         Ok(canvas) => reads_back(alloc, canvas, text),
         Err(_) => false,
     }
+}
+
+/// Whether a signature is that of a canvas of this text.
+fn is_canvas(alloc: Global, node: Node, text: &str) -> bool {
+    has_text(alloc, &Canvas::of(alloc, node), text)
 }
 
 fn chain_is_canvas(alloc: Global) -> bool {
@@ -125,8 +130,8 @@ fn is_json(alloc: Global, value: &Value, text: &str) -> bool {
 
 /// Whether an argument, where it could be made, is this value.
 fn is_made(alloc: Global, made: Result<Arg, AllocError>, text: &str) -> bool {
-    match &made {
-        Ok(arg) => is_value(alloc, arg, text),
+    match made {
+        Ok(arg) => is_value(alloc, &arg, text),
         Err(_) => false,
     }
 }
