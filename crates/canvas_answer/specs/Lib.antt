@@ -1,0 +1,6 @@
+pub mod Answers
+pub mod Plans
+pub mod Told
+pub mod Normal
+pub mod OnCelery
+pub mod Pictured

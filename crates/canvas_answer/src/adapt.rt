@@ -1,4 +1,9 @@
 //! `canvas adapt`: a canvas that can be run, from any that Celery writes.
+ghost use Rattle.std.specs.Prelude.{◌≡◌, IfOk, Ok};
+ghost use Rattle.canvas_values.specs.CanvasText.{text_reading};
+ghost use Rattle.canvas_semantics.specs.Tree.{Tree};
+ghost use Rattle.canvas_task.specs.Text.{Text};
+ghost use Rattle.canvas_answer.specs.Answers.{AnswersAll};
 
 use crate::answer::Answer;
 use crate::refusal::Refusal;
@@ -40,7 +45,10 @@ fn check_numbers<'w>(renames: &[Rename], tasks: u32) -> Result<(), Refusal<'w>> 
 }
 
 /// The canvas with these other names.
-fn renamed<'w>(alloc: Global, text: Vec<u8>, renames: &[Rename]) -> Result<Vec<u8>, Refusal<'w>> {
+fn renamed<'w>(alloc: Global, text: Vec<u8>, renames: &[Rename]) -> Result<Vec<u8>, Refusal<'w>>
+    ensures { (c : Tree) → text_reading text.items ≡ Ok c
+        → IfOk result (λ renamed. (d : Tree) × (text_reading renamed.items ≡ Ok d)) }
+{
     if renames.is_empty() {
         return Ok(text);
     }
@@ -54,7 +62,10 @@ pub fn answer_adapt<'w>(
     alloc: Global,
     renames: &[Rename],
     text: &[u8],
-) -> Result<Answer<'w>, Refusal<'w>> {
+) -> Result<Answer<'w>, Refusal<'w>>
+    ensures { IfOk result (λ a. (text : Text) × (c : Tree) × (text_reading text ≡ Ok c)
+        × AnswersAll text 0 a) }
+{
     let Adapted { text, changes } = adapt(alloc, text)?;
     let text = renamed(alloc, text, renames)?;
     Ok(Answer::whole(text).with_changes(changes))

@@ -1,4 +1,7 @@
 //! What the program prints, and its status.
+ghost use Rattle.std.specs.Prelude.{◌≡◌, ◌⊎◌, [], None, Some};
+ghost use Rattle.canvas_answer.specs.declared.answer.Remark.TheVariants as remark;
+ghost use Rattle.canvas_answer.specs.Answers.{AnswersAll, AnswersPart, IsStatus, bytes_of, refusal_status};
 
 use crate::refusal::Refusal;
 use crate::told::told_in_json;
@@ -44,7 +47,9 @@ pub struct Answer<'w> {
 
 impl<'w> Answer<'w> {
     /// All that was asked for.
-    pub fn whole(out: Vec<u8>) -> Answer<'w> {
+    pub fn whole(out: Vec<u8>) -> Answer<'w>
+        ensures { AnswersAll out.items 0 result }
+    {
         Answer {
             out,
             remark: None,
@@ -54,12 +59,16 @@ impl<'w> Answer<'w> {
     }
 
     /// Nothing, and why.
-    pub fn refused(alloc: Global, refusal: Refusal<'w>) -> Answer<'w> {
+    pub fn refused(alloc: Global, refusal: Refusal<'w>) -> Answer<'w>
+        ensures { AnswersPart [] refusal.entry result }
+    {
         Answer::in_part(alloc, None, refusal)
     }
 
     /// What there is of a report, and why that isn't all.
-    pub fn in_part(alloc: Global, text: Option<String>, refusal: Refusal<'w>) -> Answer<'w> {
+    pub fn in_part(alloc: Global, text: Option<String>, refusal: Refusal<'w>) -> Answer<'w>
+        ensures { AnswersPart (bytes_of text) refusal.entry result }
+    {
         let out = match text {
             Some(text) => text.into_bytes(),
             None => Vec::new(alloc),
@@ -73,21 +82,33 @@ impl<'w> Answer<'w> {
     }
 
     /// The same with this status, where it isn't refused.
-    pub fn with_status(self, status: u8) -> Answer<'w> {
+    pub fn with_status(self, status: u8) -> Answer<'w>
+        ensures { (result.out ≡ self.entry.out) × (result.remark ≡ self.entry.remark)
+            × (result.refusal ≡ self.entry.refusal) × (result.status ≡ status) }
+    {
         Answer { status, ..self }
     }
 
     /// The same with this beside it on standard error.
-    pub fn with_remark(self, remark: Option<Remark>) -> Answer<'w> {
+    pub fn with_remark(self, remark: Option<Remark>) -> Answer<'w>
+        ensures { (result.out ≡ self.entry.out) × (result.remark ≡ remark)
+            × (result.refusal ≡ self.entry.refusal) × (result.status ≡ self.entry.status) }
+    {
         Answer { remark, ..self }
     }
 
-    pub(crate) fn with_changes(self, changes: Changes) -> Answer<'w> {
+    pub(crate) fn with_changes(self, changes: Changes) -> Answer<'w>
+        ensures { (result.out ≡ self.entry.out) × (result.remark ≡ Some (remark.Changes changes))
+            × (result.refusal ≡ self.entry.refusal) × (result.status ≡ self.entry.status) }
+    {
         self.with_remark(Some(Remark::Changes(changes)))
     }
 
     /// The same with its refusal, if it has one, as it is printed where JSON is asked for.
-    pub fn in_json(self, alloc: Global) -> Answer<'w> {
+    pub fn in_json(self, alloc: Global) -> Answer<'w>
+        ensures out { result.out ≡ self.entry.out }
+        ensures whole { self.entry.refusal ≡ None → result ≡ self.entry }
+    {
         let Answer {
             out,
             remark,
@@ -109,7 +130,9 @@ impl<'w> Answer<'w> {
     /// Prints the answer to both outputs, and gives the status: 0 where all went well, 1 where the
     /// program was refused or can't print, 2 where it ended early, and 3 where that is asked for
     /// and the canvas's result is a failure.
-    pub fn print<W: Write, E: Write>(&self, out: &mut W, err: &mut E) -> u8 {
+    pub fn print<W: Write, E: Write>(&self, out: &mut W, err: &mut E) -> u8
+        ensures { IsStatus self.now result }
+    {
         let is_written = write_bytes(out, &self.out).is_ok();
         match &self.refusal {
             Some(refusal) => refusal.print(err),
@@ -118,7 +141,9 @@ impl<'w> Answer<'w> {
         }
     }
 
-    fn print_remark<E: Write>(&self, err: &mut E) -> u8 {
+    fn print_remark<E: Write>(&self, err: &mut E) -> u8
+        ensures { (result ≡ self.now.status) ⊎ (result ≡ 1) }
+    {
         if let Some(remark) = &self.remark
             && write_and_flush(err, remark).is_err()
         {
@@ -131,7 +156,9 @@ impl<'w> Answer<'w> {
 impl Refusal<'_> {
     /// Prints why there is no answer, piece by piece, since there may be no memory for a text.
     /// Where that can't be printed either, the status is all that is left.
-    fn print<E: Write>(&self, err: &mut E) -> u8 {
+    fn print<E: Write>(&self, err: &mut E) -> u8
+        ensures { result ≡ refusal_status self.now }
+    {
         let _ = write_and_flush(err, self);
         self.status()
     }

@@ -1,5 +1,11 @@
 //! The commands for a canvas on Celery's own workers: its start, the keys of its results, and the
 //! report of what these workers stored.
+ghost use Rattle.std.specs.Prelude.{◌≡◌, IfOk, None};
+ghost use Rattle.canvas_celery.specs.Keys.{result_keys};
+ghost use Rattle.canvas_semantics.specs.Line.{Line, count_line};
+ghost use Rattle.canvas_answer.specs.Answers.{AnswersAll};
+ghost use Rattle.canvas_answer.specs.OnCelery.{IsOnCelery, commands_of};
+ghost use Rattle.canvas_answer.specs.Plans.{IsTextPlan};
 
 mod refusal;
 
@@ -50,6 +56,8 @@ pub fn answer_celery<'w, S, R: Read>(
 ) -> Result<Answer<'w>, Refusal<'w>>
 where
     S: Files + AllocGlobal,
+    ensures { IfOk result (λ a. (l : Line) × IsTextPlan text.now l
+        × IsOnCelery run.now.digits asked.entry l a) }
 {
     let plan = lasting(plan_of(rt.alloc(), text)?);
     match asked {
@@ -66,7 +74,9 @@ fn answer_export<'w>(
     run: &Run,
     target: &Target<'_>,
     text: &[u8],
-) -> Result<Answer<'w>, Refusal<'w>> {
+) -> Result<Answer<'w>, Refusal<'w>>
+    ensures { IfOk result (AnswersAll (commands_of run.now.digits target.now plan.now) 0) }
+{
     let start = export(alloc, plan, run, target)?;
     let remark = ignored_remark(alloc, text)?;
     Ok(Answer::whole(start).with_remark(remark))
@@ -78,7 +88,10 @@ fn answer_keys<'w>(
     plan: &Plan,
     run: &Run,
     prefix: &str,
-) -> Result<Answer<'w>, Refusal<'w>> {
+) -> Result<Answer<'w>, Refusal<'w>>
+    ensures { IfOk result
+        (AnswersAll (result_keys run.now.digits prefix.now (count_line plan.now)) 0) }
+{
     Ok(Answer::whole(keys(alloc, plan, run, prefix)?))
 }
 
@@ -92,6 +105,7 @@ fn answer_collect<'w, S, R: Read>(
 ) -> Result<Answer<'w>, Refusal<'w>>
 where
     S: Files + AllocGlobal,
+    ensures { IfOk result (λ a. a.refusal ≡ None) }
 {
     let results = results_of(rt, "-", input)?;
     answer_results(rt.alloc(), plan, run, collecting, &results)
@@ -104,10 +118,11 @@ fn answer_results<'w>(
     run: &Run,
     collecting: Collecting,
     results: &[u8],
-) -> Result<Answer<'w>, Refusal<'w>> {
-    let Collecting { completes, manner } = collecting;
-    match collected(alloc, plan, run, results, completes)? {
-        Some(report) => manner.untold(alloc, plan, &report),
+) -> Result<Answer<'w>, Refusal<'w>>
+    ensures { IfOk result (λ a. a.refusal ≡ None) }
+{
+    match collected(alloc, plan, run, results, collecting.completes)? {
+        Some(report) => collecting.manner.untold(alloc, plan, &report),
         None => answer_stored(alloc, plan, run, collecting, results),
     }
 }
@@ -119,10 +134,11 @@ fn answer_stored<'w>(
     run: &Run,
     collecting: Collecting,
     results: &[u8],
-) -> Result<Answer<'w>, Refusal<'w>> {
-    let Collecting { completes, manner } = collecting;
-    let rows = stored_rows(alloc, plan, run, results, completes)?;
-    answer_rows(alloc, plan, &rows, manner.form)
+) -> Result<Answer<'w>, Refusal<'w>>
+    ensures { IfOk result (λ a. a.refusal ≡ None) }
+{
+    let rows = stored_rows(alloc, plan, run, results, collecting.completes)?;
+    answer_rows(alloc, plan, &rows, collecting.manner.form)
 }
 
 /// The report of rows of any kind.
@@ -131,7 +147,9 @@ fn answer_rows<'w>(
     plan: &Plan,
     rows: &[Row],
     form: Form,
-) -> Result<Answer<'w>, Refusal<'w>> {
+) -> Result<Answer<'w>, Refusal<'w>>
+    ensures { IfOk result (λ a. a.refusal ≡ None) }
+{
     // Celery's workers tell no more.
     let told = Told {
         fates: &[],

@@ -1,4 +1,14 @@
 //! `canvas graph`: a canvas as a picture.
+ghost use Rattle.std.specs.Prelude.{◌≡◌, [], IfOk, None, Some, option_map, string_bytes};
+ghost use Rattle.canvas_ran.specs.Ran.{fates};
+ghost use Rattle.canvas_report.specs.Nodes.{looks};
+ghost use Rattle.canvas_report.specs.Picture.{IsPicture};
+ghost use Rattle.canvas_semantics.specs.Line.{Line, tree_of};
+ghost use Rattle.canvas_semantics.specs.States.{states};
+ghost use Rattle.canvas_task.specs.Apply.{Behaviour};
+ghost use Rattle.canvas_answer.specs.Pictured.{IsPictured};
+ghost use Rattle.canvas_answer.specs.Plans.{IsTextPlan};
+ghost use Rattle.canvas_answer.specs.Told.{known_states};
 
 use crate::answer::Answer;
 use crate::celery::stored_rows;
@@ -36,11 +46,10 @@ pub enum States<'w> {
 }
 
 /// The picture of a plan, with the states of these rows where there are any.
-fn picture<'w>(
-    alloc: Global,
-    plan: &Plan,
-    rows: Option<&[Row]>,
-) -> Result<Answer<'w>, Refusal<'w>> {
+fn picture<'w>(alloc: Global, plan: &Plan, rows: Option<&[Row]>) -> Result<Answer<'w>, Refusal<'w>>
+    ensures { IfOk result
+        (IsPictured [] (option_map (λ rows. rows.now) rows.entry) plan.now) }
+{
     Ok(Answer::whole(graph_text(alloc, plan, rows, &[])?.into_bytes()))
 }
 
@@ -77,6 +86,8 @@ pub fn plan_picture<'w, S, R: Read>(
 ) -> Result<Answer<'w>, Refusal<'w>>
 where
     S: Files + AllocGlobal,
+    ensures { stored.entry ≡ None → IfOk result
+        (λ a. (l : Line) × IsTextPlan text.now l × IsPictured [] None l a) }
 {
     let plan = lasting(plan_of(rt.alloc(), text)?);
     match stored {
@@ -90,7 +101,13 @@ fn picture_text<T>(
     plans: &Plans,
     report: &Report,
     source: &Source<'_, T>,
-) -> Result<String, Memory> {
+) -> Result<String, Memory>
+    ensures { (behaviour : Behaviour)
+        → report.now.rows ≡ states behaviour (tree_of plans.now.shown)
+        → source.now.errors.now ≡ []
+        → IfOk result (λ text. IsPicture (looks (fates behaviour plans.now.shown)
+        (Some (known_states report.now.rows))) plans.now.shown (string_bytes text)) }
+{
     let fates = fates(alloc, &plans.shown, report)?;
     let rows = source.named_rows(alloc, plans, report, &fates)?;
     graph_text(alloc, &plans.shown, Some(&rows), &fates)
@@ -102,6 +119,12 @@ pub fn report_picture<'w, T>(
     plans: &Plans,
     report: &Report,
     source: &Source<'_, T>,
-) -> Result<Answer<'w>, Refusal<'w>> {
+) -> Result<Answer<'w>, Refusal<'w>>
+    ensures { (behaviour : Behaviour)
+        → report.now.rows ≡ states behaviour (tree_of plans.now.shown)
+        → source.now.errors.now ≡ []
+        → IfOk result (IsPictured (fates behaviour plans.now.shown)
+        (Some (known_states report.now.rows)) plans.now.shown) }
+{
     Ok(Answer::whole(picture_text(alloc, plans, report, source)?.into_bytes()))
 }

@@ -1,5 +1,7 @@
 //! Reading a canvas's text, lines with a canvas each, and the results of tasks, as far as they can
 //! be long.
+ghost use Rattle.std.specs.Prelude.{◌*◌, ◌≤◌, IfOk, IfSome, length};
+ghost use Rattle.canvas_values.specs.CanvasText.{most_bytes};
 
 use crate::celery::CeleryRefusal;
 use crate::refusal::Refusal;
@@ -74,6 +76,21 @@ fn read_file<S: Files + AllocGlobal>(rt: &S, file: &str, most: usize) -> io::Res
     read_at_most(rt.alloc(), &mut fs::open(rt, file)?, most)
 }
 
+/// All bytes of a file; none where it has more than so many.
+fn bytes_within<'w, S, R: Read>(
+    rt: &S,
+    file: &'w str,
+    input: &mut R,
+    most: usize,
+) -> Result<Option<Vec<u8>>, Refusal<'w>>
+where
+    S: Files + AllocGlobal,
+    ensures { IfOk result (λ bytes. IfSome bytes (λ bytes. length bytes.items ≤ most)) }
+{
+    let bytes = bytes_of(rt, file, input, most.saturating_add(1))?;
+    Ok((bytes.len() <= most).then_some(bytes))
+}
+
 /// The text of a canvas, with one byte more than the longest has, so that a longer one shows.
 pub fn text_of<'w, S, R: Read>(rt: &S, file: &'w str, input: &mut R) -> Result<Vec<u8>, Refusal<'w>>
 where
@@ -91,12 +108,9 @@ pub fn lines_of<'w, S, R: Read>(
 ) -> Result<Vec<u8>, Refusal<'w>>
 where
     S: Files + AllocGlobal,
+    ensures { IfOk result (λ lines. length lines.items ≤ 64 * most_bytes) }
 {
-    let lines = bytes_of(rt, file, input, MOST_LINES + 1)?;
-    if lines.len() > MOST_LINES {
-        return Err(Refusal::Canvas(SigFault::TooLarge));
-    }
-    Ok(lines)
+    bytes_within(rt, file, input, MOST_LINES)?.ok_or(Refusal::Canvas(SigFault::TooLarge))
 }
 
 /// The results that Celery's workers stored, a line each.
@@ -107,12 +121,9 @@ pub(crate) fn results_of<'w, S, R: Read>(
 ) -> Result<Vec<u8>, Refusal<'w>>
 where
     S: Files + AllocGlobal,
+    ensures { IfOk result (λ results. length results.items ≤ 64 * most_bytes) }
 {
-    let results = bytes_of(rt, file, input, MOST_RESULTS + 1)?;
-    if results.len() > MOST_RESULTS {
-        return Err(Refusal::Celery(CeleryRefusal::TooLarge));
-    }
-    Ok(results)
+    bytes_within(rt, file, input, MOST_RESULTS)?.ok_or(Refusal::Celery(CeleryRefusal::TooLarge))
 }
 
 fn unread<'w>(error: &io::Error, file: &'w str) -> Refusal<'w> {

@@ -1,5 +1,7 @@
 //! The rows of a run with the exceptions that stubs raise by their own classes. A task that was
 //! called has that of its stub, one that was skipped that of the task that it is due to.
+ghost use Rattle.std.specs.Prelude.{◌≡◌, IfOk};
+ghost use Rattle.canvas_answer.specs.Told.{known_states};
 
 use crate::errors::class_named;
 use crate::source::Source;
@@ -122,7 +124,18 @@ fn row_of(
     }
 }
 
-/// The rows of a report with these classes. With none they are as the run has them.
+/// The rows of a report as the run has them.
+pub(crate) fn known_rows(alloc: Global, report: &Report) -> Result<Vec<Row>, AllocError>
+    ensures { IfOk result (λ rows. rows.items ≡ known_states report.now.rows) }
+{
+    let mut rows = Vec::new(alloc);
+    for state in report.rows.get() {
+        rows.push(Row::Known(*state))?;
+    }
+    Ok(rows)
+}
+
+/// The rows of a report with these classes.
 pub(crate) fn rows_of(
     alloc: Global,
     report: &Report,

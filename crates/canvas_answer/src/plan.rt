@@ -1,19 +1,44 @@
 //! Plans of texts.
+ghost use Rattle.std.specs.Prelude.{◌≡◌, Ok, IfOk, IfErr};
+ghost use Rattle.std.specs.Mem.{manually_drop_value};
+ghost use Rattle.canvas_values.specs.CanvasText.{text_reading};
+ghost use Rattle.canvas_answer.specs.Plans.{IsTextPlan, IsReadRefusal};
 
 use crate::refusal::Refusal;
 use canvas_rewrite::Plan;
-use canvas_sig::read_canvas;
+use canvas_sig::{Canvas, SigFault, read_canvas};
+use canvas_task::Memory;
 use std::alloc::Global;
 use std::mem::ManuallyDrop;
 
+/// The canvas that a text spells.
+pub fn canvas_of<'w>(alloc: Global, text: &[u8]) -> Result<Canvas, Refusal<'w>>
+    ensures ok { IfOk result (λ canvas. text_reading text.now ≡ Ok canvas) }
+    ensures err { IfErr result (IsReadRefusal text.now) }
+{
+    match read_canvas(alloc, text) {
+        Ok(canvas) => Ok(canvas),
+        Err(SigFault::Memory) => Err(Refusal::Memory),
+        Err(fault) => Err(Refusal::Canvas(fault)),
+    }
+}
+
 /// The plan of the canvas that a text spells.
-pub fn plan_of<'w>(alloc: Global, text: &[u8]) -> Result<Plan, Refusal<'w>> {
-    let canvas = read_canvas(alloc, text)?;
-    Ok(Plan::of(alloc, canvas)?)
+pub fn plan_of<'w>(alloc: Global, text: &[u8]) -> Result<Plan, Refusal<'w>>
+    ensures ok { IfOk result (λ plan. IsTextPlan text.now plan) }
+    ensures err { IfErr result (IsReadRefusal text.now) }
+{
+    let canvas = canvas_of(alloc, text)?;
+    match Plan::of(alloc, canvas) {
+        Ok(plan) => Ok(plan),
+        Err(Memory) => Err(Refusal::Memory),
+    }
 }
 
 /// What a command holds until its process ends, which takes it along: to drop a plan is a twentieth
 /// of a group's run.
-pub fn lasting<T: Drop>(value: T) -> ManuallyDrop<T> {
+pub fn lasting<T: Drop>(value: T) -> ManuallyDrop<T>
+    ensures { manually_drop_value result ≡ value }
+{
     ManuallyDrop::new(value)
 }

@@ -1,5 +1,7 @@
 //! Canvases as they are run: adapted where that is asked for, and with a name of its own for each
 //! task that is named by its number.
+ghost use Rattle.std.specs.Prelude.{◌≡◌, IfOk, None, false};
+ghost use Rattle.canvas_answer.specs.Plans.{IsTextPlan};
 
 use crate::errors::OtherError;
 use crate::plan::plan_of;
@@ -111,7 +113,11 @@ pub struct Plans {
 
 impl Plans {
     /// The plans of a canvas, one where no task has another name.
-    pub fn of<'w, T>(alloc: Global, source: &Source<'_, T>) -> Result<Plans, Refusal<'w>> {
+    pub fn of<'w, T>(alloc: Global, source: &Source<'_, T>) -> Result<Plans, Refusal<'w>>
+        ensures shown { IfOk result (λ plans. IsTextPlan source.now.shown.now plans.shown) }
+        ensures one { IfOk result
+            (λ plans. source.now.is_renamed ≡ false → plans.renamed ≡ None) }
+    {
         let shown = plan_of(alloc, source.shown)?;
         let renamed = if source.is_renamed {
             Some(plan_of(alloc, source.text)?)
@@ -122,7 +128,9 @@ impl Plans {
     }
 
     /// The plan that is run.
-    pub fn run(&self) -> &Plan {
+    pub fn run(&self) -> &Plan
+        ensures { self.now.renamed ≡ None → result.now ≡ self.now.shown }
+    {
         match &self.renamed {
             Some(plan) => plan,
             None => &self.shown,

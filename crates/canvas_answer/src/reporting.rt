@@ -1,7 +1,18 @@
 //! Reports as texts or as JSON, and results that decide the status.
+ghost use Rattle.std.specs.Prelude.{◌≡◌, [], IfOk, true, false, string_bytes};
+ghost use Rattle.canvas_report.specs.Failing.{any_failed};
+ghost use Rattle.canvas_semantics.specs.Evaluation.{with_states};
+ghost use Rattle.canvas_semantics.specs.Line.{ends_of, tree_of};
+ghost use Rattle.canvas_semantics.specs.Report.{report_of};
+ghost use Rattle.canvas_semantics.specs.States.{rows_from, states};
+ghost use Rattle.canvas_task.specs.Apply.{Behaviour};
+ghost use Rattle.canvas_task.specs.Text.{Text};
+ghost use Rattle.canvas_answer.specs.Answers.{AnswersPart, AnswersAll};
+ghost use Rattle.canvas_answer.specs.declared.reporting.Form.TheVariants.{Plain};
+ghost use Rattle.canvas_answer.specs.Told.{IsReport, IsToldText, IsUntoldText, report_status};
 
 use crate::answer::Answer;
-use crate::named_rows::rows_of;
+use crate::named_rows::known_rows;
 use crate::prepared::Plans;
 use crate::refusal::Refusal;
 use crate::source::Source;
@@ -37,7 +48,9 @@ pub const FAILED: u8 = 3;
 
 impl Manner {
     /// Whether a report is printed as ever, and its result doesn't count.
-    pub fn is_plain(&self) -> bool {
+    pub fn is_plain(&self) -> bool
+        ensures { result ≡ true → (self.now.form ≡ Plain) × (self.now.fails ≡ false) }
+    {
         self.form == Form::Plain && !self.fails
     }
 
@@ -48,7 +61,13 @@ impl Manner {
         plans: &Plans,
         report: &Report,
         source: &Source<'_, T>,
-    ) -> Result<String, Refusal<'w>> {
+    ) -> Result<String, Refusal<'w>>
+        ensures { (behaviour : Behaviour)
+            → report.now.rows ≡ states behaviour (tree_of plans.now.shown)
+            → source.now.errors.now ≡ []
+            → IfOk result
+            (λ text. IsToldText behaviour plans.now.shown self.now.form (string_bytes text)) }
+    {
         match self.form {
             Form::Plain => plain_text(alloc, plans, report, source),
             Form::Json => source.json_of(alloc, plans, report),
@@ -57,7 +76,10 @@ impl Manner {
     }
 
     /// A report that doesn't tell which tasks were called.
-    fn text(&self, alloc: Global, plan: &Plan, report: &Report) -> Result<String, Memory> {
+    fn text(&self, alloc: Global, plan: &Plan, report: &Report) -> Result<String, Memory>
+        ensures { IfOk result (λ text.
+            IsUntoldText self.now.form (tree_of plan.now) report.now.rows (string_bytes text)) }
+    {
         match self.form {
             Form::Plain => report_text(alloc, plan, report),
             Form::Json => {
@@ -67,7 +89,7 @@ impl Manner {
                 };
                 rows_text(alloc, plan, report, told)
             }
-            Form::Explained => explained_text(alloc, plan, &rows_of(alloc, report, &[])?, &[]),
+            Form::Explained => explained_text(alloc, plan, &known_rows(alloc, report)?, &[]),
         }
     }
 
@@ -78,7 +100,12 @@ impl Manner {
         plans: &Plans,
         report: &Report,
         source: &Source<'_, T>,
-    ) -> Result<Answer<'w>, Refusal<'w>> {
+    ) -> Result<Answer<'w>, Refusal<'w>>
+        ensures { (behaviour : Behaviour)
+            → report.now.rows ≡ states behaviour (tree_of plans.now.shown)
+            → source.now.errors.now ≡ []
+            → IfOk result (IsReport behaviour plans.now.shown self.now.form self.now.fails) }
+    {
         let text = self.whole_text(alloc, plans, report, source)?;
         Ok(self.answer(text, &plans.shown, report))
     }
@@ -89,12 +116,20 @@ impl Manner {
         alloc: Global,
         plan: &Plan,
         report: &Report,
-    ) -> Result<Answer<'w>, Refusal<'w>> {
+    ) -> Result<Answer<'w>, Refusal<'w>>
+        ensures { IfOk result (λ a. (text : Text)
+            × IsUntoldText self.now.form (tree_of plan.now) report.now.rows text
+            × AnswersAll text (report_status self.now.fails
+            (any_failed (with_states (rows_from 1 report.now.rows) (ends_of plan.now)))) a) }
+    {
         let text = self.text(alloc, plan, report)?;
         Ok(self.answer(text, plan, report))
     }
 
-    fn answer<'w>(&self, text: String, plan: &Plan, report: &Report) -> Answer<'w> {
+    fn answer<'w>(&self, text: String, plan: &Plan, report: &Report) -> Answer<'w>
+        ensures { AnswersAll (string_bytes text) (report_status self.now.fails
+            (any_failed (with_states (rows_from 1 report.now.rows) (ends_of plan.now)))) result }
+    {
         let status = if self.fails && is_failure(plan, report) {
             FAILED
         } else {
@@ -112,7 +147,9 @@ impl Manner {
         source: &Source<'_, T>,
         stored: Option<&Report>,
         refusal: Refusal<'w>,
-    ) -> Answer<'w> {
+    ) -> Answer<'w>
+        ensures { (text : Text) × AnswersPart text refusal.entry result }
+    {
         let text = match stored {
             Some(report) if source.errors.is_empty() => {
                 self.text(alloc, &plans.shown, report).ok()
@@ -128,7 +165,10 @@ fn plain_text<'w, T>(
     plans: &Plans,
     report: &Report,
     source: &Source<'_, T>,
-) -> Result<String, Refusal<'w>> {
+) -> Result<String, Refusal<'w>>
+    ensures { source.now.errors.now ≡ [] → IfOk result (λ text. string_bytes text
+        ≡ report_of (tree_of plans.now.shown) (rows_from 1 report.now.rows)) }
+{
     if source.errors.is_empty() {
         return Ok(report_text(alloc, &plans.shown, report)?);
     }

@@ -1,14 +1,22 @@
 //! What a run is of: a canvas's text, and what answers its calls. It says which parameter makes a
 //! call a TypeError.
+ghost use Rattle.std.specs.Prelude.{◌≡◌, [], IfOk, string_bytes};
+ghost use Rattle.canvas_report.specs.JsonRows.{json_lines, report_wire};
+ghost use Rattle.canvas_semantics.specs.Line.{tree_of};
+ghost use Rattle.canvas_semantics.specs.States.{rows_from, states};
+ghost use Rattle.canvas_task.specs.Apply.{Behaviour};
+ghost use Rattle.canvas_answer.specs.Told.{IsToldText, known_states};
+ghost use Rattle.canvas_answer.specs.declared.reporting.Form.TheVariants.{Json};
 
 use crate::errors::OtherError;
-use crate::named_rows::{classes_of, rows_of};
+use crate::named_rows::{classes_of, known_rows, rows_of};
+use crate::plan::canvas_of;
 use crate::prepared::Plans;
 use crate::refusal::Refusal;
 use crate::stubs::stub_named;
 use canvas_ran::fates;
 use canvas_report::{Fate, Report, Row, Told, rows_text, state_in, stored_rows_text};
-use canvas_sig::{Canvas, read_canvas};
+use canvas_sig::Canvas;
 use canvas_stubs::{Does, Stub};
 use canvas_task::{Builtin, Fault, Kind, Memory, Outcome, TaskNo, Tasks};
 use canvas_values::TaskSig;
@@ -122,9 +130,12 @@ impl<'a, T> Source<'a, T> {
         plans: &Plans,
         report: &Report,
         fates: &[(TaskNo, Fate)],
-    ) -> Result<Vec<Row>, AllocError> {
+    ) -> Result<Vec<Row>, AllocError>
+        ensures { self.now.errors.now ≡ []
+            → IfOk result (λ rows. rows.items ≡ known_states report.now.rows) }
+    {
         if self.errors.is_empty() {
-            return rows_of(alloc, report, &[]);
+            return known_rows(alloc, report);
         }
         let classes = classes_of(alloc, plans.run(), report, self, fates)?;
         rows_of(alloc, report, &classes)
@@ -216,7 +227,7 @@ impl<'a, T: Tasks> Source<'a, T> {
         if !any_bad_call(report, fates) {
             return Ok(Vec::new(alloc));
         }
-        let canvas = read_canvas(alloc, self.text)?;
+        let canvas = canvas_of(alloc, self.text)?;
         self.blamed_in_canvas(alloc, &canvas, report, fates)
     }
 
@@ -238,7 +249,12 @@ impl<'a, T: Tasks> Source<'a, T> {
         alloc: Global,
         plans: &Plans,
         report: &Report,
-    ) -> Result<String, Refusal<'w>> {
+    ) -> Result<String, Refusal<'w>>
+        ensures { (behaviour : Behaviour)
+            → report.now.rows ≡ states behaviour (tree_of plans.now.shown)
+            → self.now.errors.now ≡ []
+            → IfOk result (λ text. IsToldText behaviour plans.now.shown Json (string_bytes text)) }
+    {
         let fates = fates(alloc, &plans.shown, report)?;
         let blamed = self.blamed_in_run(alloc, report, &fates)?;
         let told = Told {
@@ -255,7 +271,11 @@ impl<'a, T: Tasks> Source<'a, T> {
         plans: &Plans,
         report: &Report,
         told: Told<'_>,
-    ) -> Result<String, Refusal<'w>> {
+    ) -> Result<String, Refusal<'w>>
+        ensures { self.now.errors.now ≡ [] → IfOk result (λ text. string_bytes text ≡ json_lines
+            (report_wire told.entry.fates.now told.entry.blamed.now (tree_of plans.now.shown)
+            (rows_from 1 report.now.rows))) }
+    {
         if self.errors.is_empty() {
             return Ok(rows_text(alloc, &plans.shown, report, told)?);
         }

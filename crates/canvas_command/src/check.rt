@@ -4,13 +4,13 @@ use crate::messages::messages_of;
 use canvas_answer::answer::Answer;
 use canvas_answer::figures::Figures;
 use canvas_answer::finding::refuse_found;
-use canvas_answer::plan::lasting;
+use canvas_answer::plan::{canvas_of, lasting};
 use canvas_answer::refusal::Refusal;
 use canvas_answer::reporting::{Form, Manner};
 use canvas_answer::source::Source;
 use canvas_answer::warnings::warnings_of;
 use canvas_rewrite::Plan;
-use canvas_sig::{Canvas, read_canvas};
+use canvas_sig::Canvas;
 use canvas_task::Tasks;
 use std::alloc::Global;
 
@@ -32,7 +32,7 @@ fn checked<'w, T: Tasks>(
     manner: Manner,
     source: &Source<'_, T>,
 ) -> Result<Answer<'w>, Refusal<'w>> {
-    let canvas = read_canvas(alloc, source.text)?;
+    let canvas = canvas_of(alloc, source.text)?;
     let warnings = warnings_of(alloc, source, &canvas)?;
     let figures = figures_of(alloc, source.tasks, canvas)?;
     figures.answer(alloc, manner, &warnings)

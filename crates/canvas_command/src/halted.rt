@@ -1,4 +1,7 @@
 //! Runs that ended early.
+ghost use Rattle.canvas_task.specs.Text.{Text};
+ghost use Rattle.canvas_answer.specs.Answers.{AnswersPart};
+ghost use Rattle.canvas_answer.specs.declared.refusal.Refusal.{Refusal};
 
 use canvas_answer::answer::Answer;
 use canvas_answer::prepared::Plans;
@@ -38,6 +41,8 @@ pub(crate) fn early<'w, T>(
     plans: &Plans,
     source: &Source<'_, T>,
     fault: &RunFault,
-) -> Answer<'w> {
+) -> Answer<'w>
+    ensures { (text : Text) × (refusal : Refusal) × AnswersPart text refusal result }
+{
     manner.early(alloc, plans, source, stored(fault), refused(fault))
 }

@@ -1,4 +1,13 @@
 //! `canvas run` and `canvas turns`.
+ghost use Rattle.std.specs.Prelude.{◌≡◌, [], IfOk, None, false};
+ghost use Rattle.canvas_answer.specs.Answers.{AnswersPart};
+ghost use Rattle.canvas_answer.specs.Plans.{IsTextPlan};
+ghost use Rattle.canvas_answer.specs.declared.refusal.Refusal.{Refusal};
+ghost use Rattle.canvas_answer.specs.declared.reporting.Form.TheVariants.{Plain};
+ghost use Rattle.canvas_semantics.specs.Line.{tree_of};
+ghost use Rattle.canvas_semantics.specs.States.{states};
+ghost use Rattle.canvas_task.specs.Text.{Text};
+ghost use Rattle.canvas_command.specs.Runs.{IsRunOf};
 
 use crate::halted::{early, refused};
 use canvas_answer::again::{Again, named_entries};
@@ -23,6 +32,8 @@ fn report_of<S, T>(rt: &S, plan: &Plan, tasks: &T, workers: u32) -> Result<Repor
 where
     S: Threads + Wait + RandomSource + AllocGlobal + Sync,
     T: Tasks + Sync,
+    ensures { IfOk result
+        (λ report. report.rows ≡ states (T.behaviour tasks.now) (tree_of plan.now)) }
 {
     let alloc = rt.alloc();
     match run(rt, alloc, plan, tasks, workers, &OpenGate, &Stop::new()) {
@@ -41,6 +52,8 @@ pub(crate) fn whole_report<'w, S, T>(
 where
     S: Threads + Wait + RandomSource + AllocGlobal + Sync,
     T: Tasks + Sync,
+    ensures { IfOk result
+        (λ report. report.rows ≡ states (T.behaviour tasks.now) (tree_of plan.now)) }
 {
     match report_of(rt, plan, tasks, workers) {
         Ok(report) => Ok(report),
@@ -58,6 +71,8 @@ pub(crate) fn answer_run<'w, S, T>(
 where
     S: Threads + Wait + RandomSource + AllocGlobal + Sync,
     T: Tasks + Sync,
+    ensures { source.now.is_renamed ≡ false → source.now.errors.now ≡ [] → IfOk result
+        (IsRunOf (T.behaviour source.now.tasks.now) source.now.shown.now manner.form manner.fails) }
 {
     let plans = lasting(Plans::of(rt.alloc(), source)?);
     match report_of(rt, plans.run(), source.tasks, workers) {
@@ -79,7 +94,10 @@ struct ByTurns<'a> {
 }
 
 impl ByTurns<'_> {
-    fn counted<'w>(&self, answer: Answer<'w>, repeats: u64) -> Answer<'w> {
+    fn counted<'w>(&self, answer: Answer<'w>, repeats: u64) -> Answer<'w>
+        ensures { (result.out ≡ answer.entry.out) × (result.refusal ≡ answer.entry.refusal)
+            × (result.status ≡ answer.entry.status) }
+    {
         answer.with_remark(self.counts.then_some(Remark::Repeats(repeats)))
     }
 
@@ -88,7 +106,10 @@ impl ByTurns<'_> {
         &self,
         alloc: Global,
         source: &Source<'_, T>,
-    ) -> Result<Answer<'w>, Refusal<'w>> {
+    ) -> Result<Answer<'w>, Refusal<'w>>
+        ensures { IfOk result
+            (IsRunOf (T.behaviour source.now.tasks.now) source.now.text.now Plain false) }
+    {
         let (text, tasks) = (source.text, source.tasks);
         match run_text_again(alloc, text, tasks, self.workers, self.turns, self.again) {
             Ok((report, repeats)) => {
@@ -104,7 +125,11 @@ impl ByTurns<'_> {
         alloc: Global,
         plans: &Plans,
         source: &Source<'_, T>,
-    ) -> Result<Answer<'w>, Refusal<'w>> {
+    ) -> Result<Answer<'w>, Refusal<'w>>
+        ensures { (bytes : Text) → IsTextPlan bytes plans.now.shown → plans.now.renamed ≡ None
+            → source.now.errors.now ≡ [] → IfOk result (IsRunOf (T.behaviour source.now.tasks.now)
+            bytes self.now.manner.form self.now.manner.fails) }
+    {
         let (plan, tasks) = (plans.run(), source.tasks);
         match run_turns_again(alloc, plan, tasks, self.workers, self.turns, self.again) {
             Ok((report, repeats)) => {
@@ -122,7 +147,11 @@ impl ByTurns<'_> {
         names: Option<&str>,
         plans: &Plans,
         source: &Source<'_, T>,
-    ) -> Result<Answer<'w>, Refusal<'w>> {
+    ) -> Result<Answer<'w>, Refusal<'w>>
+        ensures { (bytes : Text) → IsTextPlan bytes plans.now.shown → plans.now.renamed ≡ None
+            → source.now.errors.now ≡ [] → IfOk result (IsRunOf (T.behaviour source.now.tasks.now)
+            bytes self.now.manner.form self.now.manner.fails) }
+    {
         let Some(list) = names else {
             return self.shown(alloc, plans, source);
         };
@@ -142,7 +171,11 @@ impl ByTurns<'_> {
         alloc: Global,
         names: Option<&str>,
         source: &Source<'_, T>,
-    ) -> Result<Answer<'w>, Refusal<'w>> {
+    ) -> Result<Answer<'w>, Refusal<'w>>
+        ensures { source.now.is_renamed ≡ false → source.now.text.now ≡ source.now.shown.now
+            → source.now.errors.now ≡ [] → IfOk result (IsRunOf (T.behaviour source.now.tasks.now)
+            source.now.shown.now self.now.manner.form self.now.manner.fails) }
+    {
         if names.is_none() && self.manner.is_plain() && source.is_plain() {
             return self.plain(alloc, source);
         }
@@ -159,7 +192,11 @@ pub(crate) fn answer_turns<'w, T: Tasks>(
     again: &Again<'_>,
     manner: Manner,
     source: &Source<'_, T>,
-) -> Result<Answer<'w>, Refusal<'w>> {
+) -> Result<Answer<'w>, Refusal<'w>>
+    ensures { source.now.is_renamed ≡ false → source.now.text.now ≡ source.now.shown.now
+        → source.now.errors.now ≡ [] → IfOk result (IsRunOf (T.behaviour source.now.tasks.now)
+        source.now.shown.now manner.form manner.fails) }
+{
     let once = ByTurns {
         workers,
         turns,
@@ -182,7 +219,10 @@ pub(crate) fn answer_turns<'w, T: Tasks>(
 }
 
 /// Why a text has no whole report, and what its run stored, where there is memory for it.
-fn early_text<'w>(alloc: Global, fault: TextFault) -> Result<Answer<'w>, Refusal<'w>> {
+fn early_text<'w>(alloc: Global, fault: TextFault) -> Result<Answer<'w>, Refusal<'w>>
+    ensures { IfOk result
+        (λ a. (text : Text) × (refusal : Refusal) × AnswersPart text refusal a) }
+{
     match fault {
         TextFault::Sig(fault) => Err(Refusal::from(fault)),
         TextFault::Run { fault, stored } => Ok(Answer::in_part(alloc, stored, refused(&fault))),
