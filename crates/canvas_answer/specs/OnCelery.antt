@@ -23,7 +23,7 @@ commands_of run target l =
     resp (start run (setting target) (starting (bare l))
     (map (message_text (naming_of run l) target.queue.now) (first_messages l)))
 
--- The report that is collected is one of the results that the input gives.
+-- Of the report that is collected it is said only that it is all that was asked for.
 abbrev pub IsOnCelery : (run : Text) → OnCelery → Line → Answer → Type 0
 IsOnCelery run (Export target) l a = AnswersAll (commands_of run target l) 0 a
 IsOnCelery run (Keys prefix) l a = AnswersAll (result_keys run prefix.now (count_line l)) 0 a

@@ -14,8 +14,8 @@ use Rattle.canvas_answer.specs.declared.answer.Answer.{Answer}
 use Rattle.canvas_answer.specs.declared.refusal.Refusal.{Refusal}
 use Rattle.canvas_answer.specs.declared.reporting.Form.{Form}
 
--- The whole report of what evaluating the canvas of the text gives; or the run ended early, and
--- this is a part of it.
+-- The whole report of what evaluating the canvas of the text gives; or some text, with a refusal
+-- beside it that says why that isn't all.
 abbrev pub IsRunOf : Behaviour → Text → Form → Bool → Answer → Type 0
 IsRunOf behaviour bytes form counts a =
     ((l : Line) × IsTextPlan bytes l × IsReport behaviour l form counts a)
