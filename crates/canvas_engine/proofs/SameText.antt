@@ -13,13 +13,13 @@ use Rattle.canvas_semantics.specs.States.{states, rows_from}
 use Rattle.canvas_semantics.proofs.RowNumbers.{states_in, states_listed}
 use Rattle.canvas_semantics.proofs.SameReport.{same_report, same_report_of}
 use Rattle.canvas_turns.specs.Spending.{Entry}
-use Rattle.canvas_engine.specs.Correct.{AreWorkers, IsAsked, IsWholeAgain}
+use Rattle.canvas_by_turns.specs.Correct.{AreWorkers, IsAsked, IsWholeAgain}
 use Rattle.canvas_history.specs.Callers.{told}
 use Rattle.canvas_engine.specs.Headline.{Headline, OnlyWanted}
 use Rattle.canvas_engine.specs.Texts.{IsPlanOfText, IsStored, IsTextAgain, IsTextFault, IsTextRun}
 use Rattle.canvas_engine.specs.steps.PlanTexts.{IsPlanFault}
-use Rattle.canvas_engine.specs.declared.fault.RunFault.{RunFault}
-use Rattle.canvas_engine.specs.declared.fault.RunFault.TheVariants.{Halted}
+use Rattle.canvas_by_turns.specs.declared.fault.RunFault.{RunFault}
+use Rattle.canvas_by_turns.specs.declared.fault.RunFault.TheVariants.{Halted}
 use Rattle.canvas_engine.specs.declared.threads.records.Records.{Records}
 use Rattle.canvas_report.specs.declared.report.Report.{Report}
 use Rattle.canvas_worker.specs.declared.cause.Cause.{Cause}

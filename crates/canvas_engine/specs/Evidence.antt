@@ -2,11 +2,12 @@
 --     AreTallies queue table k tallies    what workers counted, the first of them being worker k
 --     IsRun l n rows records              what the callers of the queue and of the table did, by
 --                                         which these are the rows and the records of a run
-use Rattle.std.specs.Prelude.{◌≡◌, ◌≤◌, ℕ, suc, List, [], ◌∷◌, ◌++◌, length, map}
+--     IsThreadFault n states fault        why a run has no whole report
+use Rattle.std.specs.Prelude.{◌≡◌, ◌≤◌, ℕ, suc, List, [], ◌∷◌, ◌++◌, length, map, None, Some, IfSome}
 use Rattle.canvas_task.specs.Apply.{Behaviour}
 use Rattle.canvas_semantics.specs.Evaluation.{State}
 use Rattle.canvas_semantics.specs.Line.{Line, tree_of}
-use Rattle.canvas_semantics.specs.States.{states}
+use Rattle.canvas_semantics.specs.States.{states, EachMay}
 use Rattle.canvas_message.specs.declared.envelope.Envelope.{Envelope}
 use Rattle.canvas_history.specs.Table.{Log}
 use Rattle.canvas_history.specs.Roster.{roster_of}
@@ -20,6 +21,10 @@ use Rattle.canvas_runs.specs.Worker.{sealed}
 use Rattle.canvas_callers.specs.Accounts.{QueueAccounts, TableAccounts}
 use Rattle.canvas_callers.specs.CallerLaws.{broker_calls_seen}
 use Rattle.canvas_callers.specs.Rows.{RanWell}
+use Rattle.canvas_worker.specs.declared.cause.Cause.TheVariants.{Memory, Stopped}
+use Rattle.canvas_by_turns.specs.Correct.{AreWorkers}
+use Rattle.canvas_by_turns.specs.declared.fault.RunFault.{RunFault}
+use Rattle.canvas_by_turns.specs.declared.fault.RunFault.TheVariants.{BadWorkers, BadTurn, Halted}
 use Rattle.canvas_engine.specs.declared.threads.records.Records.{Records}
 use Rattle.canvas_engine.specs.declared.threads.records.Tally.{Tally}
 
@@ -72,3 +77,13 @@ pub record IsRun (behaviour : Behaviour) (l : Line) (n : ℕ) (rows : List State
   pub completed_once : (g : ℕ) → completions l g r.seat.seen ≤ 1
   -- what evaluating the plan's tree gives
   pub are : rows ≡ states behaviour (tree_of l)
+
+-- Why a run has no whole report, where these are the states of its plan: one that ended early has
+-- rows that are pending, or these. Without rows it is for memory that was refused: before the first
+-- publish, or to an executor.
+abbrev pub IsThreadFault : ℕ → List State → RunFault → Type 0
+IsThreadFault n ss BadWorkers = AreWorkers n → ⊥
+IsThreadFault n ss BadTurn = ⊥
+IsThreadFault n ss (Halted Memory rows) = AreWorkers n × IfSome rows (λ r. EachMay r.rows ss)
+IsThreadFault n ss (Halted Stopped None) = ⊥
+IsThreadFault n ss (Halted Stopped (Some report)) = AreWorkers n × EachMay report.rows ss

@@ -1,12 +1,12 @@
-pub mod Correct
-pub mod Traced
-pub mod Evidence
 pub mod Headline
+pub mod Evidence
 pub mod RecordLaws
 pub mod Texts
-pub mod TurnFaults
 pub mod steps
 pub use Rattle.canvas_backend.specs.Plain
+pub use Rattle.canvas_by_turns.specs.Correct
+pub use Rattle.canvas_by_turns.specs.Traced
+pub use Rattle.canvas_by_turns.specs.TurnFaults
 pub use Rattle.canvas_history.specs.Callers
 pub use Rattle.canvas_history.specs.Roster
 pub use Rattle.canvas_history.specs.Table

@@ -14,10 +14,10 @@ use Rattle.canvas_semantics.specs.Report.{report, report_of}
 use Rattle.canvas_semantics.specs.SameMeaning.{IsSame}
 use Rattle.canvas_semantics.specs.States.{rows_from, states}
 use Rattle.canvas_turns.specs.Spending.{Entry}
-use Rattle.canvas_engine.specs.Correct.{AreWorkers, IsAsked, IsWholeAgain}
+use Rattle.canvas_by_turns.specs.Correct.{AreWorkers, IsAsked, IsWholeAgain}
 use Rattle.canvas_engine.specs.Headline.{Headline, OnlyWanted}
-use Rattle.canvas_engine.specs.declared.fault.RunFault.{RunFault}
-use Rattle.canvas_engine.specs.declared.fault.RunFault.TheVariants.{Halted}
+use Rattle.canvas_by_turns.specs.declared.fault.RunFault.{RunFault}
+use Rattle.canvas_by_turns.specs.declared.fault.RunFault.TheVariants.{Halted}
 use Rattle.canvas_engine.specs.declared.threads.records.Records.{Records}
 use Rattle.canvas_report.specs.declared.report.Report.{Report}
 use Rattle.canvas_engine.specs.declared.text.TextFault.{TextFault}

@@ -1,23 +1,19 @@
 //! Runs of canvases and their reports.
 #![tactic(auto)]
 
-mod fault;
-mod firsts;
 mod text;
 mod threads;
-mod turn_list;
-mod turns;
 
 ghost use Rattle.canvas_engine.specs.RecordLaws.{FewEntries, AllArePlain};
 
+pub use canvas_by_turns::{
+    RunFault, read_turns, run_turns, run_turns_again, run_turns_traced, run_turns_within,
+};
 pub use canvas_report::{Report, report_text};
 pub use canvas_semantics::MOST_WORKERS;
 pub use canvas_worker::{Cause, Gate, OpenGate, Stop, When};
-pub use fault::RunFault;
 pub use text::{TextFault, run_text, run_text_again, run_text_recorded, run_text_threads};
 pub use threads::{Records, Tally, run};
-pub use turn_list::read_turns;
-pub use turns::{run_turns, run_turns_again, run_turns_traced, run_turns_within};
 
 /// What follows from what `run` leaves. Whatever the number of workers and their interleaving, its
 /// histories have few calls: six for each task of the plan and four for each redelivery, with the

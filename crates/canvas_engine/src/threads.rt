@@ -2,6 +2,7 @@
 mod crew;
 mod gathered;
 mod in_rounds;
+mod publishing;
 mod records;
 mod running;
 mod slot;

@@ -7,21 +7,21 @@ use crate::arguments::{
     REFUSAL_JSON, RENAME, RESULTS, RUN, STATES, STRICT, TASK, TASKS, TURNS, WITHOUT_SCRIPT,
     WORKERS, arguments_of,
 };
-use clap::{Arg, Command};
+use clap::Command;
 use std::alloc::{AllocError, Global};
 
 /// The arguments of `run`.
-const RUN_ARGUMENTS: [Argument; 10] = [
+static RUN_ARGUMENTS: [Argument; 10] = [
     FILE, WORKERS, ADAPT, TASK, TASKS, JSON, EXPLAIN, EACH, NULL, FAIL,
 ];
 
 /// Those of `turns`.
-const TURNS_ARGUMENTS: [Argument; 9] = [
+static TURNS_ARGUMENTS: [Argument; 9] = [
     FILE, WORKERS, TURNS, AGAIN, ADAPT, TASK, TASKS, JSON, FAIL,
 ];
 
 /// Those of `graph`.
-const GRAPH: [Argument; 10] = [
+static GRAPH: [Argument; 10] = [
     FILE,
     STATES,
     WORKERS,
@@ -35,10 +35,10 @@ const GRAPH: [Argument; 10] = [
 ];
 
 /// Those of `messages`.
-const MESSAGES: [Argument; 6] = [FILE, WORKERS, TURNS, TASK, TASKS, REFUSAL_JSON];
+static MESSAGES: [Argument; 6] = [FILE, WORKERS, TURNS, TASK, TASKS, REFUSAL_JSON];
 
 /// Those of `export`.
-const EXPORT: [Argument; 9] = [
+static EXPORT: [Argument; 9] = [
     FILE,
     RUN,
     QUEUE,
@@ -49,6 +49,21 @@ const EXPORT: [Argument; 9] = [
     WITHOUT_SCRIPT,
     REFUSAL_JSON,
 ];
+
+/// Those of `normal`.
+static NORMAL: [Argument; 2] = [FILE, REFUSAL_JSON];
+
+/// Those of `check`.
+static CHECK: [Argument; 5] = [FILE, TASK, TASKS, FIGURES_JSON, STRICT];
+
+/// Those of `adapt`.
+static ADAPT_ARGUMENTS: [Argument; 3] = [FILE, RENAME, REFUSAL_JSON];
+
+/// Those of `keys`.
+static KEYS: [Argument; 4] = [FILE, RUN, PREFIX, REFUSAL_JSON];
+
+/// Those of `collect`.
+static COLLECT: [Argument; 4] = [FILE_ALONE, RUN, COMPLETE, JSON];
 
 impl Subcommand {
     fn about<'a>(self) -> &'a str {
@@ -80,23 +95,23 @@ impl Subcommand {
         }
     }
 
-    fn arguments<'a>(self, alloc: Global) -> Result<Vec<Arg<'a>>, AllocError> {
+    fn arguments<'a>(self) -> &'a [Argument] {
         match self {
-            Subcommand::Run => arguments_of(alloc, &RUN_ARGUMENTS),
-            Subcommand::Turns => arguments_of(alloc, &TURNS_ARGUMENTS),
-            Subcommand::Normal => arguments_of(alloc, &[FILE, REFUSAL_JSON]),
-            Subcommand::Check => { arguments_of(alloc, &[FILE, TASK, TASKS, FIGURES_JSON, STRICT]) }
-            Subcommand::Adapt => arguments_of(alloc, &[FILE, RENAME, REFUSAL_JSON]),
-            Subcommand::Graph => arguments_of(alloc, &GRAPH),
-            Subcommand::Messages => arguments_of(alloc, &MESSAGES),
-            Subcommand::Export => arguments_of(alloc, &EXPORT),
-            Subcommand::Keys => arguments_of(alloc, &[FILE, RUN, PREFIX, REFUSAL_JSON]),
-            Subcommand::Collect => arguments_of(alloc, &[FILE_ALONE, RUN, COMPLETE, JSON]),
+            Subcommand::Run => &RUN_ARGUMENTS,
+            Subcommand::Turns => &TURNS_ARGUMENTS,
+            Subcommand::Normal => &NORMAL,
+            Subcommand::Check => &CHECK,
+            Subcommand::Adapt => &ADAPT_ARGUMENTS,
+            Subcommand::Graph => &GRAPH,
+            Subcommand::Messages => &MESSAGES,
+            Subcommand::Export => &EXPORT,
+            Subcommand::Keys => &KEYS,
+            Subcommand::Collect => &COLLECT,
         }
     }
 
     fn as_clap<'a>(self, alloc: Global) -> Result<Command<'a>, AllocError> {
-        let arguments = self.arguments(alloc)?;
+        let arguments = arguments_of(alloc, self.arguments())?;
         Command::new(alloc, self.name())
             .about(self.about())
             .args(arguments)

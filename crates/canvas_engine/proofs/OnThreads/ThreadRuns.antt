@@ -38,14 +38,14 @@ use Rattle.canvas_worker.proofs.Polls.Stepping.{nothing_done}
 use Rattle.canvas_worker.specs.declared.record.Record.{Record}
 use Rattle.canvas_worker.specs.declared.cause.Cause.{Cause}
 use Rattle.canvas_worker.specs.declared.cause.Cause.TheVariants.{Memory, Stopped}
-use Rattle.canvas_engine.specs.Correct.{AreWorkers, IsThreadFault}
-use Rattle.canvas_engine.specs.Evidence.{IsRun, AreTallies}
+use Rattle.canvas_by_turns.specs.Correct.{AreWorkers}
+use Rattle.canvas_engine.specs.Evidence.{IsRun, AreTallies, IsThreadFault}
 use Rattle.canvas_engine.specs.steps.Crews.{Crew, IsStart, IsWellGathered, AreWanted, tallies_from}
 use Rattle.canvas_engine.specs.steps.Slots.{AllRan, IsWell, IsWhy, TakesIn, nothing_counted, tally_in}
 use Rattle.canvas_engine.specs.declared.threads.running.Start.{Start}
 use Rattle.canvas_engine.specs.declared.threads.slot.Slot.{Slot}
 use Rattle.canvas_engine.proofs.OnThreads.Slots.{each_ran, crew_of}
-use Rattle.canvas_engine.specs.declared.fault.RunFault.TheVariants.{Halted}
+use Rattle.canvas_by_turns.specs.declared.fault.RunFault.TheVariants.{Halted}
 use Rattle.canvas_engine.specs.declared.threads.records.Records.{Records}
 use Rattle.canvas_engine.specs.declared.threads.records.Tally.{Tally}
 

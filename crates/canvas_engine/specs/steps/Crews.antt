@@ -20,8 +20,8 @@ use Rattle.canvas_worker.specs.Polls.{IsWanted}
 use Rattle.canvas_worker.specs.declared.cause.Cause.{Cause}
 use Rattle.canvas_engine.specs.steps.Slots.{AreOfSite, IsReadySlot, SplitsOff, nothing_counted}
 use Rattle.canvas_engine.specs.declared.threads.records.Tally.{Tally}
-use Rattle.canvas_engine.specs.declared.fault.RunFault.{RunFault}
-use Rattle.canvas_engine.specs.declared.fault.RunFault.TheVariants.{BadWorkers, BadTurn, Halted}
+use Rattle.canvas_by_turns.specs.declared.fault.RunFault.{RunFault}
+use Rattle.canvas_by_turns.specs.declared.fault.RunFault.TheVariants.{BadWorkers, BadTurn, Halted}
 use Rattle.canvas_engine.specs.declared.threads.gathered.Gathered.{Gathered}
 use Rattle.canvas_engine.specs.declared.threads.running.Start.{Start}
 

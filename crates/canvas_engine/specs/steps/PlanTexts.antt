@@ -4,7 +4,7 @@ use Rattle.canvas_task.specs.Text.{Text}
 use Rattle.canvas_values.specs.CanvasText.{text_reading}
 use Rattle.canvas_semantics.specs.Tree.{Tree}
 use Rattle.canvas_engine.specs.Texts.{IsStored}
-use Rattle.canvas_engine.specs.declared.fault.RunFault.{RunFault}
+use Rattle.canvas_by_turns.specs.declared.fault.RunFault.{RunFault}
 use Rattle.canvas_engine.specs.declared.text.TextFault.{TextFault}
 use Rattle.canvas_engine.specs.declared.text.TextFault.TheVariants.{Sig, Run, Memory}
 

@@ -9,8 +9,8 @@ ghost use Rattle.canvas_history.specs.Callers.{told};
 ghost use Rattle.canvas_worker.specs.Finished.{Finished};
 ghost use Rattle.canvas_runs.specs.Following.{Serves};
 ghost use Rattle.canvas_callers.specs.Rows.{reads_from};
-ghost use Rattle.canvas_engine.specs.Correct.{AreWorkers, IsThreadFault};
-ghost use Rattle.canvas_engine.specs.Evidence.{IsRun};
+ghost use Rattle.canvas_by_turns.specs.Correct.{AreWorkers};
+ghost use Rattle.canvas_engine.specs.Evidence.{IsRun, IsThreadFault};
 ghost use Rattle.canvas_engine.specs.Headline.{OnlyWanted};
 ghost use Rattle.canvas_engine.specs.steps.Crews.{AreGathered, HaveWorked, IsHaltedFor};
 

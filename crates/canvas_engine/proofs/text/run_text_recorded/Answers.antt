@@ -1,4 +1,4 @@
-use Rattle.canvas_engine.specs.Correct.{IsThreadFault}
+use Rattle.canvas_engine.specs.Evidence.{IsThreadFault}
 use Rattle.canvas_engine.proofs.SameText.{ran_recorded, ran_fault}
 use Rattle.canvas_engine.proofs.text.run_text_recorded.Goals as goal
 

@@ -10,8 +10,7 @@ use Rattle.canvas_semantics.specs.States.{EachMay}
 use Rattle.canvas_runs.specs.Tally.{greatest_count}
 use Rattle.canvas_callers.specs.Rows.{reads_from}
 use Rattle.canvas_worker.specs.Finished.{Finished}
-use Rattle.canvas_engine.specs.Correct.{IsThreadFault}
-use Rattle.canvas_engine.specs.Evidence.{IsRun}
+use Rattle.canvas_engine.specs.Evidence.{IsRun, IsThreadFault}
 use Rattle.canvas_engine.specs.steps.Crews.{tallies_from}
 use Rattle.canvas_engine.specs.declared.threads.records.Tally.{Tally}
 use Rattle.canvas_engine.proofs.OnThreads.Slots.{finished_of}

@@ -6,7 +6,7 @@ use Rattle.canvas_history.specs.Roster.{roster_of}
 use Rattle.canvas_runs.specs.Following.{Serves}
 use Rattle.canvas_semantics.specs.States.{EachMay}
 use Rattle.canvas_callers.specs.Rows.{reads_from}
-use Rattle.canvas_engine.specs.Correct.{IsThreadFault}
+use Rattle.canvas_engine.specs.Evidence.{IsThreadFault}
 use Rattle.canvas_engine.specs.steps.Crews.{IsHaltedFor}
 use Rattle.canvas_engine.proofs.OnThreads.ThreadRuns.{halted_may, unworked_may}
 use Rattle.canvas_engine.proofs.threads.gathered.Gathered.halt.Goals as goal

@@ -1,0 +1,58 @@
+-- What a run by turns with entries leaves, of at most so many answered asks.
+--     IsAgainWithin l n turns es most rows m    the rows of one that went on until all workers had
+--                                               ended, and how many of its stores answered Again
+--     IsKeptWithin .. keeps .. sent             the same, with what it kept of what it published
+--     IsCutAgain l n turns es most rows         the rows of one that was cut off, with some worker
+--                                               that had not ended
+--     IsAgainFault                              why there is no whole report
+use Rattle.std.specs.Prelude.{◌≡◌, ◌≤◌, ◌+◌, ℕ, Bool, List, length, Some, None, IfSome}
+use Rattle.canvas_task.specs.Apply.{Behaviour}
+use Rattle.canvas_semantics.specs.Evaluation.{State}
+use Rattle.canvas_semantics.specs.Line.{Line, tree_of}
+use Rattle.canvas_semantics.specs.States.{states, EachMay}
+use Rattle.canvas_turns.specs.Spending.{Entry, ByEntries}
+use Rattle.canvas_turns.specs.TurnLaws.{held_rows}
+use Rattle.canvas_turns.specs.Turns.{Step, IsWorker, HasEnded, Begins, redeliveries_in}
+use Rattle.canvas_worker.specs.declared.cause.Cause.TheVariants.{Memory, Stopped}
+use Rattle.canvas_by_turns.specs.Correct.{AreWorkers, AreTurns, IsAsked, IsWholeAgain}
+use Rattle.canvas_message.specs.declared.envelope.Envelope.{Envelope}
+use Rattle.canvas_by_turns.specs.Traced.{sent_after}
+use Rattle.canvas_by_turns.specs.steps.Noting.{kept}
+use Rattle.canvas_by_turns.specs.declared.fault.RunFault.{RunFault}
+use Rattle.canvas_by_turns.specs.declared.fault.RunFault.TheVariants.{BadWorkers, BadTurn, Halted}
+
+abbrev pub IsAgainWithin : (behaviour : Behaviour) → Line → ℕ → List ℕ → List Entry → ℕ → List State
+    → ℕ → Type 0
+IsAgainWithin behaviour l n turns es most rows m =
+    (whole : IsWholeAgain behaviour l n turns es rows m)
+    × (length whole.run.steps ≤ most + redeliveries_in whole.run.steps)
+
+abbrev pub IsKeptWithin : (behaviour : Behaviour) → Line → ℕ → List ℕ → List Entry → ℕ → Bool
+    → List State → ℕ → List Envelope → Type 0
+IsKeptWithin behaviour l n turns es most keeps rows m sent =
+    (within : IsAgainWithin behaviour l n turns es most rows m)
+    × (sent ≡ kept keeps (sent_after l within.0.run.steps))
+
+pub record IsCutAgain (behaviour : Behaviour) (l : Line) (n : ℕ) (turns : List ℕ) (es : List Entry)
+    (most : ℕ) (rows : List State) : Type 0 where
+  pub so_far : List ℕ
+  pub begin : Begins so_far turns n
+  pub steps : List Step
+  pub rest : List Entry
+  pub by_entries : ByEntries behaviour l n es so_far steps rest
+  pub many : length steps ≡ most + redeliveries_in steps
+  pub going : ℕ
+  pub is_worker : IsWorker n going
+  pub has_more : HasEnded behaviour l steps going → ⊥
+  pub rows_held : rows ≡ held_rows l steps
+  pub may : EachMay rows (states behaviour (tree_of l))
+
+abbrev pub IsAgainFault : (behaviour : Behaviour) → Line → ℕ → List ℕ → List Entry → ℕ → RunFault
+    → Type 0
+IsAgainFault behaviour l n turns es most BadWorkers = AreWorkers n → ⊥
+IsAgainFault behaviour l n turns es most BadTurn = AreWorkers n × (AreTurns n turns → ⊥)
+IsAgainFault behaviour l n turns es most (Halted Memory rows) =
+    IsAsked n turns × IfSome rows (λ r. EachMay r.rows (states behaviour (tree_of l)))
+IsAgainFault behaviour l n turns es most (Halted Stopped None) = ⊥
+IsAgainFault behaviour l n turns es most (Halted Stopped (Some report)) =
+    IsAsked n turns × IsCutAgain behaviour l n turns es most report.rows

@@ -1,0 +1,357 @@
+//! Runs by turns.
+ghost use Rattle.std.specs.Prelude.{◌≡◌, ◌≢◌, ◌≤◌, ◌<◌, ◌*◌, ◌^◌, suc, ℕ, All, List, [], None, length, IfOk, IfErr, OnOk, OnErr, MatchBool};
+ghost use Rattle.canvas_semantics.specs.Line.{count_line, tree_of};
+ghost use Rattle.canvas_rewrite.specs.Planned.{IsPlan};
+ghost use Rattle.canvas_semantics.specs.States.{states};
+ghost use Rattle.canvas_history.specs.Table.{no_results};
+ghost use Rattle.canvas_backend.specs.Plain.{held};
+ghost use Rattle.canvas_history.specs.Roster.{roster_of};
+ghost use Rattle.canvas_turns.specs.Going.{most_steps};
+ghost use Rattle.canvas_turns.specs.Turns.{Step, IsWorker};
+ghost use Rattle.canvas_by_turns.specs.Correct.{AreWorkers, AreTurns, IsAsked, IsWholeRun, IsWholeWithin, IsWholeAgain, IsRunFault, IsFaultWithin};
+ghost use Rattle.canvas_by_turns.specs.Traced.{IsTraced};
+ghost use Rattle.canvas_by_turns.specs.steps.AgainRuns.{IsKeptWithin, IsAgainFault};
+ghost use Rattle.canvas_by_turns.specs.steps.Stages.{rows_of, Given, Reached, HasReached, IsNew, IsPartOfRound, IsHaltInRound, IsRunThrough, IsEarlyEnd};
+
+use crate::RunFault;
+use crate::stage::Stage;
+use canvas_message::Envelope;
+use canvas_report::Report;
+use canvas_rewrite::Plan;
+use canvas_semantics::MOST_WORKERS;
+use canvas_task::{Fault, ListOf, Memory, Outcome, TaskNo, Tasks};
+use canvas_worker::{Cause, When};
+use std::alloc::Global;
+
+/// A turn of each worker, from the first to the last. Whether an ask was answered.
+fn run_round<T: Tasks>(
+    alloc: Global,
+    stage: &mut Stage,
+    plan: &Plan,
+    tasks: &T,
+    workers: u32,
+) -> Result<bool, Cause>
+    requires { (most : ℕ) × (given : Given) × (us : List ℕ)
+        × HasReached (T.behaviour tasks.now) plan.now workers most given us stage.old }
+    ensures ok { IfOk result (λ b. (most : ℕ) (given : Given) (us : List ℕ) (xs : List Step)
+        → Reached (T.behaviour tasks.now) plan.now workers most given us xs stage.old
+        → IsPartOfRound (T.behaviour tasks.now) b plan.now workers most given us xs workers
+        stage.old.steps stage.new) }
+    ensures err { IfErr result (λ cause. (most : ℕ) (given : Given) (us : List ℕ) (xs : List Step)
+        → Reached (T.behaviour tasks.now) plan.now workers most given us xs stage.old
+        → IsHaltInRound (T.behaviour tasks.now) cause plan.now workers most given us stage.new) }
+{
+    let mut answered = false;
+    for index in 0..workers {
+        match stage.turn(alloc, plan, tasks, index + 1) {
+            Ok(is_answered) => answered |= is_answered,
+            Err(cause) => return Err(cause),
+        }
+    }
+    Ok(answered)
+}
+
+/// The turns of a list.
+fn run_list<T: Tasks>(
+    alloc: Global,
+    stage: &mut Stage,
+    plan: &Plan,
+    tasks: &T,
+    workers: u32,
+    turns: &[u32],
+) -> Result<(), Cause>
+    requires reached { (most : ℕ) × (given : Given)
+        × Reached (T.behaviour tasks.now) plan.now workers most given [] [] stage.old }
+    requires turns { AreTurns workers turns.now }
+    ensures ok { OnOk result ((most : ℕ) (given : Given)
+        → Reached (T.behaviour tasks.now) plan.now workers most given [] [] stage.old
+        → HasReached (T.behaviour tasks.now) plan.now workers most given turns.now stage.new) }
+    ensures err { IfErr result (λ cause. (most : ℕ) (given : Given)
+        → Reached (T.behaviour tasks.now) plan.now workers most given [] [] stage.old
+        → IsEarlyEnd (T.behaviour tasks.now) cause plan.now workers most given turns.now
+        stage.new) }
+{
+    for worker in turns {
+        match stage.turn(alloc, plan, tasks, *worker) {
+            Ok(_answered) => (),
+            Err(cause) => return Err(cause),
+        }
+    }
+    Ok(())
+}
+
+/// Turns in rotation, until all workers are at their ends.
+fn run_rounds<T: Tasks>(
+    alloc: Global,
+    stage: &mut Stage,
+    plan: &Plan,
+    tasks: &T,
+    workers: u32,
+    turns: &[u32],
+) -> Result<(), Cause>
+    requires { (most : ℕ) × (given : Given)
+        × HasReached (T.behaviour tasks.now) plan.now workers most given turns.now stage.old }
+    ensures ok { OnOk result ((most : ℕ) (given : Given)
+        → HasReached (T.behaviour tasks.now) plan.now workers most given turns.now stage.old
+        → IsRunThrough (T.behaviour tasks.now) plan.now workers most given turns.now stage.new) }
+    ensures err { IfErr result (λ cause. (most : ℕ) (given : Given)
+        → HasReached (T.behaviour tasks.now) plan.now workers most given turns.now stage.old
+        → IsEarlyEnd (T.behaviour tasks.now) cause plan.now workers most given turns.now
+        stage.new) }
+{
+    loop {
+        match run_round(alloc, stage, plan, tasks, workers) {
+            Ok(true) => (),
+            Ok(false) => return Ok(()),
+            Err(cause) => return Err(cause),
+        }
+    }
+}
+
+/// Publishes the first messages, and runs.
+fn run_stage<T: Tasks>(
+    alloc: Global,
+    stage: &mut Stage,
+    plan: &Plan,
+    tasks: &T,
+    workers: u32,
+    turns: &[u32],
+) -> Result<(), Cause>
+    requires planned { IsPlan plan.now }
+    requires new { IsNew plan.now workers stage.old }
+    requires turns { AreTurns workers turns.now }
+    ensures ok { OnOk result (IsRunThrough (T.behaviour tasks.now) plan.now workers stage.old.steps
+        (stage.old.again.items, stage.old.sent.keeps) turns.now stage.new) }
+    ensures err { IfErr result (λ cause. IsEarlyEnd (T.behaviour tasks.now) cause plan.now workers
+        stage.old.steps (stage.old.again.items, stage.old.sent.keeps) turns.now stage.new) }
+{
+    match stage.open(alloc, plan) {
+        Ok(()) => match run_list(alloc, stage, plan, tasks, workers, turns) {
+            Ok(()) => run_rounds(alloc, stage, plan, tasks, workers, turns),
+            Err(cause) => Err(cause),
+        },
+        Err(Memory) => Err(Cause::Memory),
+    }
+}
+
+/// Rows that hold nothing yet, one for each task.
+pub fn new_rows(alloc: Global, plan: &Plan) -> Result<Vec<Option<Outcome>>, Memory>
+    ensures rows { IfOk result (λ rows. length rows.items ≡ count_line plan.now) }
+    ensures pending { IfOk result (λ rows. All (λ s. s ≡ None) rows.items) }
+    ensures planned { IsPlan plan.now }
+{
+    // A proof about rows is made only where the type of a failure's fault is named.
+    let _none: Option<Fault> = None;
+    Ok(Vec::from_elem(alloc, None, plan.tasks() as usize)?)
+}
+
+/// The report of a stage, whose rows were reserved.
+fn report_of(stage: &Stage, plan: &Plan, rows: Vec<Option<Outcome>>) -> Report
+    requires plan { stage.now.table.plan ≡ roster_of plan.now }
+    requires rows { length rows.items ≡ count_line plan.now }
+    ensures { result.rows ≡ rows_of (count_line plan.now) (held stage.now.table) }
+{
+    let mut rows = rows;
+    stage.read_rows(plan, &mut rows);
+    Report {
+        rows: ListOf::of(rows),
+    }
+}
+
+/// What a run by turns leaves: its report, how many stores answered Again, and copies of what it
+/// published, where it was to keep them.
+#[derive(Drop)]
+struct Ran {
+    report: Report,
+    repeats: u64,
+    sent: Vec<Envelope>,
+}
+
+/// Runs a plan, at most so many asks being answered.
+fn run_steps<T: Tasks>(
+    alloc: Global,
+    plan: &Plan,
+    tasks: &T,
+    workers: u32,
+    turns: &[u32],
+    again: &[(TaskNo, When)],
+    keeps: bool,
+    steps: u128,
+) -> Result<Ran, RunFault>
+    requires { IsAsked workers turns.now }
+    ensures ok { IfOk result (λ r. IsKeptWithin (T.behaviour tasks.now) plan.now workers turns.now
+        again.now steps keeps r.report.rows r.repeats r.sent.items) }
+    ensures err { IfErr result
+        (IsAgainFault (T.behaviour tasks.now) plan.now workers turns.now again.now steps) }
+{
+    let Ok(rows) = new_rows(alloc, plan) else {
+        return Err(RunFault::halted(Cause::Memory));
+    };
+    let Ok(mut stage) = Stage::new(alloc, plan, workers, again, steps, keeps) else {
+        return Err(RunFault::halted(Cause::Memory));
+    };
+    match run_stage(alloc, &mut stage, plan, tasks, workers, turns) {
+        Ok(()) => Ok(Ran {
+            report: report_of(&stage, plan, rows),
+            repeats: stage.repeats(),
+            sent: stage.into_sent(),
+        }),
+        Err(cause) => Err(RunFault::Halted {
+            cause,
+            rows: Some(report_of(&stage, plan, rows)),
+        }),
+    }
+}
+
+fn are_turns(turns: &[u32], workers: u32) -> bool
+    ensures { MatchBool result (AreTurns workers turns.now) (AreTurns workers turns.now → ⊥) }
+{
+    turns.iter().all(|turn| *turn >= 1 && *turn <= workers)
+}
+
+/// Checks what is asked for, then runs.
+fn run_checked<T: Tasks>(
+    alloc: Global,
+    plan: &Plan,
+    tasks: &T,
+    workers: u32,
+    turns: &[u32],
+    again: &[(TaskNo, When)],
+    keeps: bool,
+    steps: u128,
+) -> Result<Ran, RunFault>
+    ensures ok { IfOk result (λ r. IsAsked workers turns.now
+        × IsKeptWithin (T.behaviour tasks.now) plan.now workers turns.now again.now steps keeps
+        r.report.rows r.repeats r.sent.items) }
+    ensures err { IfErr result
+        (IsAgainFault (T.behaviour tasks.now) plan.now workers turns.now again.now steps) }
+{
+    if workers < 1 || workers > MOST_WORKERS {
+        return Err(RunFault::BadWorkers);
+    }
+    if are_turns(turns, workers) {
+        run_steps(alloc, plan, tasks, workers, turns, again, keeps, steps)
+    } else {
+        Err(RunFault::BadTurn)
+    }
+}
+
+/// One more than the asks that a run of the plan may have.
+fn more_than_all(plan: &Plan, workers: u32, turns: &[u32], again: &[(TaskNo, When)]) -> u128
+    ensures value { result
+        ≡ suc (most_steps plan.now workers (length turns.now) (length again.now)) }
+    ensures planned { IsPlan plan.now }
+{
+    let tasks = plan.tasks() as u128;
+    let entries = again.len() as u128;
+    let calls = product(tasks + 5, tasks + 1) + 4 * entries;
+    turns.len() as u128 + product(2 * (calls + 1), workers as u128) + entries + 1
+}
+
+/// A function for its contract's sake: its bounds say that the product fits.
+fn product(left: u128, right: u128) -> u128
+    requires left { left < 2 ^ 80 }
+    requires right { right < 2 ^ 40 }
+    ensures value { result ≡ left * right }
+    ensures small { result < 2 ^ 120 }
+{
+    left * right
+}
+
+/// Runs a plan with 1 to 16 workers on one thread. Each turn lets that worker have one ask
+/// answered; after the list the workers take turns in rotation from 1, until all are at their ends.
+/// A worker at its end skips its turn.
+pub fn run_turns<T: Tasks>(
+    alloc: Global,
+    plan: &Plan,
+    tasks: &T,
+    workers: u32,
+    turns: &[u32],
+) -> Result<Report, RunFault>
+    ensures ok { IfOk result (λ report. IsAsked workers turns.now
+        × IsWholeRun (T.behaviour tasks.now) plan.now workers turns.now report.rows) }
+    ensures err { IfErr result
+        (IsRunFault workers turns.now (states (T.behaviour tasks.now) (tree_of plan.now))) }
+{
+    match run_turns_again(alloc, plan, tasks, workers, turns, &[]) {
+        Ok((report, _again)) => Ok(report),
+        Err(fault) => Err(fault),
+    }
+}
+
+/// As `run_turns`, but envelopes are delivered again where `again` says so: a worker whose message
+/// has come to a point, before its first store or before its acknowledgement, spends the first
+/// unspent entry for its task and that point, and has a copy of its envelope published within the
+/// same turn, before its ask is answered. An entry for a task that isn't run does nothing. With the
+/// report it tells how many stores answered Again.
+pub fn run_turns_again<T: Tasks>(
+    alloc: Global,
+    plan: &Plan,
+    tasks: &T,
+    workers: u32,
+    turns: &[u32],
+    again: &[(TaskNo, When)],
+) -> Result<(Report, u64), RunFault>
+    ensures ok { IfOk result (λ r. IsAsked workers turns.now
+        × IsWholeAgain (T.behaviour tasks.now) plan.now workers turns.now again.now r.0.rows
+        r.1) }
+    ensures err { IfErr result
+        (IsRunFault workers turns.now (states (T.behaviour tasks.now) (tree_of plan.now))) }
+{
+    let steps = more_than_all(plan, workers, turns, again);
+    match run_checked(alloc, plan, tasks, workers, turns, again, false, steps) {
+        Ok(ran) => Ok((ran.report, ran.repeats)),
+        Err(fault) => Err(fault),
+    }
+}
+
+/// As `run_turns`. With the report it gives a copy of each envelope that was published, in the
+/// order in which they were: those of the tasks that start at once, and what each turn published.
+pub fn run_turns_traced<T: Tasks>(
+    alloc: Global,
+    plan: &Plan,
+    tasks: &T,
+    workers: u32,
+    turns: &[u32],
+) -> Result<(Report, Vec<Envelope>), RunFault>
+    ensures ok { IfOk result (λ r. IsAsked workers turns.now
+        × IsTraced (T.behaviour tasks.now) plan.now workers turns.now r.0.rows r.1.items) }
+    ensures err { IfErr result
+        (IsRunFault workers turns.now (states (T.behaviour tasks.now) (tree_of plan.now))) }
+{
+    let steps = more_than_all(plan, workers, turns, &[]);
+    match run_checked(alloc, plan, tasks, workers, turns, &[], true, steps) {
+        Ok(ran) => Ok((ran.report, ran.sent)),
+        Err(fault) => Err(fault),
+    }
+}
+
+/// As `run_turns`, but halted, as stopped, once `steps` asks have been answered and some worker
+/// isn't at its end.
+pub fn run_turns_within<T: Tasks>(
+    alloc: Global,
+    plan: &Plan,
+    tasks: &T,
+    workers: u32,
+    turns: &[u32],
+    steps: u64,
+) -> Result<Report, RunFault>
+    ensures ok { IfOk result (λ report. IsAsked workers turns.now
+        × IsWholeWithin (T.behaviour tasks.now) plan.now workers turns.now steps report.rows) }
+    ensures err { IfErr result
+        (IsFaultWithin (T.behaviour tasks.now) plan.now workers turns.now steps) }
+{
+    match run_checked(
+        alloc,
+        plan,
+        tasks,
+        workers,
+        turns,
+        &[],
+        false,
+        steps as u128,
+    ) {
+        Ok(ran) => Ok(ran.report),
+        Err(fault) => Err(fault),
+    }
+}

@@ -1,0 +1,368 @@
+//! The workers of a run on one thread, with the queue and the table of results that they share.
+ghost use Rattle.std.specs.Prelude.{◌≡◌, ◌≤◌, ◌<◌, ◌+◌, ◌++◌, ◌∷◌, ℕ, Bool, Some, None, false, true, not, ◌||◌, [], List, map, length, IfOk, IfErr, OnOk, OnErr, IsTrue, IsSome, MatchBool, slice_get};
+ghost use Rattle.std.specs.List.{list_any};
+ghost use Rattle.canvas_semantics.specs.Line.{count_line};
+ghost use Rattle.canvas_rewrite.specs.Planned.{IsPlan};
+ghost use Rattle.canvas_effects.specs.Effects.{first_messages};
+ghost use Rattle.canvas_history.specs.Table.{no_results};
+ghost use Rattle.canvas_backend.specs.Plain.{held};
+ghost use Rattle.canvas_history.specs.Roster.{roster_of};
+ghost use Rattle.canvas_runs.specs.Core.{end, rest, ReadsBack, is_inside};
+ghost use Rattle.canvas_runs.specs.Tally.{greatest_count};
+ghost use Rattle.canvas_runs.specs.Worker.{sealed};
+ghost use Rattle.canvas_turns.specs.Turns.{Step, IsWorker, FirstsRead, is_queued};
+ghost use Rattle.canvas_worker.specs.Asks.{shown};
+ghost use Rattle.canvas_worker.specs.Books.{no_book};
+ghost use Rattle.canvas_worker.specs.EnvelopeWorker.{enveloped_by, no_tasks};
+ghost use Rattle.canvas_worker.specs.CoreState as standing;
+ghost use Rattle.canvas_worker.specs.CoreState.{Standing, asked};
+ghost use Rattle.canvas_worker.specs.declared.ask.Ask.TheVariants as ask;
+ghost use Rattle.canvas_by_turns.specs.Traced.{sent_by};
+ghost use Rattle.canvas_by_turns.specs.steps.Noting.{Noted};
+ghost use Rattle.canvas_by_turns.specs.steps.Stages.{rows_of, MayAsk, AreInRange, Stepped, IsTried, store_answer, counted_on, Redelivers, AreNew, Given, Reached, HasReached, IsTurn, IsHalt, IsNew};
+
+use crate::entries::first_for;
+use crate::firsts::first_envelopes;
+use crate::sent::Sent;
+use canvas_backend::{PlainBackend, Stored};
+use canvas_broker::PlainBroker;
+use canvas_message::{Envelope, Letter};
+use canvas_rewrite::Plan;
+use canvas_task::{Memory, Outcome, TaskNo, Tasks};
+use canvas_worker::{Ask, Cause, Core, Reply, When};
+use std::alloc::Global;
+
+/// Publishes what a worker hands out.
+fn publish<T: Tasks>(
+    alloc: Global,
+    core: &mut Core,
+    queue: &mut PlainBroker,
+    table: &PlainBackend,
+    sent: &mut Sent,
+    tasks: &T,
+) -> Result<(), Memory>
+    requires inside { core.old.is_out ≡ false }
+    requires reads_back { ReadsBack (enveloped_by no_tasks no_book) core.old.left }
+    requires asks { shown core.old.task (asked core.old.left) ≡ ask.Publish }
+    ensures ok { OnOk result ((more : Bool)
+        → Stepped (T.behaviour tasks.now) more core.old queue.old table.now core.new queue.new
+        table.now) }
+    ensures sent { OnOk result (Noted sent.old (sent_by (asked core.old.left)) sent.new) }
+{
+    match core.envelope() {
+        Some(envelope) => {
+            sent.note(&envelope)?;
+            match queue.publish(envelope) {
+                Ok(()) => core.answer(alloc, table.roster(), tasks, Reply::Published),
+                Err(_refused) => Err(Memory),
+            }
+        }
+        None => unreachable!(),
+    }
+}
+
+/// A count with one more where a store answered Again. It stays at its greatest value.
+fn count_again(repeats: u64, stored: Stored) -> u64
+    ensures { result ≡ counted_on repeats stored }
+{
+    match stored {
+        Stored::First => repeats,
+        Stored::Again => repeats.saturating_add(1),
+    }
+}
+
+/// One ask of a worker, answered by the queue and the table. A worker that rests is told whether
+/// there is more. A store that answers Again is counted, and a publish noted.
+fn step<T: Tasks>(
+    alloc: Global,
+    core: &mut Core,
+    queue: &mut PlainBroker,
+    table: &mut PlainBackend,
+    repeats: &mut u64,
+    sent: &mut Sent,
+    tasks: &T,
+    more: bool,
+) -> Result<(), Memory>
+    requires inside { core.old.is_out ≡ false }
+    requires may { MayAsk table.old.plan (held table.old) (asked core.old.left) }
+    requires in_range { AreInRange (held table.old) }
+    requires going { asked core.old.left ≡ end → ⊥ }
+    ensures ok { OnOk result (Stepped (T.behaviour tasks.now) more core.old queue.old table.old
+        core.new queue.new table.new) }
+    ensures sent { OnOk result (Noted sent.old (sent_by (asked core.old.left)) sent.new) }
+    ensures again { repeats.new
+        ≡ counted_on repeats.old (store_answer (held table.old) (asked core.old.left)) }
+    ensures err { OnErr result
+        (IsTried (T.behaviour tasks.now) more core.old queue.old table.old table.new) }
+{
+    match core.next() {
+        Ask::Take => core.answer(alloc, table.roster(), tasks, Reply::Taken(queue.take())),
+        Ask::Publish => publish(alloc, core, queue, table, sent, tasks),
+        Ask::Store(task, outcome) => {
+            let stored = table.store(task, &outcome);
+            *repeats = count_again(*repeats, stored);
+            core.answer(alloc, table.roster(), tasks, Reply::Stored(stored))
+        }
+        Ask::Part(group, task) => {
+            let count = table.part(group, task);
+            core.answer(alloc, table.roster(), tasks, Reply::Counted(count))
+        }
+        Ask::Read(task) => core.answer(
+            alloc,
+            table.roster(),
+            tasks,
+            Reply::Found(table.read(task)),
+        ),
+        Ask::Ack(_) => core.answer(alloc, table.roster(), tasks, Reply::Acked),
+        Ask::Rest => core.answer(alloc, table.roster(), tasks, Reply::Rested { more }),
+        Ask::End => Ok(()),
+    }
+}
+
+/// Publishes envelopes in their order.
+fn publish_all(queue: &mut PlainBroker, envelopes: Vec<Letter>) -> Result<(), Memory>
+    ensures { OnOk result (queue.new ≡ queue.old ++ envelopes.items) }
+{
+    for envelope in envelopes {
+        match queue.publish(envelope) {
+            Ok(()) => (),
+            Err(_refused) => return Err(Memory),
+        }
+    }
+    Ok(())
+}
+
+/// Whether a worker asks for nothing more.
+fn has_ended(core: &Core) -> bool
+    ensures end { MatchBool result (asked core.now.left ≡ end) (asked core.now.left ≡ end → ⊥) }
+    ensures reads_back { core.now.is_out ≡ false
+        → ReadsBack (enveloped_by no_tasks no_book) core.now.left }
+{
+    match core.next() {
+        Ask::End => true,
+        _ => false,
+    }
+}
+
+/// A copy of the entries that a run is given.
+fn copied(alloc: Global, entries: &[(TaskNo, When)]) -> Result<Vec<(TaskNo, When)>, Memory>
+    ensures copy { IfOk result (λ copy. copy.items ≡ entries.now) }
+    ensures few { length entries.now ≤ greatest_count }
+{
+    let mut copy = Vec::with_capacity(alloc, entries.len())?;
+    for entry in entries {
+        copy.push(*entry)?;
+    }
+    Ok(copy)
+}
+
+/// The workers, numbered from 1, with what they share.
+#[derive(Drop)]
+pub(crate) struct Stage {
+    queue: PlainBroker,
+    table: PlainBackend,
+    cores: Vec<Core>,
+    /// How many asks may still be answered.
+    steps: u128,
+    /// The entries that are unspent.
+    again: Vec<(TaskNo, When)>,
+    /// How many stores have answered Again.
+    repeats: u64,
+    sent: Sent,
+}
+
+/// Workers that have asked for nothing yet.
+fn new_cores(alloc: Global, workers: u32) -> Result<Vec<Core>, Memory>
+    ensures { IfOk result (λ cores. (length cores.items ≡ workers) × AreNew cores.items) }
+{
+    let mut cores = Vec::new(alloc);
+    for _worker in 0..workers {
+        cores.push(Core::new(alloc))?;
+    }
+    Ok(cores)
+}
+
+fn is_any_inside(cores: &[Core]) -> bool
+    ensures { result ≡ list_any (λ c. is_inside c.left) cores.now }
+{
+    cores.iter().any(|core| core.is_inside())
+}
+
+impl Stage {
+    /// A stage before the first publish.
+    pub(crate) fn new(
+        alloc: Global,
+        plan: &Plan,
+        workers: u32,
+        again: &[(TaskNo, When)],
+        steps: u128,
+        keeps: bool,
+    ) -> Result<Stage, Memory>
+        ensures new { IfOk result (λ s. IsNew plan.now workers s) }
+        ensures steps { IfOk result (λ s. s.steps ≡ steps) }
+        ensures again { IfOk result (λ s. s.again.items ≡ again.now) }
+        ensures keeps { IfOk result (λ s. s.sent.keeps ≡ keeps) }
+        ensures few { OnOk result (length again.now ≤ greatest_count) }
+    {
+        let cores = new_cores(alloc, workers)?;
+        let table = PlainBackend::new(alloc, plan)?;
+        let again = copied(alloc, again)?;
+        Ok(Stage {
+            queue: PlainBroker::new(alloc),
+            table,
+            cores,
+            steps,
+            again,
+            repeats: 0,
+            sent: Sent::new(alloc, keeps),
+        })
+    }
+
+    /// Publishes the messages of the tasks that start at once.
+    pub(crate) fn open(&mut self, alloc: Global, plan: &Plan) -> Result<(), Memory>
+        requires { self.old.queue ≡ [] }
+        ensures queue { OnOk result (self.new.queue ≡ map sealed (first_messages plan.now)) }
+        ensures back { OnOk result (FirstsRead plan.now) }
+        ensures others { (self.new.table ≡ self.old.table) × (self.new.cores ≡ self.old.cores)
+            × (self.new.steps ≡ self.old.steps) }
+        ensures entries { (self.new.again ≡ self.old.again)
+            × (self.new.repeats ≡ self.old.repeats) }
+        ensures sent { OnOk result
+            (Noted self.old.sent (map sealed (first_messages plan.now)) self.new.sent) }
+    {
+        match first_envelopes(alloc, plan) {
+            Ok(envelopes) => {
+                self.sent.note_all(&envelopes)?;
+                publish_all(&mut self.queue, envelopes)
+            }
+            Err(Memory) => Err(Memory),
+        }
+    }
+
+    /// Whether the queue holds something or a worker is inside a message.
+    fn holds_more(&self) -> bool
+        ensures { result
+            ≡ (is_queued self.now.queue || list_any (λ c. is_inside c.left) self.now.cores.items) }
+    {
+        !self.queue.is_empty() || is_any_inside(&self.cores)
+    }
+
+    /// What a worker that rests is told.
+    fn tells_more(&self, index: usize) -> bool
+        requires { index < length self.now.cores.items }
+        ensures { (core : Standing) → slice_get self.now.cores.items index ≡ Some core
+            → asked core.left ≡ rest
+            → result
+            ≡ (is_queued self.now.queue
+            || list_any (λ c. is_inside c.left) self.now.cores.items) }
+    {
+        match self.cores[index].next() {
+            Ask::Rest => self.holds_more(),
+            _ => false,
+        }
+    }
+
+    /// Has the envelope that a worker holds delivered again, where an entry for the point to which
+    /// the worker has come is unspent. That entry is spent.
+    fn deliver_again(&mut self, alloc: Global, index: usize) -> Result<(), Memory>
+        requires index { index < length self.old.cores.items }
+        requires holds { (core : Standing) → slice_get self.old.cores.items index ≡ Some core
+            → is_inside core.left ≡ true → IsSome (standing.held core) }
+        ensures ok { OnOk result ((core : Standing)
+            → slice_get self.old.cores.items index ≡ Some core
+            → Redelivers core self.old self.new) }
+        ensures table { self.new.table ≡ self.old.table }
+    {
+        let core = &self.cores[index];
+        let Some(point) = core.point() else {
+            return Ok(());
+        };
+        let Some(entry) = first_for(&self.again, &point) else {
+            return Ok(());
+        };
+        let copy = match core.held() {
+            Some(envelope) => envelope.copy(alloc)?,
+            None => unreachable!(),
+        };
+        match self.queue.publish(copy) {
+            Ok(()) => {
+                self.again.remove(entry);
+                Ok(())
+            }
+            Err(_refused) => Err(Memory),
+        }
+    }
+
+    /// How many stores have answered Again.
+    pub(crate) fn repeats(&self) -> u64
+        ensures { result ≡ self.now.repeats }
+    {
+        self.repeats
+    }
+
+    /// What was published, where it was to be kept.
+    pub(crate) fn into_sent(self) -> Vec<Envelope>
+        ensures { result ≡ self.sent.envelopes }
+    {
+        self.sent.into_envelopes()
+    }
+
+    /// A worker's turn: one ask of it is answered, unless it is at its end. Whether one was. An
+    /// entry for the point to which it has come is spent before.
+    pub(crate) fn turn<T: Tasks>(
+        &mut self,
+        alloc: Global,
+        plan: &Plan,
+        tasks: &T,
+        worker: u32,
+    ) -> Result<bool, Cause>
+        requires { (n : ℕ) × (most : ℕ) × (given : Given) × (us : List ℕ) × IsWorker n worker
+            × HasReached (T.behaviour tasks.now) plan.now n most given us self.old }
+        ensures ok { IfOk result (λ b. (n : ℕ) (most : ℕ) (given : Given) (us : List ℕ)
+            (xs : List Step) → Reached (T.behaviour tasks.now) plan.now n most given us xs self.old
+            → IsTurn (T.behaviour tasks.now) b plan.now n most given us xs worker self.new) }
+        ensures err { IfErr result (λ cause. (n : ℕ) (most : ℕ) (given : Given) (us : List ℕ)
+            (xs : List Step) → Reached (T.behaviour tasks.now) plan.now n most given us xs self.old
+            → IsHalt (T.behaviour tasks.now) cause plan.now n most given us self.new) }
+    {
+        let index = worker as usize - 1;
+        if has_ended(&self.cores[index]) {
+            return Ok(false);
+        }
+        if self.steps == 0 {
+            return Err(Cause::Stopped);
+        }
+        match self.deliver_again(alloc, index) {
+            Ok(()) => (),
+            Err(Memory) => return Err(Cause::Memory),
+        }
+        let more = self.tells_more(index);
+        match step(
+            alloc,
+            &mut self.cores[index],
+            &mut self.queue,
+            &mut self.table,
+            &mut self.repeats,
+            &mut self.sent,
+            tasks,
+            more,
+        ) {
+            Ok(()) => {
+                self.steps -= 1;
+                Ok(true)
+            }
+            Err(Memory) => Err(Cause::Memory),
+        }
+    }
+
+    /// Fills the rows, one for each task, with the outcomes that are stored.
+    pub(crate) fn read_rows(&self, plan: &Plan, rows: &mut [Option<Outcome>])
+        requires plan { self.now.table.plan ≡ roster_of plan.now }
+        requires rows { length rows.old ≡ count_line plan.now }
+        ensures { rows.new ≡ rows_of (count_line plan.now) (held self.now.table) }
+    {
+        for index in 0..plan.tasks() {
+            rows[index as usize] = self.table.read(plan.task_at(index));
+        }
+    }
+}
