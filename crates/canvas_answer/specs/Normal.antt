@@ -7,7 +7,7 @@ use Rattle.canvas_semantics.specs.Compact.{compact}
 use Rattle.canvas_semantics.specs.Line.{Line, elements_of}
 use Rattle.canvas_semantics.specs.NormalLine.{normal}
 use Rattle.canvas_semantics.specs.Tree.{Tree, chain}
-use Rattle.canvas_sig.specs.Writing.{tree_wire}
+use Rattle.canvas_wire.specs.Writing.{tree_wire}
 
 -- the normal line of a canvas, as a signature
 abbrev pub IsNormalNode : Tree → Tree → Type 0

@@ -7,8 +7,8 @@ use Rattle.json.specs.Token.{key, begin_array, begin_object, end_object}
 use Rattle.serde_json.specs.Data.{null}
 use Rattle.canvas_task.specs.declared.arg.Arg.{Arg}
 use Rattle.canvas_semantics.specs.PlacedLine.{PTask, PLine, p_stop}
-use Rattle.canvas_sig.specs.Writing.{args_wire, kwargs_wire, tasks_member, chord_members}
-use Rattle.canvas_sig.specs.steps.Tokens.{data_tokens, rest_tokens, rest_members, call_tokens, link_tokens, member_tokens, opening_tokens, kind_tokens, name_tokens}
+use Rattle.canvas_wire.specs.Writing.{args_wire, kwargs_wire, tasks_member, chord_members}
+use Rattle.canvas_wire.specs.steps.Tokens.{data_tokens, rest_tokens, rest_members, call_tokens, link_tokens, member_tokens, opening_tokens, kind_tokens, name_tokens}
 use Rattle.canvas_rewrite.specs.FrozenView.{p_tasks_of, p_steps, p_lines_of, p_task_view, p_line_view, p_end_view}
 use Rattle.canvas_rewrite.specs.declared.frozen.FrozenTask.{FrozenTask, out-FrozenTask}
 use Rattle.canvas_rewrite.specs.declared.frozen.FrozenLine.{FrozenLine, out-FrozenLine}

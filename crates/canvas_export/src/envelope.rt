@@ -3,8 +3,8 @@
 ghost use Rattle.std.specs.Prelude.{◌≡◌, ◌∷◌, ◌++◌, [], IfOk, OnOk, Some, codes, pos, true};
 ghost use Rattle.json.specs.Token.{begin_object};
 ghost use Rattle.serde_json.specs.Data.{string};
-ghost use Rattle.canvas_sig.specs.Writing.{number_wire};
-ghost use Rattle.canvas_sig.specs.steps.Tokens.{Appends, data_tokens};
+ghost use Rattle.canvas_wire.specs.Writing.{number_wire};
+ghost use Rattle.canvas_wire.specs.steps.Tokens.{Appends, data_tokens};
 ghost use Rattle.canvas_message.specs.Content.{number_of};
 ghost use Rattle.canvas_message.specs.Fits.{fits};
 ghost use Rattle.canvas_writing.specs.steps.Tokens.{named_tokens};

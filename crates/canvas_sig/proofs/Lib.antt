@@ -1,10 +1,8 @@
 pub mod DigitTexts
 pub mod NormalTexts
-pub mod Writers
 pub mod Each
 pub mod Json
 pub mod Datums
-pub mod Named
 pub mod Level
 pub mod RoundTrip
 pub mod TextLemmas

@@ -22,7 +22,7 @@ mod source;
 mod unread;
 mod write;
 
-/// What messages, which carry signatures, read and write them with.
+/// What messages, which carry signatures, read them with.
 pub mod parts {
     pub use crate::arguments::{read_args, read_kwargs};
     pub use crate::canvas_text::MOST_LEVELS;
@@ -34,10 +34,6 @@ pub mod parts {
     pub use crate::parsing::parse;
     pub use crate::primitive::primitive_of;
     pub use crate::reader::text_of;
-    pub use crate::write::parts::{
-        write_args, write_closing, write_end, write_flag, write_front, write_kind, write_kwargs,
-        write_named,
-    };
 }
 
 pub use canvas_text::{MOST_BYTES, read_canvas};

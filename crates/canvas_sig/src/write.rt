@@ -3,27 +3,17 @@
 ghost use Rattle.std.specs.Prelude.{◌≡◌, ◌≤◌, Ok, IfOk, length, string_bytes};
 ghost use Rattle.serde_json.specs.Written.{compact_text};
 ghost use Rattle.canvas_values.specs.CanvasText.{most_bytes, text_reading};
-ghost use Rattle.canvas_sig.specs.Writing.{tree_wire};
+ghost use Rattle.canvas_wire.specs.Writing.{tree_wire};
 ghost use Rattle.canvas_values.specs.SignatureView.{view};
 
-mod arguments;
-mod node;
-mod task;
 mod value;
 
 use canvas_task::Memory;
 use canvas_values::{Canvas, Node};
+use canvas_wire::write_tree;
 use json::Writer;
-use node::write_tree;
 use std::alloc::Global;
 pub use value::write_arg;
-
-/// What messages write their signatures with; it is public as `canvas_sig::parts`.
-pub mod parts {
-    pub use super::arguments::{write_args, write_named};
-    pub use super::node::{write_closing, write_kind};
-    pub use super::task::{write_end, write_flag, write_front, write_kwargs};
-}
 
 /// A signature as compact JSON.
 pub fn write_node(alloc: Global, node: &Node) -> Result<String, Memory>

@@ -6,8 +6,8 @@ use Rattle.std.proofs.lemmas.List.{map-append}
 use Rattle.json.specs.Token.{Token, begin_object, end_object, key}
 use Rattle.serde_json.specs.Data.{null, string}
 use Rattle.canvas_task.specs.declared.arg.Arg.{Arg}
-use Rattle.canvas_sig.specs.steps.Tokens.{kind_tokens, name_tokens}
-use Rattle.canvas_sig.specs.Writing.{args_wire, kwargs_wire}
+use Rattle.canvas_wire.specs.steps.Tokens.{kind_tokens, name_tokens}
+use Rattle.canvas_wire.specs.Writing.{args_wire, kwargs_wire}
 use Rattle.canvas_semantics.specs.PlacedLine.{PTask, PPlace, PLine, p_stop, p_step, p_group_end, p_chord_end}
 use Rattle.canvas_rewrite.specs.FrozenView.{p_steps, p_lines_of, p_task_view, p_line_view, p_end_view}
 use Rattle.canvas_rewrite.specs.declared.frozen.Carried.{Carried}

@@ -5,8 +5,8 @@ use Rattle.json.specs.Token.{Token, begin_array, end_array, begin_object, end_ob
 use Rattle.json.specs.Print.{print}
 use Rattle.serde_json.specs.Data.{Data, null, string, Items}
 use Rattle.serde_json.specs.Written.{compact_text}
-use Rattle.canvas_sig.specs.steps.Tokens.{data_tokens, rest_tokens, kind_tokens, name_tokens, closing_tokens}
-use Rattle.canvas_sig.specs.Writing.{args_wire, kwargs_wire}
+use Rattle.canvas_wire.specs.steps.Tokens.{data_tokens, rest_tokens, kind_tokens, name_tokens, closing_tokens}
+use Rattle.canvas_wire.specs.Writing.{args_wire, kwargs_wire}
 use Rattle.canvas_semantics.specs.Tree.{Call}
 use Rattle.canvas_semantics.specs.PlacedLine.{PTask, p_task, PTasks, PPlace, p_nowhere, p_group, p_chord, PLine, p_stop, p_step, p_group_end, p_chord_end, PLines}
 use Rattle.canvas_message.specs.Content.{call_of, end_place, place_of}

@@ -2,7 +2,7 @@
 //! of the line, as tokens of JSON.
 
 ghost use Rattle.std.specs.Prelude.{◌≡◌, None, codes, map};
-ghost use Rattle.canvas_sig.specs.steps.Tokens.{Appends};
+ghost use Rattle.canvas_wire.specs.steps.Tokens.{Appends};
 ghost use Rattle.canvas_semantics.specs.PlacedLine.{p_stop};
 ghost use Rattle.canvas_rewrite.specs.FrozenView.{p_steps, p_task_view, p_line_view, p_end_view};
 ghost use Rattle.canvas_message.specs.MessageView.{place_seen};
@@ -13,7 +13,7 @@ ghost use Rattle.canvas_writing.specs.steps.Tokens.{unless_null};
 use crate::frozen::{write_each, write_group_option, write_links, write_rest};
 use crate::pieces::{write_call, write_opening, write_own_id};
 use canvas_rewrite::{FrozenEnd, FrozenLine, FrozenTask, Place};
-use canvas_sig::parts::{write_closing, write_end};
+use canvas_wire::{write_closing, write_end};
 use json::Writer;
 use std::alloc::AllocError;
 

@@ -5,7 +5,7 @@ ghost use Rattle.std.specs.Str.{IsUtf8};
 ghost use Rattle.serde_json.specs.Data.{Items, Data, array, null};
 ghost use Rattle.serde_json.specs.Written.{compact_text};
 ghost use Rattle.canvas_task.specs.Entries.{named};
-ghost use Rattle.canvas_sig.specs.Writing.{args_wire, kwargs_wire};
+ghost use Rattle.canvas_wire.specs.Writing.{args_wire, kwargs_wire};
 ghost use Rattle.canvas_rewrite.specs.FrozenView.{p_tasks_of, p_task_view, p_line_view};
 ghost use Rattle.canvas_message.specs.Content.{end_place};
 ghost use Rattle.canvas_message.specs.MessageView.{place_seen, place_view};

@@ -1,7 +1,7 @@
 //! Frozen signatures as tokens of JSON.
 
 ghost use Rattle.std.specs.Prelude.{◌∷◌, [], ◌++◌, None, codes, map};
-ghost use Rattle.canvas_sig.specs.steps.Tokens.{Appends, data_tokens, rest_tokens, link_tokens, member_tokens};
+ghost use Rattle.canvas_wire.specs.steps.Tokens.{Appends, data_tokens, rest_tokens, link_tokens, member_tokens};
 ghost use Rattle.canvas_rewrite.specs.FrozenView.{p_tasks_of, p_lines_of, p_task_view, p_line_view, p_end_view};
 ghost use Rattle.canvas_writing.specs.steps.Tokens.{unless_null, links_wire, errbacks_wire, members_of_end, group_of_end, place_tokens, links_tokens, option_members, options_tokens, list_tokens, each_tokens, tail_tokens, group_closing, named_tokens};
 ghost use Rattle.canvas_message.specs.MessageView.{place_view, place_seen};
@@ -11,8 +11,8 @@ ghost use Rattle.serde_json.specs.Data.{string};
 use crate::identifiers::write_group_id;
 use crate::pieces::{write_call, write_group_closing, write_opening, write_own_id};
 use canvas_rewrite::{FrozenEnd, FrozenLine, FrozenTask, Place};
-use canvas_sig::parts::{write_closing, write_end};
 use canvas_task::GroupNo;
+use canvas_wire::{write_closing, write_end};
 use json::Writer;
 use std::alloc::AllocError;
 

@@ -4,14 +4,14 @@ ghost use Rattle.std.specs.Prelude.{◌∷◌, [], ◌++◌, codes, decimal};
 ghost use Rattle.json.specs.Token.{begin_object, end_object, key, number};
 ghost use Rattle.serde_json.specs.Data.{string};
 ghost use Rattle.canvas_task.specs.Entries.{named};
-ghost use Rattle.canvas_sig.specs.steps.Tokens.{Appends, data_tokens};
-ghost use Rattle.canvas_sig.specs.Writing.{args_wire, kwargs_wire};
+ghost use Rattle.canvas_wire.specs.steps.Tokens.{Appends, data_tokens};
+ghost use Rattle.canvas_wire.specs.Writing.{args_wire, kwargs_wire};
 ghost use Rattle.canvas_writing.specs.steps.Tokens.{size_tokens, start_tokens, call_tokens, opening_tokens, group_closing, named_tokens};
 ghost use Rattle.canvas_message.specs.Wire.{task_id, group_id};
 
 use crate::identifiers::{write_group_id, write_task_member};
-use canvas_sig::parts::{write_flag, write_front, write_kind, write_kwargs};
 use canvas_task::{Arg, GroupNo, TaskNo};
+use canvas_wire::{write_flag, write_front, write_kind, write_kwargs};
 use json::Writer;
 use std::alloc::AllocError;
 use std::collections::BTreeMap;

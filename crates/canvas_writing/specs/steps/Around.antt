@@ -5,8 +5,8 @@
 use Rattle.std.specs.Prelude.{ℕ, Bool, true, false, List, [], ◌∷◌, ◌++◌, Option, None, codes}
 use Rattle.json.specs.Token.{Token, begin_array, end_array, begin_object, end_object, key}
 use Rattle.serde_json.specs.Data.{Data, null, string}
-use Rattle.canvas_sig.specs.Writing.{args_wire, kwargs_wire}
-use Rattle.canvas_sig.specs.steps.Tokens.{closing_tokens, kind_tokens, name_tokens}
+use Rattle.canvas_wire.specs.Writing.{args_wire, kwargs_wire}
+use Rattle.canvas_wire.specs.steps.Tokens.{closing_tokens, kind_tokens, name_tokens}
 use Rattle.canvas_semantics.specs.PlacedLine.{PTask, PPlace, p_nowhere, p_group, p_chord, PLine, p_stop, p_step, p_group_end, p_chord_end, PLines}
 use Rattle.canvas_message.specs.Content.{number_of, call_of, place_of}
 use Rattle.canvas_message.specs.Wire.{task_id, place_id, task_wire, line_wire, members_wire}

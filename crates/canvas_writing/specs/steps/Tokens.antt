@@ -2,7 +2,7 @@
 use Rattle.std.specs.Prelude.{ℕ, Bool, false, List, [], ◌∷◌, ◌++◌, Option, Some, None, decimal, codes}
 use Rattle.json.specs.Token.{Token, begin_object, end_object, key, number}
 use Rattle.serde_json.specs.Data.{Data, null, Items, no_items, Members}
-use Rattle.canvas_sig.specs.steps.Tokens.{data_tokens, front_tokens, flag_tokens, kwargs_tokens, link_tokens, member_tokens, kind_tokens, name_tokens}
+use Rattle.canvas_wire.specs.steps.Tokens.{data_tokens, front_tokens, flag_tokens, kwargs_tokens, link_tokens, member_tokens, kind_tokens, name_tokens}
 use Rattle.canvas_semantics.specs.PlacedLine.{PTask, PPlace, PLine, p_stop, p_step, p_group_end, p_chord_end, PLines, no_p_lines}
 use Rattle.canvas_message.specs.Content.{number_of, links_of, errbacks_of, place_of}
 use Rattle.canvas_message.specs.Wire.{task_id, group_id, place_id, task_wire, tasks_wire, carried_wire, line_wire}

@@ -1,7 +1,7 @@
 use Rattle.std.proofs.Common.{◌≡◌, ◌∙◌, refl, ap}
 use Rattle.serde_json.specs.Data.{string}
 use Rattle.serde_json.specs.Written.{compact_text}
-use Rattle.canvas_sig.proofs.Writers.{whole_text}
+use Rattle.canvas_wire.proofs.Writers.{whole_text}
 use Rattle.base64.specs.GeneralPurpose.{encode_of}
 use Rattle.base64.specs.Engines.{standard}
 use Rattle.canvas_export.specs.Envelope.{body_wire, envelope_wire}

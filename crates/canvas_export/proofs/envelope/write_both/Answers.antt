@@ -1,7 +1,7 @@
 use Rattle.std.proofs.Common.{◌∙◌, [], ◌∷◌, ◌++◌, codes, ap, append_assoc}
 use Rattle.json.specs.Token.{key}
-use Rattle.canvas_sig.specs.steps.Tokens.{data_tokens}
-use Rattle.canvas_sig.proofs.Writers.{after_ok, then_tokens}
+use Rattle.canvas_wire.specs.steps.Tokens.{data_tokens}
+use Rattle.canvas_wire.proofs.Writers.{after_ok, then_tokens}
 use Rattle.canvas_message.specs.Content.{number_of}
 use Rattle.canvas_export.specs.Envelope.{headers_wire, properties_wire}
 use Rattle.canvas_export.specs.ExportView.{naming}

@@ -1,6 +1,6 @@
 use Rattle.std.proofs.Common.{[], ◌∷◌, refl}
 use Rattle.json.specs.Token.{begin_object}
-use Rattle.canvas_sig.proofs.Writers.{after_ok, then_tokens}
+use Rattle.canvas_wire.proofs.Writers.{after_ok, then_tokens}
 use Rattle.canvas_export.proofs.envelope.write_properties_front.Goals as goal
 
 pub returns : goal.returns

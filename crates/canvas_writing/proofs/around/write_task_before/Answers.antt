@@ -1,6 +1,6 @@
 use Rattle.std.proofs.Common.{rules, ◌∙◌, [], ◌∷◌, codes}
 use Rattle.json.specs.Token.{begin_object, key}
-use Rattle.canvas_sig.proofs.Writers.{after_ok, then_tokens}
+use Rattle.canvas_wire.proofs.Writers.{after_ok, then_tokens}
 use Rattle.canvas_writing.proofs.AroundLines.{task_before_is}
 use Rattle.canvas_writing.proofs.around.write_task_before.Goals as goal
 

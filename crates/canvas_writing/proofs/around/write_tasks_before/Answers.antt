@@ -1,5 +1,5 @@
 use Rattle.std.proofs.Common.{◌∙◌, sym}
-use Rattle.canvas_sig.proofs.Writers.{after_ok}
+use Rattle.canvas_wire.proofs.Writers.{after_ok}
 use Rattle.canvas_writing.proofs.AroundLines.{more_before}
 use Rattle.canvas_writing.proofs.around.write_tasks_before.Goals as goal
 

@@ -1,5 +1,5 @@
 use Rattle.std.proofs.Common.{◌∙◌, sym}
-use Rattle.canvas_sig.proofs.Writers.{after_ok}
+use Rattle.canvas_wire.proofs.Writers.{after_ok}
 use Rattle.canvas_writing.proofs.AroundLines.{more_behind}
 use Rattle.canvas_writing.proofs.around.write_tasks_behind.Goals as goal
 

@@ -2,7 +2,7 @@ use Rattle.std.proofs.Common.{◌++◌, append_assoc, map}
 use Rattle.std.specs.Prelude.{codes, string_bytes}
 use Rattle.serde_json.specs.Written.{compact_text}
 use Rattle.canvas_task.specs.Entries.{named}
-use Rattle.canvas_sig.specs.Writing.{args_wire, kwargs_wire}
+use Rattle.canvas_wire.specs.Writing.{args_wire, kwargs_wire}
 use Rattle.canvas_rewrite.specs.FrozenView.{p_tasks_of, p_task_view}
 use Rattle.canvas_message.specs.Wire.{tasks_wire, list_or_null}
 use Rattle.canvas_writing.specs.steps.Texts.{args_text}

@@ -1,11 +1,11 @@
 use Rattle.std.proofs.Common.{rules, [], ◌∷◌, ◌++◌, map, codes, Some, None, sym, ap, ap₂, ◌∙◌, append-nil, refl}
 use Rattle.json.specs.Token.{key, end_array}
-use Rattle.canvas_sig.specs.steps.Tokens.{data_tokens, rest_tokens, link_tokens}
+use Rattle.canvas_wire.specs.steps.Tokens.{data_tokens, rest_tokens, link_tokens}
 use Rattle.canvas_rewrite.specs.FrozenView.{p_tasks_of, p_lines_of, p_task_view, p_line_view, p_end_view}
 use Rattle.canvas_writing.specs.steps.Tokens.{named_tokens, each_tokens}
 use Rattle.canvas_message.specs.Wire.{task_wire, tasks_wire, line_wire, elements_wire, members_wire}
 use Rattle.canvas_rewrite.specs.declared.frozen.Carried.{out-Carried}
-use Rattle.canvas_sig.proofs.Writers.{after_ok, then_tokens}
+use Rattle.canvas_wire.proofs.Writers.{after_ok, then_tokens}
 use Rattle.canvas_writing.proofs.TaskTokens.{a_chord, chain_written, task_written, chord_written, group_written, some_link, links_are, alike}
 use Rattle.canvas_writing.proofs.LineTokens.{elements_written, no_tail, a_tail, is_chain_to_end, is_task, is_chain}
 use Rattle.canvas_writing.proofs.Turns.{put_on}

@@ -1,5 +1,5 @@
 use Rattle.std.proofs.Common.{◌∙◌}
-use Rattle.canvas_sig.proofs.Writers.{whole_text}
+use Rattle.canvas_wire.proofs.Writers.{whole_text}
 use Rattle.canvas_export.specs.Envelope.{body_wire}
 use Rattle.canvas_export.specs.ExportView.{naming}
 use Rattle.canvas_export.proofs.write.body.body_of.Goals as goal

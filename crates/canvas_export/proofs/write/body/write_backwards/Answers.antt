@@ -1,6 +1,6 @@
 use Rattle.std.proofs.Common.{[], ◌∷◌, ◌∙◌}
 use Rattle.json.specs.Token.{end_array}
-use Rattle.canvas_sig.proofs.Writers.{after_ok, then_tokens}
+use Rattle.canvas_wire.proofs.Writers.{after_ok, then_tokens}
 use Rattle.canvas_export.specs.ExportView.{naming}
 use Rattle.canvas_export.proofs.Lines.{appended, turned_written}
 use Rattle.canvas_export.proofs.write.body.write_backwards.Goals as goal

@@ -1,6 +1,6 @@
 use Rattle.std.proofs.Common.{[], ◌∷◌, ap, sym}
 use Rattle.json.specs.Token.{null}
-use Rattle.canvas_sig.specs.steps.Tokens.{data_tokens}
+use Rattle.canvas_wire.specs.steps.Tokens.{data_tokens}
 use Rattle.canvas_message.specs.MessageView.{place_seen}
 use Rattle.canvas_export.specs.Signatures.{body_at}
 use Rattle.canvas_export.specs.ExportView.{naming}

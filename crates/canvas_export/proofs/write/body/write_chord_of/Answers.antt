@@ -1,6 +1,6 @@
 use Rattle.std.proofs.Common.{[], ◌∷◌, ◌∙◌, ap, sym}
 use Rattle.json.specs.Token.{null}
-use Rattle.canvas_sig.specs.steps.Tokens.{data_tokens}
+use Rattle.canvas_wire.specs.steps.Tokens.{data_tokens}
 use Rattle.canvas_rewrite.specs.FrozenView.{p_line_view}
 use Rattle.canvas_message.proofs.Seen.{group_place, chord_place}
 use Rattle.canvas_export.specs.Signatures.{carried_wire, elements, body_at}

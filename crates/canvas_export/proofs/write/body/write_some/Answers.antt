@@ -1,6 +1,6 @@
 use Rattle.std.proofs.Common.{[], ◌∷◌, refl}
 use Rattle.json.specs.Token.{begin_array}
-use Rattle.canvas_sig.proofs.Writers.{after_ok}
+use Rattle.canvas_wire.proofs.Writers.{after_ok}
 use Rattle.canvas_export.proofs.write.body.write_some.Goals as goal
 
 pub returns : goal.returns

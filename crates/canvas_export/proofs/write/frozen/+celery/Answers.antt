@@ -1,8 +1,8 @@
 use Rattle.std.proofs.Common.{◌≡◌, ◌-◌, [], ◌∷◌, ◌++◌, ◌∙◌, map, reverse, length, drop, codes, refl, sym, ap, ap₂, arith, append-nil}
 use Rattle.std.proofs.lemmas.List.{drop_all}
 use Rattle.json.specs.Token.{null, key, begin_array, begin_object, end_array, end_object}
-use Rattle.canvas_sig.specs.steps.Tokens.{data_tokens, link_tokens}
-use Rattle.canvas_sig.proofs.Writers.{after_ok, then_tokens}
+use Rattle.canvas_wire.specs.steps.Tokens.{data_tokens, link_tokens}
+use Rattle.canvas_wire.proofs.Writers.{after_ok, then_tokens}
 use Rattle.canvas_rewrite.specs.FrozenView.{p_tasks_of, p_task_view, p_line_view, p_end_view}
 use Rattle.canvas_message.specs.MessageView.{place_seen}
 use Rattle.canvas_writing.specs.steps.Tokens.{named_tokens}

@@ -1,7 +1,7 @@
 use Rattle.std.proofs.Common.{[], ◌∷◌, ◌∙◌, ap}
 use Rattle.json.specs.Token.{end_object}
-use Rattle.canvas_sig.specs.steps.Tokens.{data_tokens}
-use Rattle.canvas_sig.proofs.Writers.{after_ok, then_tokens}
+use Rattle.canvas_wire.specs.steps.Tokens.{data_tokens}
+use Rattle.canvas_wire.proofs.Writers.{after_ok, then_tokens}
 use Rattle.canvas_message.specs.Content.{number_of, place_of, call_of}
 use Rattle.canvas_export.specs.ExportView.{naming}
 use Rattle.canvas_export.proofs.Lines.{appended}

@@ -1,6 +1,6 @@
 use Rattle.std.proofs.Common.{[], ◌∷◌, ◌++◌, codes, ap}
 use Rattle.json.specs.Token.{begin_object}
-use Rattle.canvas_sig.proofs.Writers.{after_ok, then_tokens}
+use Rattle.canvas_wire.proofs.Writers.{after_ok, then_tokens}
 use Rattle.canvas_message.specs.Content.{number_of, place_of}
 use Rattle.canvas_writing.specs.steps.Tokens.{named_tokens}
 use Rattle.canvas_export.specs.Signatures.{task_id}

@@ -1,5 +1,5 @@
 use Rattle.std.proofs.Common.{◌∙◌, ap, sym}
-use Rattle.canvas_sig.proofs.Writers.{after_ok}
+use Rattle.canvas_wire.proofs.Writers.{after_ok}
 use Rattle.canvas_message.specs.MessageView.{place_seen}
 use Rattle.canvas_export.specs.ExportView.{naming}
 use Rattle.canvas_export.specs.steps.Elements.{group_options}

@@ -1,6 +1,6 @@
 use Rattle.std.proofs.Common.{[], ◌∷◌, refl}
 use Rattle.json.specs.Token.{end_object}
-use Rattle.canvas_sig.proofs.Writers.{after_ok}
+use Rattle.canvas_wire.proofs.Writers.{after_ok}
 use Rattle.canvas_export.proofs.Lines.{appended}
 use Rattle.canvas_export.proofs.write.pieces.write_own_id.Goals as goal
 
