@@ -8,9 +8,9 @@ use Rattle.canvas_history.specs.Queue as queue
 use Rattle.canvas_runs.specs.Core as C
 use Rattle.canvas_runs.specs.Worker.{sealed}
 use Rattle.canvas_turns.specs.Turns.{Step, redelivery}
-use Rattle.canvas_worker.specs.Asks.{Asked, shown}
-use Rattle.canvas_worker.specs.declared.ask.Ask.{Ask}
-use Rattle.canvas_worker.specs.declared.ask.Ask.TheVariants as A
+use Rattle.canvas_core.specs.Asks.{Asked, shown}
+use Rattle.canvas_core.specs.declared.ask.Ask.{Ask}
+use Rattle.canvas_core.specs.declared.ask.Ask.TheVariants as A
 use Rattle.canvas_by_turns.specs.Traced.{sent_by, sent_in, sent_after}
 use Rattle.canvas_by_turns.specs.steps.Noting.{Noted, kept}
 use Rattle.canvas_by_turns.specs.declared.sent.Sent.{Sent}

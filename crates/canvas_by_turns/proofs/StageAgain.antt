@@ -29,13 +29,13 @@ use Rattle.canvas_turns.specs.Spending.{TurnedAgain, wanted, spent, comes_to, me
 use Rattle.canvas_turns.specs.Turns.{Step, IsWorker, redelivery, Turned, all_taken, delivers_again, left, holds, holds_more, is_queued, redelivers_one}
 use Rattle.canvas_turns.proofs.Spending.{again_step, again_spend}
 use Rattle.canvas_turns.proofs.Turning.{queue_more, results_more, turned_append}
-use Rattle.canvas_worker.specs.Asks.{Asked, Answer}
-use Rattle.canvas_worker.specs.Cores.{IsAlike}
-use Rattle.canvas_worker.specs.Books.{no_book}
-use Rattle.canvas_worker.specs.EnvelopeWorker.{enveloped, enveloped_by, no_tasks}
-use Rattle.canvas_worker.specs.CorePast.{task_in}
-use Rattle.canvas_worker.specs.CoreState as standing
-use Rattle.canvas_worker.specs.CoreState.{Standing, Left, asked, task_of, point_in, point_at}
+use Rattle.canvas_core.specs.Asks.{Asked, Answer}
+use Rattle.canvas_core.specs.Cores.{IsAlike}
+use Rattle.canvas_core.specs.Books.{no_book}
+use Rattle.canvas_core.specs.EnvelopeWorker.{enveloped, enveloped_by, no_tasks}
+use Rattle.canvas_core.specs.CorePast.{task_in}
+use Rattle.canvas_core.specs.CoreState as standing
+use Rattle.canvas_core.specs.CoreState.{Standing, Left, asked, task_of, point_in, point_at}
 use Rattle.canvas_by_turns.specs.Traced.{sent_by, sent_after}
 use Rattle.canvas_by_turns.specs.steps.Noting.{Noted, kept}
 use Rattle.canvas_by_turns.specs.steps.Stages.{AnswersNow, Stepped, store_answer, counted_on, Redelivers, IsCoreAt, LeadsTo, Given, Reached, IsTurn}

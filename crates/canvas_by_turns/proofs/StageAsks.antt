@@ -11,13 +11,13 @@ use Rattle.canvas_history.specs.Queue as queue
 use Rattle.canvas_runs.specs.Core as C
 use Rattle.canvas_runs.specs.Core.{ReadsBack}
 use Rattle.canvas_turns.specs.Turns.{queue_next, results_next}
-use Rattle.canvas_worker.specs.Asks.{Asked, Answer, shown}
+use Rattle.canvas_core.specs.Asks.{Asked, Answer, shown}
 use Rattle.canvas_runs.specs.Book.{book_on}
-use Rattle.canvas_worker.specs.Books.{no_book}
-use Rattle.canvas_worker.specs.EnvelopeWorker.{enveloped_by, no_tasks}
-use Rattle.canvas_worker.specs.CoreState.{Standing, asked, after_reply}
-use Rattle.canvas_worker.specs.declared.ask.Ask.{Ask}
-use Rattle.canvas_worker.specs.declared.ask.Ask.TheVariants as A
+use Rattle.canvas_core.specs.Books.{no_book}
+use Rattle.canvas_core.specs.EnvelopeWorker.{enveloped_by, no_tasks}
+use Rattle.canvas_core.specs.CoreState.{Standing, asked, after_reply}
+use Rattle.canvas_core.specs.declared.ask.Ask.{Ask}
+use Rattle.canvas_core.specs.declared.ask.Ask.TheVariants as A
 use Rattle.canvas_by_turns.specs.steps.Stages.{AnswersNow, Stepped, IsTried, store_answer, counted_on}
 
 -- ---- an answered ask

@@ -21,16 +21,16 @@ use Rattle.canvas_runs.specs.Worker.{worker}
 use Rattle.canvas_runs.proofs.Runs.MoreAsks.{by_more, by_other, left_more, core_more, scripts_more, asks_of_scripts, held_append}
 use Rattle.canvas_turns.specs.Turns.{Step, IsWorker, Turned, Answers, HasEnded, left, queue_after, queue_next, results_after, results_next, holds_more, some_inside, is_queued}
 use Rattle.canvas_turns.proofs.Turning.{queue_more, results_more, turned_step}
-use Rattle.canvas_worker.specs.Asks.{Asked, Answer}
-use Rattle.canvas_worker.specs.Books.{no_book}
-use Rattle.canvas_worker.specs.Cores.{GoTogether, IsAlike}
-use Rattle.canvas_worker.specs.EnvelopeWorker.{enveloped, enveloped_by, no_tasks}
-use Rattle.canvas_worker.specs.CorePast.{task_in}
-use Rattle.canvas_worker.specs.CoreState as standing
-use Rattle.canvas_worker.specs.CoreState.{Standing, Left, asked, after_reply}
-use Rattle.canvas_worker.proofs.Cores.CoreLaw.{cores_are_workers}
-use Rattle.canvas_worker.proofs.InHand.{has_open}
-use Rattle.canvas_worker.proofs.Cores.CorePasts.{book_step, task_step}
+use Rattle.canvas_core.specs.Asks.{Asked, Answer}
+use Rattle.canvas_core.specs.Books.{no_book}
+use Rattle.canvas_core.specs.Cores.{GoTogether, IsAlike}
+use Rattle.canvas_core.specs.EnvelopeWorker.{enveloped, enveloped_by, no_tasks}
+use Rattle.canvas_core.specs.CorePast.{task_in}
+use Rattle.canvas_core.specs.CoreState as standing
+use Rattle.canvas_core.specs.CoreState.{Standing, Left, asked, after_reply}
+use Rattle.canvas_core.proofs.Cores.CoreLaw.{cores_are_workers}
+use Rattle.canvas_core.proofs.Cores.Opened.{has_open}
+use Rattle.canvas_core.proofs.Cores.CorePasts.{book_step, task_step}
 use Rattle.canvas_by_turns.specs.steps.Stages.{AnswersNow, Stepped, IsCoreAt, LeadsTo}
 use Rattle.canvas_by_turns.specs.declared.stage.Stage.{Stage}
 

@@ -14,11 +14,11 @@ use Rattle.canvas_turns.specs.Turns.{Step, IsWorker, HasEnded, results_after, re
 use Rattle.canvas_turns.proofs.TurnLaw.{next_answerable, held_range}
 use Rattle.canvas_turns.proofs.Spending.{again_skip}
 use Rattle.canvas_turns.proofs.Turning.{results_more, turned_skip}
-use Rattle.canvas_worker.specs.Asks.{Asked}
-use Rattle.canvas_worker.specs.Books.{no_book}
-use Rattle.canvas_worker.specs.EnvelopeWorker.{enveloped_by, no_tasks}
-use Rattle.canvas_worker.specs.CoreState as standing
-use Rattle.canvas_worker.specs.CoreState.{Standing, asked}
+use Rattle.canvas_core.specs.Asks.{Asked}
+use Rattle.canvas_core.specs.Books.{no_book}
+use Rattle.canvas_core.specs.EnvelopeWorker.{enveloped_by, no_tasks}
+use Rattle.canvas_core.specs.CoreState as standing
+use Rattle.canvas_core.specs.CoreState.{Standing, asked}
 use Rattle.canvas_by_turns.specs.Traced.{sent_by}
 use Rattle.canvas_by_turns.specs.steps.Noting.{Noted}
 use Rattle.canvas_by_turns.specs.steps.Stages.{MayAsk, AreInRange, Stepped, IsTried, Tried, store_answer, counted_on, Redelivers, LeadsTo, Given, Reached, HasReached, IsTurn, IsHalfway, IsStopped}

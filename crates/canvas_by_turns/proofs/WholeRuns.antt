@@ -24,9 +24,9 @@ use Rattle.canvas_turns.proofs.Agains.{few_again, agains_few, agains_are}
 use Rattle.canvas_turns.proofs.Spending.{are_turns}
 use Rattle.canvas_turns.proofs.Spends.{spends_length}
 use Rattle.canvas_turns.proofs.TurnLaw.{states_are, states_may}
-use Rattle.canvas_worker.specs.CoreState.{Standing, begun}
-use Rattle.canvas_worker.specs.declared.cause.Cause.{Cause}
-use Rattle.canvas_worker.specs.declared.cause.Cause.TheVariants.{Memory, Stopped}
+use Rattle.canvas_core.specs.CoreState.{Standing, begun}
+use Rattle.canvas_core.specs.declared.cause.Cause.{Cause}
+use Rattle.canvas_core.specs.declared.cause.Cause.TheVariants.{Memory, Stopped}
 use Rattle.canvas_by_turns.specs.Correct.{IsAsked, IsWholeRun, IsWholeWithin, IsWholeAgain, IsRunFault, IsFaultWithin}
 use Rattle.canvas_message.specs.declared.envelope.Envelope.{Envelope}
 use Rattle.canvas_by_turns.specs.Traced.{IsTraced, sent_after}

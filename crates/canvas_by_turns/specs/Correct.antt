@@ -21,7 +21,7 @@ use Rattle.canvas_turns.specs.TurnLaws.{held_rows}
 use Rattle.canvas_turns.specs.Spending.{Entry, RanAgain, RunEntries, agains_in}
 use Rattle.canvas_turns.specs.Turns.{most_workers, IsWorker, RanWhole, RanUntil, redeliveries_in}
 use Rattle.canvas_report.specs.declared.report.Report.{Report}
-use Rattle.canvas_worker.specs.declared.cause.Cause.TheVariants.{Memory, Stopped}
+use Rattle.canvas_core.specs.declared.cause.Cause.TheVariants.{Memory, Stopped}
 use Rattle.canvas_by_turns.specs.declared.fault.RunFault.{RunFault}
 use Rattle.canvas_by_turns.specs.declared.fault.RunFault.TheVariants.{BadWorkers, BadTurn, Halted}
 

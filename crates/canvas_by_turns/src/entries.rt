@@ -3,8 +3,8 @@ ghost use Rattle.std.specs.Prelude.{◌≡◌, ◌<◌, true, false, MatchOption
 ghost use Rattle.std.specs.List.{remove};
 ghost use Rattle.canvas_turns.specs.Spending.{is_for, has, without};
 
+use canvas_runs::When;
 use canvas_task::TaskNo;
-use canvas_worker::When;
 
 fn is_for(entry: &(TaskNo, When), point: &(TaskNo, When)) -> bool
     ensures { result ≡ is_for point.now.0 point.now.1 entry.now }

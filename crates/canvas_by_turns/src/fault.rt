@@ -3,9 +3,9 @@
 ghost use Rattle.std.specs.Prelude.{◌≡◌, Some, None};
 ghost use Rattle.canvas_by_turns.specs.declared.fault.RunFault.TheVariants as fault;
 
+use canvas_core::Cause;
 use canvas_report::Report;
 use canvas_task::{ListOf, Outcome};
-use canvas_worker::Cause;
 use thiserror::Error;
 
 /// Why a run has no whole report.

@@ -15,12 +15,13 @@ ghost use Rattle.canvas_by_turns.specs.steps.Stages.{rows_of, Given, Reached, Ha
 
 use crate::RunFault;
 use crate::stage::Stage;
+use canvas_core::Cause;
 use canvas_message::Envelope;
 use canvas_report::Report;
 use canvas_rewrite::Plan;
+use canvas_runs::When;
 use canvas_semantics::MOST_WORKERS;
 use canvas_task::{Fault, ListOf, Memory, Outcome, TaskNo, Tasks};
-use canvas_worker::{Cause, When};
 use std::alloc::Global;
 
 /// A turn of each worker, from the first to the last. Whether an ask was answered.

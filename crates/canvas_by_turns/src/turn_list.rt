@@ -4,8 +4,8 @@ ghost use Rattle.canvas_lists.specs.TurnList.{IsTurnList};
 ghost use Rattle.canvas_by_turns.specs.TurnFaults.{IsListFault};
 
 use crate::RunFault;
+use canvas_core::Cause;
 use canvas_lists::ListFault;
-use canvas_worker::Cause;
 use std::alloc::Global;
 
 /// Reads a list of turns: decimal numbers of workers with a single comma between two, without

@@ -22,7 +22,7 @@ use Rattle.canvas_by_turns.specs.declared.fault.RunFault.{RunFault}
 use Rattle.canvas_by_turns.specs.declared.fault.RunFault.TheVariants.{Halted}
 use Rattle.canvas_engine.specs.declared.threads.records.Records.{Records}
 use Rattle.canvas_report.specs.declared.report.Report.{Report}
-use Rattle.canvas_worker.specs.declared.cause.Cause.{Cause}
+use Rattle.canvas_core.specs.declared.cause.Cause.{Cause}
 use Rattle.canvas_engine.specs.declared.text.TextFault.{TextFault}
 use Rattle.canvas_engine.specs.declared.text.TextFault.TheVariants as a_fault
 

@@ -21,7 +21,7 @@ use Rattle.canvas_runs.specs.Worker.{sealed}
 use Rattle.canvas_callers.specs.Accounts.{QueueAccounts, TableAccounts}
 use Rattle.canvas_callers.specs.CallerLaws.{broker_calls_seen}
 use Rattle.canvas_callers.specs.Rows.{RanWell}
-use Rattle.canvas_worker.specs.declared.cause.Cause.TheVariants.{Memory, Stopped}
+use Rattle.canvas_core.specs.declared.cause.Cause.TheVariants.{Memory, Stopped}
 use Rattle.canvas_by_turns.specs.Correct.{AreWorkers}
 use Rattle.canvas_by_turns.specs.declared.fault.RunFault.{RunFault}
 use Rattle.canvas_by_turns.specs.declared.fault.RunFault.TheVariants.{BadWorkers, BadTurn, Halted}

@@ -22,7 +22,7 @@ use Rattle.canvas_engine.specs.declared.threads.records.Records.{Records}
 use Rattle.canvas_report.specs.declared.report.Report.{Report}
 use Rattle.canvas_engine.specs.declared.text.TextFault.{TextFault}
 use Rattle.canvas_engine.specs.declared.text.TextFault.TheVariants.{Sig, Run, Memory}
-use Rattle.canvas_worker.specs.declared.cause.Cause.{Cause}
+use Rattle.canvas_core.specs.declared.cause.Cause.{Cause}
 
 -- the line is the numbered normal line of the canvas that the text reads as
 pub record IsPlanOfText (bytes : Text) (c : Tree) (all : Line) : Type 0 where

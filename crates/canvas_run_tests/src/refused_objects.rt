@@ -2,7 +2,7 @@
 //! comes to its answer.
 
 ghost use Rattle.std.specs.Prelude.{◌≡◌, IfSome};
-ghost use Rattle.canvas_worker.specs.Asks.{FoundInRange};
+ghost use Rattle.canvas_core.specs.Asks.{FoundInRange};
 
 use crate::states::{envelope_of, first_envelopes};
 use canvas_backend::{Backend, BackendSeat, PlainBackend, Stored};

@@ -2,8 +2,8 @@
 use Rattle.std.proofs.Common.{◌≡◌, Option, Result, sym, subst}
 use Rattle.std.specs.Prelude.{IfErr}
 use Rattle.canvas_worker.specs.Polls.{Work, EndsFor, Leaves}
-use Rattle.canvas_worker.specs.declared.ask.Ask.{Ask}
-use Rattle.canvas_worker.specs.declared.cause.Cause.{Cause}
+use Rattle.canvas_core.specs.declared.ask.Ask.{Ask}
+use Rattle.canvas_core.specs.declared.cause.Cause.{Cause}
 use Rattle.canvas_worker.specs.declared.record.Record.{Record}
 use Rattle.canvas_worker.specs.declared.working.End.{End}
 

@@ -17,11 +17,11 @@ use Rattle.canvas_runs.specs.Core.{answered, is_inside}
 use Rattle.canvas_runs.specs.Following.{Pass, Makes}
 use Rattle.canvas_history.specs.Lists.{Each}
 use Rattle.canvas_runs.proofs.Lists.Words.{each_append, each_weaker}
-use Rattle.canvas_worker.specs.Asks.{Asked, Answer}
-use Rattle.canvas_worker.specs.EnvelopeWorker.{enveloped}
-use Rattle.canvas_worker.specs.CoreState.{Left, asked, open_of, held}
+use Rattle.canvas_core.specs.Asks.{Asked, Answer}
+use Rattle.canvas_core.specs.EnvelopeWorker.{enveloped}
+use Rattle.canvas_core.specs.CoreState.{Left, asked, open_of, held}
 use Rattle.canvas_worker.specs.Polls.{Work, CanDeliver, in_hand, Ready, delivers, Redelivered, Pends, EndsWith}
-use Rattle.canvas_worker.specs.declared.cause.Cause.TheVariants.{Memory}
+use Rattle.canvas_core.specs.declared.cause.Cause.TheVariants.{Memory}
 use Rattle.canvas_worker.specs.declared.working.End.{End}
 use Rattle.canvas_worker.proofs.Polls.Redelivering.{just_has, still_has}
 use Rattle.canvas_worker.proofs.Polls.Stepping.{taking_all, took_makes}
@@ -67,24 +67,6 @@ call_can (C.to_queue queue.take) (C.from_queue None) h es p q suit m c = subst (
 call_can (C.to_queue (queue.publish e)) C.refused h es p q suit m c = subst (λ z. Each (CanDeliver z) (in_hand h es)) (sym m) c
 call_can C.rest r h es p q suit m c = subst (λ z. Each (CanDeliver z) (in_hand h es)) (sym m) c
 call_can a r h es p q suit m c = elim suit [ ]
-
--- ---- an open script has an envelope
-
-module _ (behaviour : Behaviour) (plan : Roster) where
-  pub has_open : (s : Left) (h : Option Envelope) (r : Answer) → C.Suits (asked s) r → (is_inside s ≡ true → IsSome (open_of s h))
-      → is_inside (answered (enveloped behaviour plan) s r) ≡ true → IsSome (held_by (open_of s h) (asked s) r)
-  has_open C.taking h (C.from_queue None) u has i = absurd (false≢true i)
-  has_open C.taking h (C.from_queue (Some e)) u has i = refl
-  has_open C.resting h (C.rested true) u has i = absurd (false≢true i)
-  has_open C.resting h (C.rested false) u has i = absurd (false≢true i)
-  has_open (C.owning m) h (C.from_table (table.was b)) u has i = refl
-  has_open (C.doing (store t o ∷ js) b) h (C.from_table (table.was a)) u has i = has refl
-  has_open (C.doing (publish e ∷ js) b) h (C.from_queue None) u has i = has refl
-  has_open (C.doing (publish e ∷ js) b) h C.refused u has i = has refl
-  has_open (C.doing (part g t c ∷ js) b) h (C.from_table (table.count n)) u has i = has refl
-  has_open (C.reading g c t fs) h (C.from_table (table.found x)) u has i = has refl
-  has_open C.acking h C.acked u has i = absurd (false≢true i)
-  has_open s h r u has i = elim u [ ]
 
 -- ---- the envelope of the open script is delivered again
 

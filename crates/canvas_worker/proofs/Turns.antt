@@ -7,19 +7,13 @@ use Rattle.canvas_history.specs.Roster.{Roster}
 use Rattle.canvas_runs.specs.Calls.{QueueAnswered, TableAnswered, takes_one, broker_calls, backend_calls}
 use Rattle.canvas_history.specs.Lists.{total}
 use Rattle.canvas_runs.specs.Tally.{Tally, IsTally, Counted, CountsMore, publishing, storing, returning, dropping, greatest_count}
-use Rattle.canvas_worker.specs.Asks.{Asked, Answer}
+use Rattle.canvas_core.specs.Asks.{Asked, Answer}
+use Rattle.canvas_core.proofs.Cores.Counts.{of_queue, of_table}
 use Rattle.canvas_worker.specs.Polls.{Work, progress, Ready, acts, does_nothing, Pends, Acted, EndsWith}
-use Rattle.canvas_worker.specs.declared.cause.Cause.{Cause}
+use Rattle.canvas_core.specs.declared.cause.Cause.{Cause}
 use Rattle.canvas_worker.specs.declared.working.End.{End}
 
 -- ---- counts
-
--- what one answered ask adds to a count of calls of the queue, and of the table
-abbrev pub of_queue : (QueueAnswered Envelope → ℕ) → Asked → Answer → ℕ
-of_queue w a r = total w (broker_calls ((a, r) ∷ []))
-
-abbrev pub of_table : (TableAnswered → ℕ) → Asked → Answer → ℕ
-of_table w a r = total w (backend_calls ((a, r) ∷ []))
 
 pub unchanged : (n m : ℕ) → n ≤ greatest_count → m ≡ n → CountsMore n 0 m
 unchanged n m h e = omega (arith, h, e)

@@ -5,11 +5,11 @@ use Rattle.canvas_task.specs.Apply.{Behaviour}
 use Rattle.canvas_runs.specs.Core.{is_inside}
 use Rattle.canvas_runs.specs.declared.when.When.{When}
 use Rattle.canvas_runs.specs.declared.when.When.TheVariants.{Early, Late}
-use Rattle.canvas_worker.specs.Asks.{shown}
-use Rattle.canvas_worker.specs.CoreState.{Standing, asked, point_at}
+use Rattle.canvas_core.specs.Asks.{shown}
+use Rattle.canvas_core.specs.CoreState.{Standing, asked, point_at}
 use Rattle.canvas_worker.specs.Polls.{Work, Acted, Ends, EndsFor, Leaves, Redelivered}
-use Rattle.canvas_worker.specs.declared.cause.Cause.{Cause}
-use Rattle.canvas_worker.specs.declared.cause.Cause.TheVariants.{Memory, Stopped}
+use Rattle.canvas_core.specs.declared.cause.Cause.{Cause}
+use Rattle.canvas_core.specs.declared.cause.Cause.TheVariants.{Memory, Stopped}
 use Rattle.canvas_worker.specs.declared.record.Record.{Record}
 use Rattle.canvas_worker.specs.declared.working.Said.{Said}
 use Rattle.canvas_worker.specs.declared.working.Said.TheVariants.{Wait, Again, On}

@@ -15,17 +15,17 @@ use Rattle.canvas_runs.specs.Calls.{QueueAnswered}
 use Rattle.canvas_runs.specs.Following.{Pass, Seat}
 use Rattle.canvas_history.specs.Lists.{Each}
 use Rattle.canvas_runs.specs.Tally.{Tally, IsTally}
-use Rattle.canvas_worker.specs.Asks.{Asked, Answer}
+use Rattle.canvas_core.specs.Asks.{Asked, Answer}
 use Rattle.canvas_runs.specs.Book.{book_on}
-use Rattle.canvas_worker.specs.CorePast.{task_in}
-use Rattle.canvas_worker.specs.SeatRights.{Can}
+use Rattle.canvas_core.specs.CorePast.{task_in}
+use Rattle.canvas_core.specs.SeatRights.{Can}
 use Rattle.canvas_runs.specs.Tally.{greatest_count}
-use Rattle.canvas_worker.specs.CoreState.{Standing, Progress, HasFollowed, begun as new_core, after_reply, failing, held}
+use Rattle.canvas_core.specs.CoreState.{Standing, Progress, HasFollowed, begun as new_core, after_reply, failing, held}
 use Rattle.canvas_worker.specs.WorkerSteps.{AnsweredByCall, FromHeld, Batched, Delivered}
-use Rattle.canvas_worker.specs.declared.ask.Ask.{Ask}
-use Rattle.canvas_worker.specs.declared.ask.Ask.TheVariants.{Store, Part, Ack, Rest}
-use Rattle.canvas_worker.specs.declared.cause.Cause.{Cause}
-use Rattle.canvas_worker.specs.declared.cause.Cause.TheVariants.{Memory}
+use Rattle.canvas_core.specs.declared.ask.Ask.{Ask}
+use Rattle.canvas_core.specs.declared.ask.Ask.TheVariants.{Store, Part, Ack, Rest}
+use Rattle.canvas_core.specs.declared.cause.Cause.{Cause}
+use Rattle.canvas_core.specs.declared.cause.Cause.TheVariants.{Memory}
 use Rattle.canvas_worker.specs.declared.record.Record.{Record}
 
 -- a worker in the middle of its work: the broker and the backend that it works at, its number, its

@@ -10,7 +10,7 @@ use Rattle.canvas_history.specs.Queue.{QueueCall, take, HasTaken}
 use Rattle.canvas_history.specs.Passes.{Stands}
 use Rattle.canvas_runs.specs.Following.{Pass}
 use Rattle.canvas_runs.specs.Core.{Ask, Reply}
-use Rattle.canvas_worker.specs.CoreState.{Progress, HasFollowed}
+use Rattle.canvas_core.specs.CoreState.{Progress, HasFollowed}
 use Rattle.canvas_runs.specs.Tally.{IsTally}
 use Rattle.canvas_worker.specs.WorkerSteps.{AnsweredByCall, FromHeld, Batched, Delivered}
 

@@ -10,8 +10,8 @@ use Rattle.canvas_runs.specs.Core.{Ask, Reply, to_queue, from_queue, ask, answer
 use Rattle.canvas_runs.specs.Following.{Makes, Serves}
 use Rattle.canvas_runs.specs.Calls.{broker_call, backend_call, held_by}
 use Rattle.canvas_runs.specs.Tally.{Counted}
-use Rattle.canvas_worker.specs.EnvelopeWorker.{enveloped}
-use Rattle.canvas_worker.specs.CoreState.{Progress}
+use Rattle.canvas_core.specs.EnvelopeWorker.{enveloped}
+use Rattle.canvas_core.specs.CoreState.{Progress}
 
 -- an envelope is taken from the broker only where none is held
 abbrev pub OnlyBare : Ask Envelope → Reply Envelope → List Envelope → Type 0

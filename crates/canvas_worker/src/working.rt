@@ -2,12 +2,12 @@
 
 ghost use Rattle.std.specs.Prelude.{◌≡◌, Some, Ok, IsSome, IfOk, IfErr, OnErr, MatchResult, true};
 ghost use Rattle.canvas_runs.specs.Core.{from_queue, is_inside};
-ghost use Rattle.canvas_worker.specs.Asks.{suits, shown, replied, FoundInRange, Grows};
+ghost use Rattle.canvas_core.specs.Asks.{suits, shown, replied, FoundInRange, Grows};
 ghost use Rattle.canvas_worker.specs.GateAnswers.{asks_at, passed_after, Heard, Heeds, EndsHeeding};
-ghost use Rattle.canvas_worker.specs.CoreState.{asked, held};
+ghost use Rattle.canvas_core.specs.CoreState.{asked, held};
 ghost use Rattle.canvas_worker.specs.Polls.{Ready, EndsFor, Acted, Pends, EndsWith, Leaves, Redelivered, working_begun, with_answer, lost, one_taken};
-ghost use Rattle.canvas_worker.specs.declared.ask.Ask.TheVariants as ask;
-ghost use Rattle.canvas_worker.specs.declared.cause.Cause.TheVariants as cause;
+ghost use Rattle.canvas_core.specs.declared.ask.Ask.TheVariants as ask;
+ghost use Rattle.canvas_core.specs.declared.cause.Cause.TheVariants as cause;
 ghost use Rattle.canvas_worker.specs.declared.working.Said.TheVariants.{Wait, Again, On};
 
 mod answering;
@@ -66,7 +66,7 @@ pub(crate) struct Working<'a, R: Wait> {
 impl<'a, R: Wait> Model for Working<'a, R> {
     ghost use Rattle.std.specs.Coded.{codes};
     ghost use Rattle.canvas_message.specs.codes.ContentCode.{content_code};
-    ghost use Rattle.canvas_worker.specs.codes.CoreCode.{carried_code};
+    ghost use Rattle.canvas_core.specs.codes.CoreCode.{carried_code};
     ghost use Rattle.canvas_worker.specs.steps.Held.{held_in};
     ghost use Rattle.canvas_worker.specs.Polls.{Work};
 

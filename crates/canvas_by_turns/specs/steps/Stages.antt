@@ -22,14 +22,14 @@ use Rattle.canvas_turns.specs.Spending.{Entry, TurnedAgain, wanted, spent, again
 use Rattle.canvas_turns.specs.Turns.{Step, HasEnded, IsWorker, AllEnded, Begins, round, rounds, queue_after, queue_next, results_after, results_next, redeliveries_in}
 use Rattle.canvas_turns.specs.TurnLaws.{ByTurns}
 use Rattle.canvas_message.specs.Content.{Content}
-use Rattle.canvas_worker.specs.Asks.{Asked, Answer}
-use Rattle.canvas_worker.specs.Books.{no_book}
-use Rattle.canvas_worker.specs.EnvelopeWorker.{enveloped, enveloped_by, no_tasks}
-use Rattle.canvas_worker.specs.CorePast.{task_in}
-use Rattle.canvas_worker.specs.CoreState as standing
-use Rattle.canvas_worker.specs.CoreState.{Standing, asked, after_reply, begun, point_at}
-use Rattle.canvas_worker.specs.declared.cause.Cause.{Cause}
-use Rattle.canvas_worker.specs.declared.cause.Cause.TheVariants.{Memory, Stopped}
+use Rattle.canvas_core.specs.Asks.{Asked, Answer}
+use Rattle.canvas_core.specs.Books.{no_book}
+use Rattle.canvas_core.specs.EnvelopeWorker.{enveloped, enveloped_by, no_tasks}
+use Rattle.canvas_core.specs.CorePast.{task_in}
+use Rattle.canvas_core.specs.CoreState as standing
+use Rattle.canvas_core.specs.CoreState.{Standing, asked, after_reply, begun, point_at}
+use Rattle.canvas_core.specs.declared.cause.Cause.{Cause}
+use Rattle.canvas_core.specs.declared.cause.Cause.TheVariants.{Memory, Stopped}
 use Rattle.canvas_by_turns.specs.Traced.{sent_after}
 use Rattle.canvas_by_turns.specs.steps.Noting.{kept}
 use Rattle.canvas_by_turns.specs.declared.stage.Stage.{Stage}

@@ -36,8 +36,8 @@ use Rattle.canvas_callers.proofs.Tallies.{tallies_count}
 use Rattle.canvas_worker.specs.Finished.{Finished}
 use Rattle.canvas_worker.proofs.Polls.Stepping.{nothing_done}
 use Rattle.canvas_worker.specs.declared.record.Record.{Record}
-use Rattle.canvas_worker.specs.declared.cause.Cause.{Cause}
-use Rattle.canvas_worker.specs.declared.cause.Cause.TheVariants.{Memory, Stopped}
+use Rattle.canvas_core.specs.declared.cause.Cause.{Cause}
+use Rattle.canvas_core.specs.declared.cause.Cause.TheVariants.{Memory, Stopped}
 use Rattle.canvas_by_turns.specs.Correct.{AreWorkers}
 use Rattle.canvas_engine.specs.Evidence.{IsRun, AreTallies, IsThreadFault}
 use Rattle.canvas_engine.specs.steps.Crews.{Crew, IsStart, IsWellGathered, AreWanted, tallies_from}

@@ -26,7 +26,7 @@ use Rattle.canvas_callers.specs.Accounts.{HasQueueCalls, QueueAccounts}
 use Rattle.canvas_callers.specs.Crew.{Mate, Ran, numbers_along}
 use Rattle.canvas_callers.specs.Rows.{reads_from}
 use Rattle.canvas_callers.proofs.FromCrew.{passes, sent}
-use Rattle.canvas_worker.specs.CoreState.{task_of}
+use Rattle.canvas_core.specs.CoreState.{task_of}
 use Rattle.canvas_worker.specs.Finished.{Finished}
 use Rattle.canvas_worker.specs.Polls.{IsWanted}
 use Rattle.canvas_worker.specs.declared.record.Record.{Record}

@@ -17,7 +17,7 @@ use Rattle.canvas_runs.specs.Worker.{sealed}
 use Rattle.canvas_callers.specs.Crew.{Mate, SplitPasses, JoinPasses, SplitSeats, JoinSeats, first_pass, first_seat}
 use Rattle.canvas_turns.specs.Turns.{FirstsRead}
 use Rattle.canvas_worker.specs.Polls.{IsWanted}
-use Rattle.canvas_worker.specs.declared.cause.Cause.{Cause}
+use Rattle.canvas_core.specs.declared.cause.Cause.{Cause}
 use Rattle.canvas_engine.specs.steps.Slots.{AreOfSite, IsReadySlot, SplitsOff, nothing_counted}
 use Rattle.canvas_engine.specs.declared.threads.records.Tally.{Tally}
 use Rattle.canvas_by_turns.specs.declared.fault.RunFault.{RunFault}

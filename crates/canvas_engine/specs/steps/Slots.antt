@@ -14,8 +14,8 @@ use Rattle.canvas_history.specs.Passes as passes
 use Rattle.canvas_history.specs.Callers.{Owes}
 use Rattle.canvas_runs.specs.Following.{Pass, Seat}
 use Rattle.canvas_worker.specs.Finished.{Finished}
-use Rattle.canvas_worker.specs.declared.cause.Cause.{Cause}
-use Rattle.canvas_worker.specs.declared.cause.Cause.TheVariants.{Memory, Stopped}
+use Rattle.canvas_core.specs.declared.cause.Cause.{Cause}
+use Rattle.canvas_core.specs.declared.cause.Cause.TheVariants.{Memory, Stopped}
 use Rattle.canvas_worker.specs.declared.record.Record.{Record}
 use Rattle.canvas_engine.specs.declared.threads.crew.Hands.{Hands}
 use Rattle.canvas_engine.specs.declared.threads.crew.Site.{Site}

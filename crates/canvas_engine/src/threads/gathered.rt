@@ -1,6 +1,6 @@
 //! The end of a run on threads: worker 0 works on by itself, and reads the rows.
 ghost use Rattle.std.specs.Prelude.{◌≡◌, List, length, Option, Some, None, IfSome, IfOk, IfErr};
-ghost use Rattle.canvas_worker.specs.declared.cause.Cause.{Cause};
+ghost use Rattle.canvas_core.specs.declared.cause.Cause.{Cause};
 ghost use Rattle.canvas_semantics.specs.Line.{Line, count_line, tree_of};
 ghost use Rattle.canvas_rewrite.specs.Planned.{IsPlan};
 ghost use Rattle.canvas_semantics.specs.States.{states};

@@ -13,14 +13,14 @@ use Rattle.canvas_runs.specs.Core.{CoreState, taking, resting, over, left_after}
 use Rattle.canvas_runs.specs.Following.{Pass, Seat, Working, Followed, starting, IsOver}
 use Rattle.canvas_history.specs.Lists.{Each}
 use Rattle.canvas_runs.specs.Worker.{worker, worker_of}
-use Rattle.canvas_worker.specs.Asks.{Asked, Answer}
-use Rattle.canvas_worker.specs.Cores.{IsAlike, GoTogether}
-use Rattle.canvas_worker.specs.EnvelopeWorker.{enveloped}
+use Rattle.canvas_core.specs.Asks.{Asked, Answer}
+use Rattle.canvas_core.specs.Cores.{IsAlike, GoTogether}
+use Rattle.canvas_core.specs.EnvelopeWorker.{enveloped}
 use Rattle.canvas_worker.specs.Finished.{Finished, WorkersStart}
-use Rattle.canvas_worker.specs.CoreState.{Left, Progress, HasFollowed}
+use Rattle.canvas_core.specs.CoreState.{Left, Progress, HasFollowed}
 use Rattle.canvas_worker.specs.Polls.{IsWanted, TellsOf, working_begun}
 use Rattle.canvas_worker.specs.declared.record.Record.{Record}
-use Rattle.canvas_worker.proofs.Cores.CoreLaw.{cores_are_workers}
+use Rattle.canvas_core.proofs.Cores.CoreLaw.{cores_are_workers}
 
 -- over together
 over_alike : (behaviour : Behaviour) (t : CoreState Content PCarried) → IsAlike behaviour over t → t ≡ over

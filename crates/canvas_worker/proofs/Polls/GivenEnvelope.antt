@@ -14,21 +14,22 @@ use Rattle.canvas_runs.specs.Core.{answered, is_inside, Suits, ReadsBack}
 use Rattle.canvas_runs.specs.Following.{Seat, Serves}
 use Rattle.canvas_history.specs.Lists.{Each}
 use Rattle.canvas_runs.specs.Tally.{Tally, Counted, dropping, greatest_count}
-use Rattle.canvas_worker.specs.EnvelopeWorker.{enveloped}
-use Rattle.canvas_worker.specs.CorePast.{task_in}
-use Rattle.canvas_worker.specs.SeatRights.{Can}
-use Rattle.canvas_worker.specs.CoreState.{Standing, Progress, asked, drops, after_reply, held, kept_next, task_next}
+use Rattle.canvas_core.specs.EnvelopeWorker.{enveloped}
+use Rattle.canvas_core.specs.CorePast.{task_in}
+use Rattle.canvas_core.specs.SeatRights.{Can}
+use Rattle.canvas_core.specs.CoreState.{Standing, Progress, asked, drops, after_reply, held, kept_next, task_next}
 use Rattle.canvas_worker.specs.WorkerSteps.{Batched, FromHeld}
 use Rattle.canvas_worker.specs.Polls.{Work, progress, with_core, with_answer, lost, one_taken, CanDeliver, in_hand, Ready, gives_held, keeps_batch, Acted, Leaves, Ends, EndsWith}
-use Rattle.canvas_worker.specs.declared.cause.Cause.TheVariants.{Memory}
+use Rattle.canvas_core.specs.declared.cause.Cause.TheVariants.{Memory}
 use Rattle.canvas_worker.specs.declared.record.Record.{Record}
 use Rattle.canvas_worker.specs.declared.working.End.{End}
-use Rattle.canvas_worker.proofs.Rights.Asking.{may_go_on}
-use Rattle.canvas_worker.proofs.Cores.CorePasts.{book_step, task_step}
-use Rattle.canvas_worker.proofs.Cores.ShownAsks.{drops_so, takes_taking}
+use Rattle.canvas_core.proofs.Rights.Asking.{may_go_on}
+use Rattle.canvas_core.proofs.Cores.CorePasts.{book_step, task_step}
+use Rattle.canvas_core.proofs.Cores.ShownAsks.{drops_so, takes_taking}
 use Rattle.canvas_worker.proofs.InHand.{batch_can, but_open}
-use Rattle.canvas_worker.proofs.Cores.Resting.{given_never}
-use Rattle.canvas_worker.proofs.Turns.{of_queue, unchanged, one_more, tallied, some_none}
+use Rattle.canvas_core.proofs.Cores.Resting.{given_never}
+use Rattle.canvas_worker.proofs.Turns.{unchanged, one_more, tallied, some_none}
+use Rattle.canvas_core.proofs.Cores.Counts.{of_queue}
 
 -- ---- an envelope given to the core
 

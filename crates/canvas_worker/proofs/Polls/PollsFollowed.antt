@@ -14,12 +14,12 @@ use Rattle.canvas_runs.specs.Core.{owning, acking, is_inside}
 use Rattle.canvas_history.specs.Lists.{Each}
 use Rattle.canvas_runs.specs.declared.when.When.{When}
 use Rattle.canvas_runs.specs.declared.when.When.TheVariants.{Early, Late}
-use Rattle.canvas_worker.specs.CorePast.{task_in}
-use Rattle.canvas_worker.specs.CoreState.{Left, Progress, HasFollowed, held, point_in}
+use Rattle.canvas_core.specs.CorePast.{task_in}
+use Rattle.canvas_core.specs.CoreState.{Left, Progress, HasFollowed, held, point_in}
 use Rattle.canvas_worker.specs.GateAnswers.{unless_passed, asks_at, Wants, Heeds, waits, delivers, goes_on, LeavesHeeding, stops, fails_again, ends}
 use Rattle.canvas_worker.specs.Polls.{Work, progress, Ready, IsWanted, Acts, makes_call, gives_held, ActsLast, acts_last, does_nothing, keeps_batch, Pends, IsRecordOf, Ends, TellsOf}
 use Rattle.canvas_worker.specs.WorkerSteps.{Delivered}
-use Rattle.canvas_worker.specs.declared.cause.Cause.TheVariants.{Memory, Stopped}
+use Rattle.canvas_core.specs.declared.cause.Cause.TheVariants.{Memory, Stopped}
 use Rattle.canvas_worker.specs.declared.record.Record.{Record}
 use Rattle.canvas_worker.proofs.Polls.Stepping.{rests, call_first, held_first, batch_first, again_first, rests_wanted, call_wanted, held_wanted, batch_wanted, again_wanted}
 use Rattle.canvas_worker.proofs.Turns.{ends_acting}

@@ -15,8 +15,8 @@ use Rattle.canvas_history.specs.Lists.{Each, total}
 use Rattle.canvas_runs.specs.Protocol.{Protocol}
 use Rattle.canvas_worker.specs.WorkerSteps.{OnlyBare, AnsweredByCall, FromHeld, Batched, Delivered}
 use Rattle.canvas_runs.specs.Tally.{Tally, CountsMore, IsTally, Counted, greatest_count, publishing, storing, returning, dropping}
-use Rattle.canvas_worker.specs.EnvelopeWorker.{enveloped}
-use Rattle.canvas_worker.specs.CoreState.{Progress, HasFollowed}
+use Rattle.canvas_core.specs.EnvelopeWorker.{enveloped}
+use Rattle.canvas_core.specs.CoreState.{Progress, HasFollowed}
 use Rattle.canvas_worker.specs.Polls.{IsWanted}
 use Rattle.canvas_runs.proofs.Lists.Sums.{total-append}
 use Rattle.canvas_runs.proofs.Lists.Words.{each_append}

@@ -12,23 +12,25 @@ use Rattle.canvas_runs.specs.Core.{answered, is_inside, Suits, ReadsBack}
 use Rattle.canvas_runs.specs.Following.{Makes, Serves}
 use Rattle.canvas_history.specs.Lists.{Each}
 use Rattle.canvas_runs.specs.Tally.{Counted, CountsMore, publishing, storing, returning, dropping, greatest_count}
-use Rattle.canvas_worker.specs.Asks.{Asked, Answer}
-use Rattle.canvas_worker.specs.Books.{no_book}
-use Rattle.canvas_worker.specs.EnvelopeWorker.{enveloped, enveloped_by, no_tasks}
-use Rattle.canvas_worker.specs.CorePast.{task_in}
-use Rattle.canvas_worker.specs.SeatRights.{Can}
-use Rattle.canvas_worker.specs.CoreState.{Standing, Progress, asked, drops, after_reply, open_of, kept_next, task_next}
+use Rattle.canvas_core.specs.Asks.{Asked, Answer}
+use Rattle.canvas_core.specs.Books.{no_book}
+use Rattle.canvas_core.specs.EnvelopeWorker.{enveloped, enveloped_by, no_tasks}
+use Rattle.canvas_core.specs.CorePast.{task_in}
+use Rattle.canvas_core.specs.SeatRights.{Can}
+use Rattle.canvas_core.specs.CoreState.{Standing, Progress, asked, drops, after_reply, open_of, kept_next, task_next}
 use Rattle.canvas_worker.specs.WorkerSteps.{OnlyBare, AnsweredByCall}
 use Rattle.canvas_worker.specs.Polls.{Work, progress, with_core, with_answer, lost, CanDeliver, in_hand, Ready, makes_call, acts_last, Acted, Leaves, Ends, EndsWith}
-use Rattle.canvas_worker.specs.declared.cause.Cause.TheVariants.{Memory}
+use Rattle.canvas_core.specs.declared.cause.Cause.TheVariants.{Memory}
 use Rattle.canvas_worker.specs.declared.record.Record.{Record}
 use Rattle.canvas_worker.specs.declared.working.End.{End}
-use Rattle.canvas_worker.proofs.Rights.Asking.{may_go_on}
-use Rattle.canvas_worker.proofs.InHand.{call_can, has_open}
-use Rattle.canvas_worker.proofs.Cores.Resting.{busy_never}
-use Rattle.canvas_worker.proofs.Cores.CorePasts.{book_step, task_step}
-use Rattle.canvas_worker.proofs.Cores.ShownAsks.{drops_so, rests_over}
-use Rattle.canvas_worker.proofs.Turns.{of_queue, of_table, tallied, some_none}
+use Rattle.canvas_core.proofs.Rights.Asking.{may_go_on}
+use Rattle.canvas_worker.proofs.InHand.{call_can}
+use Rattle.canvas_core.proofs.Cores.Opened.{has_open}
+use Rattle.canvas_core.proofs.Cores.Resting.{busy_never}
+use Rattle.canvas_core.proofs.Cores.CorePasts.{book_step, task_step}
+use Rattle.canvas_core.proofs.Cores.ShownAsks.{drops_so, rests_over}
+use Rattle.canvas_worker.proofs.Turns.{tallied, some_none}
+use Rattle.canvas_core.proofs.Cores.Counts.{of_queue, of_table}
 
 -- ---- one ask answered by the broker or the backend
 

@@ -3,13 +3,13 @@
 ghost use Rattle.std.specs.Prelude.{◌≡◌, [], None, Some, IsOk, IfErr, MatchResult};
 ghost use Rattle.canvas_task.specs.Apply.{IsInRange};
 ghost use Rattle.canvas_runs.specs.Core.{ReadsBack};
-ghost use Rattle.canvas_worker.specs.Asks.{shown};
-ghost use Rattle.canvas_worker.specs.Books.{no_book};
-ghost use Rattle.canvas_worker.specs.EnvelopeWorker.{enveloped_by, no_tasks};
-ghost use Rattle.canvas_worker.specs.CoreState.{asked};
+ghost use Rattle.canvas_core.specs.Asks.{shown};
+ghost use Rattle.canvas_core.specs.Books.{no_book};
+ghost use Rattle.canvas_core.specs.EnvelopeWorker.{enveloped_by, no_tasks};
+ghost use Rattle.canvas_core.specs.CoreState.{asked};
 ghost use Rattle.canvas_worker.specs.Polls.{Ready, EndsFor, Acted, EndsWith};
-ghost use Rattle.canvas_worker.specs.declared.ask.Ask.TheVariants as ask;
-ghost use Rattle.canvas_worker.specs.declared.cause.Cause.TheVariants as cause;
+ghost use Rattle.canvas_core.specs.declared.ask.Ask.TheVariants as ask;
+ghost use Rattle.canvas_core.specs.declared.cause.Cause.TheVariants as cause;
 
 use crate::source::Source;
 use crate::working::{End, Working};

@@ -2,8 +2,8 @@ use Rattle.std.proofs.Common.{◌≡◌, OnOk, None, refl, sym, ap, ◌∙◌, s
 use Rattle.canvas_history.specs.Queue as queue
 use Rattle.canvas_runs.specs.Core as C
 use Rattle.canvas_runs.specs.Book.{book_on}
-use Rattle.canvas_worker.specs.CoreState.{after_reply}
-use Rattle.canvas_worker.proofs.Cores.ShownAsks.{handed_out, handed_same}
+use Rattle.canvas_core.specs.CoreState.{after_reply}
+use Rattle.canvas_core.proofs.Cores.ShownAsks.{handed_out, handed_same}
 use Rattle.canvas_by_turns.specs.Traced.{sent_by}
 use Rattle.canvas_by_turns.specs.steps.Noting.{Noted}
 use Rattle.canvas_by_turns.specs.steps.Stages.{Stepped}

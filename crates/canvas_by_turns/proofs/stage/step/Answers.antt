@@ -2,10 +2,10 @@ use Rattle.std.proofs.Common.{refl, sym, subst}
 use Rattle.canvas_backend.specs.Plain.{held}
 use Rattle.canvas_history.specs.Table as table
 use Rattle.canvas_runs.specs.Core as C
-use Rattle.canvas_worker.specs.CoreState.{asked}
-use Rattle.canvas_worker.specs.declared.ask.Ask.TheVariants as A
+use Rattle.canvas_core.specs.CoreState.{asked}
+use Rattle.canvas_core.specs.declared.ask.Ask.TheVariants as A
 use Rattle.canvas_by_turns.specs.steps.Stages.{MayAsk}
-use Rattle.canvas_worker.proofs.Cores.ShownAsks.{is_store, is_part, is_read}
+use Rattle.canvas_core.proofs.Cores.ShownAsks.{is_store, is_part, is_read}
 use Rattle.canvas_by_turns.proofs.Sending.{silent, on_ok}
 use Rattle.canvas_by_turns.proofs.StageAsks.{answered_err, none_counted}
 use Rattle.canvas_by_turns.proofs.stage.step.Goals as goal

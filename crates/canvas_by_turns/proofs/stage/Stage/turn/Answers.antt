@@ -1,9 +1,9 @@
 use Rattle.std.proofs.Common.{refl, sym, ap, ◌∙◌, subst, arith}
 use Rattle.canvas_backend.specs.Plain.{Shelf, held}
 use Rattle.canvas_runs.specs.Core.{ReadsBack}
-use Rattle.canvas_worker.specs.Books.{no_book}
-use Rattle.canvas_worker.specs.EnvelopeWorker.{enveloped_by, no_tasks}
-use Rattle.canvas_worker.specs.CoreState.{Standing, asked}
+use Rattle.canvas_core.specs.Books.{no_book}
+use Rattle.canvas_core.specs.EnvelopeWorker.{enveloped_by, no_tasks}
+use Rattle.canvas_core.specs.CoreState.{Standing, asked}
 use Rattle.canvas_by_turns.specs.steps.Stages.{MayAsk, AreInRange}
 use Rattle.canvas_by_turns.proofs.StageTurns.{here_first, others, place_then, core_then, core_now, unchanged}
 use Rattle.canvas_by_turns.proofs.StageTurns.{not_out, has_open, skipped, stopped, may_ask, held_in_range, went, halfway, one_fewer}

@@ -5,7 +5,7 @@ use Rattle.canvas_semantics.specs.States.{states}
 use Rattle.canvas_effects.specs.Effects.{first_messages}
 use Rattle.canvas_runs.specs.Following.{Makes}
 use Rattle.canvas_runs.specs.Run.{published_all}
-use Rattle.canvas_worker.specs.declared.cause.Cause.TheVariants.{Memory}
+use Rattle.canvas_core.specs.declared.cause.Cause.TheVariants.{Memory}
 use Rattle.canvas_engine.specs.Evidence.{IsThreadFault}
 use Rattle.canvas_engine.specs.steps.Slots.{AllRan, AreOf, LeftARecord, TakesIn, tally_in}
 use Rattle.canvas_engine.specs.declared.threads.slot.Slot.{Slot}

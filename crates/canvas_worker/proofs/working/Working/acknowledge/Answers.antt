@@ -1,8 +1,8 @@
 use Rattle.std.proofs.Common.{◌≡◌}
 use Rattle.canvas_runs.specs.Core as C
-use Rattle.canvas_worker.specs.CoreState.{asked}
+use Rattle.canvas_core.specs.CoreState.{asked}
 use Rattle.canvas_worker.specs.Polls.{Work}
-use Rattle.canvas_worker.proofs.Cores.ShownAsks.{is_ack}
+use Rattle.canvas_core.proofs.Cores.ShownAsks.{is_ack}
 use Rattle.canvas_worker.proofs.Polls.ToldAnswers.{asked_well, ack_asks}
 use Rattle.canvas_worker.proofs.working.Working.acknowledge.Goals as goal
 

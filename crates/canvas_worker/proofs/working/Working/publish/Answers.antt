@@ -3,12 +3,12 @@ use Rattle.canvas_history.specs.Queue as queue
 use Rattle.canvas_runs.specs.Core as C
 use Rattle.canvas_worker.specs.steps.Held.{held_in}
 use Rattle.canvas_worker.specs.Polls.{Work}
-use Rattle.canvas_worker.proofs.Cores.Resting.{busy_never}
+use Rattle.canvas_core.proofs.Cores.Resting.{busy_never}
 use Rattle.canvas_runs.specs.Book.{book_on}
-use Rattle.canvas_worker.specs.Asks.{suits, shown}
-use Rattle.canvas_worker.specs.CoreState.{Standing, asked, handed, after_reply}
-use Rattle.canvas_worker.specs.declared.ask.Reply.TheVariants as R
-use Rattle.canvas_worker.proofs.Cores.ShownAsks.{handed_out, handed_same, still_publishes}
+use Rattle.canvas_core.specs.Asks.{suits, shown}
+use Rattle.canvas_core.specs.CoreState.{Standing, asked, handed, after_reply}
+use Rattle.canvas_core.specs.declared.ask.Reply.TheVariants as R
+use Rattle.canvas_core.proofs.Cores.ShownAsks.{handed_out, handed_same, still_publishes}
 use Rattle.canvas_worker.proofs.Polls.ToldAnswers.{asked_well, ends_badly}
 use Rattle.canvas_worker.proofs.working.Working.publish.Goals as goal
 

@@ -2,12 +2,12 @@ use Rattle.std.proofs.Common.{rules, ◌≡◌, refl, subst, ◌≤◌}
 use Rattle.canvas_history.specs.Table as table
 use Rattle.canvas_runs.specs.Core as C
 use Rattle.canvas_worker.specs.steps.Held.{held_in}
-use Rattle.canvas_worker.specs.CoreState.{asked}
+use Rattle.canvas_core.specs.CoreState.{asked}
 use Rattle.canvas_worker.specs.Polls.{Work}
-use Rattle.canvas_worker.proofs.Cores.Resting.{busy_never}
-use Rattle.canvas_worker.specs.SeatRights.{LetsAsk}
-use Rattle.canvas_worker.proofs.Rights.Asking.{may_ask}
-use Rattle.canvas_worker.proofs.Cores.ShownAsks.{is_read}
+use Rattle.canvas_core.proofs.Cores.Resting.{busy_never}
+use Rattle.canvas_core.specs.SeatRights.{LetsAsk}
+use Rattle.canvas_core.proofs.Rights.Asking.{may_ask}
+use Rattle.canvas_core.proofs.Cores.ShownAsks.{is_read}
 use Rattle.canvas_worker.proofs.Polls.ToldAnswers.{asked_well}
 use Rattle.canvas_worker.proofs.working.Working.read.Goals as goal
 

@@ -1,8 +1,8 @@
 use Rattle.std.proofs.Common.{◌≡◌, true, false}
 use Rattle.canvas_runs.specs.Core as C
-use Rattle.canvas_worker.specs.CoreState.{asked}
+use Rattle.canvas_core.specs.CoreState.{asked}
 use Rattle.canvas_worker.specs.Polls.{Work}
-use Rattle.canvas_worker.proofs.Cores.ShownAsks.{is_rest}
+use Rattle.canvas_core.proofs.Cores.ShownAsks.{is_rest}
 use Rattle.canvas_worker.proofs.Polls.ToldAnswers.{rest_asks, asked_well, asked_badly, rests_well}
 use Rattle.canvas_worker.proofs.working.Working.rest.Goals as goal
 

@@ -2,10 +2,10 @@ use Rattle.std.proofs.Common.{rules, ◌≡◌, ◌∙◌, [], ◌∷◌, append
 use Rattle.canvas_message.specs.declared.envelope.Envelope.{Envelope}
 use Rattle.canvas_history.specs.Passes.{Took}
 use Rattle.canvas_worker.specs.steps.Held.{held_in}
-use Rattle.canvas_worker.specs.CoreState.{asked}
+use Rattle.canvas_core.specs.CoreState.{asked}
 use Rattle.canvas_worker.specs.Polls.{Work}
 use Rattle.canvas_worker.proofs.Polls.GivenEnvelope.{given_well}
-use Rattle.canvas_worker.proofs.Cores.ShownAsks.{is_take}
+use Rattle.canvas_core.proofs.Cores.ShownAsks.{is_take}
 use Rattle.canvas_worker.proofs.working.Working.take.Goals as goal
 
 pub returns-in-Some-clause-acted : goal.returns-in-Some-clause-acted

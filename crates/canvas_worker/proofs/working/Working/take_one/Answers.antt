@@ -5,10 +5,10 @@ use Rattle.canvas_history.specs.Queue as queue
 use Rattle.canvas_history.specs.Passes.{Stands, Empties}
 use Rattle.canvas_runs.specs.Core as C
 use Rattle.canvas_worker.specs.steps.Held.{held_in}
-use Rattle.canvas_worker.specs.CoreState.{asked}
+use Rattle.canvas_core.specs.CoreState.{asked}
 use Rattle.canvas_worker.specs.Polls.{Work}
 use Rattle.canvas_worker.proofs.Polls.GivenEnvelope.{given_well}
-use Rattle.canvas_worker.proofs.Cores.ShownAsks.{is_take, reads_back}
+use Rattle.canvas_core.proofs.Cores.ShownAsks.{is_take, reads_back}
 use Rattle.canvas_worker.proofs.Polls.ToldAnswers.{asked_well}
 use Rattle.canvas_worker.proofs.working.Working.take_one.Goals as goal
 

@@ -1,0 +1,11 @@
+-- What a core does, and what ends it.
+pub mod FoundMembers
+pub mod CoreLaw
+pub mod Stores
+pub mod ScriptsMade
+pub mod CorePasts
+pub mod EndLaw
+pub mod ShownAsks
+pub mod Resting
+pub mod Counts
+pub mod Opened

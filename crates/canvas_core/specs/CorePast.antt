@@ -1,0 +1,67 @@
+-- Which asks and answers lead to a core that a contract shows: what it has left to do is what they
+-- leave, and it counts the envelopes that they dropped.
+use Rattle.std.specs.Prelude.{◌≡◌, ℕ, ◌+◌, min, if◌then◌else◌, true, false, List, [], ◌∷◌, ◌++◌, Option, Some, None}
+use Rattle.canvas_task.specs.Apply.{Behaviour}
+use Rattle.canvas_runs.specs.Book.{Book}
+use Rattle.canvas_runs.specs.Calls.{held_after}
+use Rattle.canvas_message.specs.declared.envelope.Envelope.{Envelope}
+use Rattle.canvas_runs.specs.Core.{taking, answered, left_after, ReadsBack, IsCoreRun, is_inside}
+use Rattle.canvas_runs.specs.Worker.{opened}
+use Rattle.canvas_core.specs.Asks.{Asked, Answer, suits, shown, to_send, replied}
+use Rattle.canvas_core.specs.EnvelopeWorker.{enveloped_by}
+use Rattle.canvas_runs.specs.Tally.{greatest_count}
+use Rattle.canvas_core.specs.CoreState.{Left, Standing, held, asked, drops, unsent, begun, after_reply, held_out, handed, task_of}
+use Rattle.canvas_core.specs.declared.ask.Reply.{Reply}
+
+-- what is left to do after asks and answers
+abbrev pub left_by : Behaviour → Book → List (Asked × Answer) → Left
+left_by behaviour book xs = left_after (enveloped_by behaviour book) taking xs
+
+-- how many envelopes are dropped from a state on
+abbrev pub drops_from : Behaviour → Book → Left → List (Asked × Answer) → ℕ
+drops_from behaviour book s [] = 0
+drops_from behaviour book s (x ∷ xs) =
+    drops book s x.1 + drops_from behaviour book (answered (enveloped_by behaviour book) s x.1) xs
+
+-- the task of the message that an envelope reads as
+abbrev pub task_in : Book → Option Envelope → Option ℕ
+task_in book None = None
+task_in book (Some e) = task_of (opened book e)
+
+-- an envelope that was handed out isn't there any more
+pub record Leads (behaviour : Behaviour) (book : Book) (xs : List (Asked × Answer)) (s : Standing) :
+    Type 0 where
+  pub run : IsCoreRun (enveloped_by behaviour book) taking xs
+  pub left : s.left
+      ≡ (if s.is_out then unsent (left_by behaviour book xs) else left_by behaviour book xs)
+  pub dropped : s.dropped ≡ min greatest_count (drops_from behaviour book taking xs)
+  -- it holds the envelope of the open script, from its take until its acknowledgement is answered
+  pub holds : held s ≡ held_after None xs
+  -- and names the task of that one's message, none where it is dropped
+  pub task : is_inside s.left ≡ true → s.task ≡ task_in book (held s)
+
+-- none lead to a new core
+abbrev pub NoneLead : Type 0
+NoneLead = (behaviour : Behaviour) (book : Book) → Leads behaviour book [] begun
+
+-- With its next ask and the answer to that, they lead to the core that was answered.
+abbrev pub OneMoreLeads : Type 0
+OneMoreLeads =
+    (behaviour : Behaviour) (book : Book) (xs : List (Asked × Answer)) (s : Standing) (r : Reply)
+    → Leads behaviour book xs s
+    → ReadsBack (enveloped_by behaviour book) (left_by behaviour book xs)
+    → suits (shown s.task (asked s.left)) r ≡ true
+    → Leads behaviour book (xs ++ (asked (left_by behaviour book xs), replied r) ∷ [])
+    (after_reply behaviour book s (replied r))
+
+-- They lead to a core also once its envelope was handed out: the one that its next ask publishes.
+abbrev pub HandedLeads : Type 0
+HandedLeads =
+    (behaviour : Behaviour) (book : Book) (xs : List (Asked × Answer)) (s : Standing)
+    → Leads behaviour book xs s → Leads behaviour book xs (handed s)
+
+abbrev pub HandsOut : Type 0
+HandsOut =
+    (behaviour : Behaviour) (book : Book) (xs : List (Asked × Answer)) (s : Standing)
+    → Leads behaviour book xs s → s.is_out ≡ false
+    → held_out s ≡ to_send (asked (left_by behaviour book xs))

@@ -1,0 +1,135 @@
+-- What contracts see of a core.
+use Rattle.std.specs.Option.{option_map}
+use Rattle.std.specs.Prelude.{ℕ, ◌+◌, ◌∷◌, min, is_some, if◌then◌else◌, Bool, false, Option, Some, None}
+use Rattle.canvas_task.specs.Apply.{Behaviour}
+use Rattle.canvas_rewrite.specs.FrozenView.{PCarried}
+use Rattle.canvas_message.specs.Content.{Content, number_of}
+use Rattle.canvas_effects.specs.Job.{publish}
+use Rattle.canvas_message.specs.declared.envelope.Envelope.{Envelope}
+use Rattle.canvas_history.specs.Roster.{Roster}
+use Rattle.canvas_runs.specs.Book.{Book}
+use Rattle.canvas_runs.specs.Following.{Working, Followed}
+use Rattle.canvas_runs.specs.Tally.{greatest_count}
+use Rattle.canvas_runs.specs.Core.{CoreState, taking, failed, owning, doing, acking, from_queue, ask, answered}
+use Rattle.canvas_runs.specs.Worker.{opened}
+use Rattle.canvas_runs.specs.declared.when.When.{When}
+use Rattle.canvas_runs.specs.declared.when.When.TheVariants.{Early, Late}
+use Rattle.canvas_core.specs.Asks.{Asked, Answer, to_send}
+use Rattle.canvas_core.specs.Books.{no_book}
+use Rattle.canvas_core.specs.EnvelopeWorker.{Applied, unapplied, no_tasks, enveloped, enveloped_by, blank}
+
+abbrev pub Left : Type 0
+Left = CoreState Applied PCarried
+
+-- how far a worker is whose core keeps messages as their envelopes; and that from w on it followed
+-- a core run of its plan, and was v then
+abbrev pub Progress : Type 0
+Progress = Working Applied PCarried
+
+abbrev pub HasFollowed : Behaviour → Roster → Progress → Progress → Type 0
+HasFollowed behaviour plan w v = Followed (enveloped behaviour plan) plan w v
+
+-- what is left to do, whether the envelope that is to be published was handed out, how many
+-- envelopes were dropped, the envelope of the open script once its message's outcome is stored, and
+-- the task of that message
+pub record Standing : Type 0 where
+  pub left : Left
+  pub is_out : Bool
+  pub dropped : ℕ
+  pub kept : Option Envelope
+  pub task : Option ℕ
+
+-- an ask is the same whatever the tasks and the book
+abbrev pub asked : Left → Asked
+asked = ask (enveloped_by no_tasks no_book)
+
+abbrev pub unread : Option Content → ℕ
+unread None = 1
+unread (Some c) = 0
+
+abbrev pub drops_taken : Book → Answer → ℕ
+drops_taken book (from_queue (Some e)) = unread (opened book e)
+drops_taken book r = 0
+
+-- how many envelopes are dropped by a reply
+abbrev pub drops : Book → Left → Answer → ℕ
+drops book taking r = drops_taken book r
+drops book s r = 0
+
+abbrev pub begun : Standing
+begun = record { left = taking; is_out = false; dropped = 0; kept = None; task = None }
+
+abbrev pub kept_taken : Option Content → Envelope → Option Envelope → Option Envelope
+kept_taken None e h = Some e
+kept_taken (Some c) e h = h
+
+abbrev pub kept_next : Book → Left → Option Envelope → Answer → Option Envelope
+kept_next book taking h (from_queue (Some e)) = kept_taken (opened book e) e h
+kept_next book (owning m) h r = Some m.envelope
+kept_next book acking h r = None
+kept_next book s h r = h
+
+abbrev pub task_of : Option Content → Option ℕ
+task_of None = None
+task_of (Some c) = Some (number_of c.own)
+
+abbrev pub task_next : Book → Left → Option ℕ → Answer → Option ℕ
+task_next book taking x (from_queue (Some e)) = task_of (opened book e)
+task_next book s x r = x
+
+-- the envelope of the open script
+abbrev pub open_of : Left → Option Envelope → Option Envelope
+open_of (owning m) h = Some m.envelope
+open_of s h = h
+
+abbrev pub held : Standing → Option Envelope
+held s = open_of s.left s.kept
+
+-- The point to which the open script has come, with the task of its message: before the message's
+-- first store, or before the acknowledgement. The script of an envelope that was dropped has none.
+abbrev pub point_in : Left → Option ℕ → Option (ℕ × When)
+point_in (owning m) x = option_map (λ k. (k, Early)) x
+point_in acking x = option_map (λ k. (k, Late)) x
+point_in s x = None
+
+abbrev pub point_at : Standing → Option (ℕ × When)
+point_at s = point_in s.left s.task
+
+abbrev pub after_reply : Behaviour → Book → Standing → Answer → Standing
+after_reply behaviour book s r =
+    record {
+      left = answered (enveloped_by behaviour book) s.left r;
+      is_out = false;
+      dropped = min greatest_count (s.dropped + drops book s.left r);
+      kept = kept_next book s.left s.kept r;
+      task = task_next book s.left s.task r;
+    }
+
+-- where memory was refused
+abbrev pub failing : Standing → Standing
+failing s =
+    record { left = failed; is_out = false; dropped = s.dropped; kept = s.kept; task = s.task }
+
+-- the envelope that can be handed out
+abbrev pub held_out : Standing → Option Envelope
+held_out s = if s.is_out then None else to_send (asked s.left)
+
+-- the core no longer has the texts of an envelope that was handed out, and still waits for its
+-- publish
+abbrev pub unsent : Left → Left
+unsent (doing (publish e ∷ js) b) = doing (publish (unapplied blank) ∷ js) b
+unsent s = s
+
+abbrev pub handed : Standing → Standing
+handed s =
+    record {
+      left = unsent s.left;
+      is_out = is_some (to_send (asked s.left));
+      dropped = s.dropped;
+      kept = s.kept;
+      task = s.task;
+    }
+
+-- a core that waits for an envelope
+abbrev pub waiting : ℕ → Option Envelope → Option ℕ → Standing
+waiting n h x = record { left = taking; is_out = false; dropped = n; kept = h; task = x }

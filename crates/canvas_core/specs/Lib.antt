@@ -1,0 +1,17 @@
+pub mod Books
+pub mod EnvelopeWorker
+pub mod Asks
+pub mod CoreState
+pub mod Scripts
+pub mod Phases
+pub mod Cores
+pub mod CorePast
+pub mod AtEnd
+pub mod SeatRights
+pub mod codes
+pub mod steps
+pub use Rattle.canvas_history.specs.Queue
+pub use Rattle.canvas_runs.specs.Book
+pub use Rattle.canvas_runs.specs.Core
+pub use Rattle.canvas_runs.specs.Worker
+pub use Rattle.canvas_task.specs.Apply

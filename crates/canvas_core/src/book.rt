@@ -1,0 +1,33 @@
+//! What a worker knows of its plan.
+
+ghost use Rattle.std.specs.Prelude.{◌≡◌, ℕ, false};
+ghost use Rattle.canvas_runs.specs.Book.{Book as Known};
+ghost use Rattle.canvas_core.specs.Books.{HasMembers};
+
+use canvas_task::{GroupNo, TaskNo};
+
+/// What a worker knows of its plan, so that a message that names anything else is dropped and
+/// counted.
+pub trait Book {
+    ghost book: { Self → Known };
+
+    /// Whether the plan has the task.
+    fn knows(&self, task: TaskNo) -> bool
+        ensures { result ≡ (book self.now).knows task };
+
+    /// How many members a chord has; None of a plain group or an unknown number.
+    fn size(&self, group: GroupNo) -> Option<u32>
+        ensures { result ≡ (book self.now).size group };
+
+    /// Whether the task is the last of a member of the group or chord.
+    fn is_member(&self, group: GroupNo, task: TaskNo) -> bool
+        ensures { result ≡ (book self.now).is_member group task };
+
+    /// The last task of a member of the group or chord, counted from 0.
+    fn member(&self, group: GroupNo, place: u32) -> Option<TaskNo>
+        ensures { result ≡ (book self.now).member group place };
+
+    ghost from_one: { (b : Self) (g : ℕ) → (book b).is_member g 0 ≡ false };
+
+    ghost has_members: { (b : Self) → HasMembers (book b) };
+}

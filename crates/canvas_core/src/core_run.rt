@@ -1,0 +1,337 @@
+//! What a worker has left to do.
+
+ghost use Rattle.std.specs.Prelude.{◌≡◌, ◌≢◌, ◌≤◌, ◌+◌, min, true, false, Some, None, Ok, OnOk, OnErr, IfOk, IfSome};
+ghost use Rattle.std.specs.Option.{option_map};
+ghost use Rattle.canvas_task.specs.Apply.{Behaviour};
+ghost use Rattle.canvas_core.specs.Asks.{suits, shown, replied, StoresInRange, FoundInRange, Grows};
+ghost use Rattle.canvas_core.specs.Books.{no_book};
+ghost use Rattle.canvas_history.specs.Queue.{take};
+ghost use Rattle.canvas_runs.specs.Core.{ReadsBack, taking, acking, to_queue, from_queue, is_inside};
+ghost use Rattle.canvas_core.specs.Phases.{left_of, is_out};
+ghost use Rattle.canvas_core.specs.declared.ask.Ask.TheVariants as ask;
+ghost use Rattle.canvas_runs.specs.Tally.{greatest_count};
+ghost use Rattle.canvas_core.specs.CoreState.{asked, begun, after_reply, failing, held, held_out, handed, point_at, waiting};
+ghost use Rattle.canvas_core.specs.EnvelopeWorker.{enveloped_by, said, no_tasks};
+ghost use Rattle.canvas_runs.specs.Worker.{opened, read_envelope};
+
+use crate::known::message_known;
+use crate::phase::{Phase, acknowledged, rested, returned};
+use crate::stages::Owned;
+use crate::{Ask, Book, Reply};
+use canvas_message::{Letter, Message, MessageFault};
+use canvas_runs::When;
+use canvas_task::{Memory, TaskNo, Tasks};
+use std::alloc::Global;
+use std::marker::Model;
+use std::mem;
+
+/// The scripts of messages, one after the other. Contracts see what is left to do.
+///
+/// All that a message or a completed header needs is built before its first store or publish.
+#[derive(Drop)]
+pub struct Core {
+    phase: Phase,
+    dropped: u64,
+    // The envelope of the open script once its message's outcome is stored, and the task of that
+    // message, None where it was dropped.
+    kept: Option<Letter>,
+    task: Option<TaskNo>,
+}
+
+impl Model for Core {
+    ghost use Rattle.canvas_core.specs.Phases.{left_of, is_out};
+    ghost use Rattle.canvas_core.specs.CoreState.{Standing};
+    ghost use Rattle.std.specs.Coded.{codes};
+    ghost use Rattle.canvas_message.specs.codes.ContentCode.{content_code};
+    ghost use Rattle.canvas_core.specs.codes.CoreCode.{carried_code};
+
+    ghost Value = { Standing };
+
+    ghost coded = { Prim.hlevel (codes, content_code, carried_code) };
+
+    ghost view = { λ c. record {
+      left = left_of c.phase;
+      is_out = is_out c.phase;
+      dropped = c.dropped;
+      kept = c.kept;
+      task = c.task;
+    } };
+}
+
+/// The message of an envelope, unless it is one to drop.
+fn open<B: Book>(
+    alloc: Global,
+    book: &B,
+    letter: &mut Letter,
+) -> Result<Option<Box<Message>>, Memory>
+    ensures value { IfOk result
+        (λ m. option_map (λ b. b.value) m ≡ opened (B.book book.now) letter.old) }
+    ensures message { IfOk result (λ m. IfSome m (λ b. said letter.old ≡ b.value)) }
+    ensures letter { letter.new ≡ letter.old }
+{
+    match canvas_codec::open(alloc, letter) {
+        Ok(message) => {
+            if message_known(book, &message) {
+                Ok(Some(message))
+            } else {
+                Ok(None)
+            }
+        }
+        Err(fault) => match fault {
+            MessageFault::Memory => Err(Memory),
+            _ => Ok(None),
+        },
+    }
+}
+
+impl Core {
+    /// A core that has nothing to do yet.
+    pub fn new(_alloc: Global) -> Core
+        ensures { result ≡ begun }
+    {
+        Core {
+            phase: Phase::Taking,
+            dropped: 0,
+            kept: None,
+            task: None,
+        }
+    }
+
+    /// What the core asks for.
+    pub fn next(&self) -> Ask
+        ensures ask { result ≡ shown self.now.task (asked self.now.left) }
+        ensures in_range { StoresInRange (asked self.now.left) }
+        ensures reads_back { self.now.is_out ≡ false
+            → ReadsBack (enveloped_by no_tasks no_book) self.now.left }
+    {
+        match &self.phase {
+            Phase::Taking => Ask::Take,
+            Phase::Resting => Ask::Rest,
+            Phase::Over => Ask::End,
+            Phase::Failed => Ask::End,
+            Phase::Owning(owned) => Ask::Store(owned.task, owned.outcome),
+            Phase::Storing(storing) => Ask::Store(storing.task, storing.outcome),
+            Phase::Publishing(_) => Ask::Publish,
+            Phase::Returning(part) => Ask::Part(part.group, part.task),
+            Phase::Reading(reading) => Ask::Read(reading.task),
+            Phase::Acking => Ask::Ack(self.task),
+        }
+    }
+
+    /// Hands out the envelope that is to be published, once.
+    pub fn envelope(&mut self) -> Option<Letter>
+        ensures value { result ≡ held_out self.old }
+        ensures reads { IfSome result (λ e. read_envelope e ≡ Ok (said e)) }
+        ensures core { self.new ≡ handed self.old }
+    {
+        match &mut self.phase {
+            Phase::Publishing(publishing) => publishing.envelope.take(),
+            _ => None,
+        }
+    }
+
+    /// Whether the core is inside the script of an envelope.
+    pub fn is_inside(&self) -> bool
+        ensures { result ≡ is_inside self.now.left }
+    {
+        match &self.phase {
+            Phase::Taking => false,
+            Phase::Resting => false,
+            Phase::Over => false,
+            Phase::Failed => false,
+            _ => true,
+        }
+    }
+
+    /// The envelope of the open script, from its take until its acknowledgement is answered.
+    pub fn held(&self) -> Option<&Letter>
+        ensures { option_map (λ e. e.now) result ≡ held self.now }
+    {
+        match &self.phase {
+            Phase::Owning(owned) => Some(&owned.envelope),
+            _ => self.kept.as_ref(),
+        }
+    }
+
+    /// The point of its message's script to which the core has come, and the message's task: before
+    /// the first store, or before the acknowledgement. None between them, and where the envelope
+    /// was dropped.
+    pub fn point(&self) -> Option<(TaskNo, When)>
+        ensures { result ≡ point_at self.now }
+    {
+        match &self.phase {
+            Phase::Owning(_) => self.task.map(|task| (task, When::Early)),
+            Phase::Acking => self.task.map(|task| (task, When::Late)),
+            _ => None,
+        }
+    }
+
+    /// How many envelopes were dropped.
+    pub fn dropped(&self) -> u64
+        ensures { result ≡ self.now.dropped }
+    {
+        self.dropped
+    }
+
+    /// Answers what the core asks for. Where memory was refused the core has failed; only an
+    /// envelope and a member's outcome may need any.
+    pub fn answer<B: Book, T: Tasks>(
+        &mut self,
+        alloc: Global,
+        book: &B,
+        tasks: &T,
+        reply: Reply,
+    ) -> Result<(), Memory>
+        requires suits { suits (shown self.old.task (asked self.old.left)) reply ≡ true }
+        requires in_range { FoundInRange reply }
+        ensures ok { OnOk result (self.new
+            ≡ after_reply (T.behaviour tasks.now) (B.book book.now) self.old (replied reply)) }
+        ensures err { OnErr result (self.new ≡ failing self.old) }
+        ensures memory { OnErr result (Grows reply) }
+    {
+        match self.phase {
+            Phase::Taking => {
+                self.set(Phase::Failed);
+                self.take_in(alloc, book, tasks, reply)
+            }
+            // nothing is moved here, and it comes once a message
+            Phase::Acking => {
+                self.kept = None;
+                self.set(acknowledged(&reply));
+                Ok(())
+            }
+            _ => self.go_on(alloc, book, &reply),
+        }
+    }
+
+    /// The answer to what is neither a take nor an acknowledgement, for which no task is called.
+    fn go_on<B: Book>(&mut self, alloc: Global, book: &B, reply: &Reply) -> Result<(), Memory>
+        requires asks { asked self.old.left ≢ to_queue take }
+        requires holds { self.old.left ≢ acking }
+        requires suits { suits (shown self.old.task (asked self.old.left)) reply.now ≡ true }
+        requires in_range { FoundInRange reply.now }
+        ensures ok { OnOk result ((behaviour : Behaviour)
+            → self.new ≡ after_reply behaviour (B.book book.now) self.old (replied reply.now)) }
+        ensures err { OnErr result (self.new ≡ failing self.old) }
+        ensures memory { OnErr result (Grows reply.now) }
+    {
+        match mem::replace(&mut self.phase, Phase::Failed) {
+            Phase::Taking | Phase::Acking => unreachable!(),
+            Phase::Resting => self.set(rested(reply)),
+            Phase::Over => self.set(Phase::Failed),
+            Phase::Failed => self.set(Phase::Failed),
+            Phase::Owning(owned) => self.keep(owned.answered(reply)),
+            Phase::Storing(storing) => self.set(storing.answered(reply)),
+            Phase::Publishing(publishing) => self.set(publishing.answered(reply)),
+            Phase::Returning(part) => self.set(returned(alloc, book, part, reply)),
+            Phase::Reading(reading) => {
+                let phase = reading.answered(alloc, book, reply)?;
+                self.set(phase);
+            }
+        }
+        Ok(())
+    }
+
+    /// The phase behind the first store, with the envelope that is kept until it is acknowledged.
+    fn keep(&mut self, answered: (Phase, Letter))
+        ensures value { self.new
+            ≡ record {
+              left = left_of answered.0;
+              is_out = is_out answered.0;
+              dropped = self.old.dropped;
+              kept = Some answered.1;
+              task = self.old.task;
+            } }
+        ensures most { self.old.dropped ≤ greatest_count }
+    {
+        let (phase, envelope) = answered;
+        self.kept = Some(envelope);
+        self.set(phase);
+    }
+
+    #[inline(always)]
+    fn set(&mut self, phase: Phase)
+        ensures value { self.new
+            ≡ record {
+              left = left_of phase;
+              is_out = is_out phase;
+              dropped = self.old.dropped;
+              kept = self.old.kept;
+              task = self.old.task;
+            } }
+        ensures most { self.old.dropped ≤ greatest_count }
+    {
+        // For the clause `most` alone: a count that is read is known to fit its type.
+        let _dropped = self.dropped;
+        self.phase = phase;
+    }
+
+    /// The answer to a take. `answer` has set the phase to failed before the call, and so it stays
+    /// where memory is refused.
+    fn take_in<B: Book, T: Tasks>(
+        &mut self,
+        alloc: Global,
+        book: &B,
+        tasks: &T,
+        reply: Reply,
+    ) -> Result<(), Memory>
+        requires { suits ask.Take reply ≡ true }
+        ensures ok { OnOk result (self.new
+            ≡ after_reply (T.behaviour tasks.now) (B.book book.now)
+            (waiting self.old.dropped self.old.kept self.old.task) (replied reply)) }
+        ensures err { OnErr result (self.new ≡ self.old) }
+        ensures memory { OnErr result (Grows reply) }
+    {
+        match reply {
+            Reply::Taken(Some(envelope)) => self.take_up(alloc, book, tasks, envelope),
+            Reply::Taken(None) => {
+                self.set(Phase::Resting);
+                Ok(())
+            }
+            _ => unreachable!(),
+        }
+    }
+
+    fn take_up<B: Book, T: Tasks>(
+        &mut self,
+        alloc: Global,
+        book: &B,
+        tasks: &T,
+        mut letter: Letter,
+    ) -> Result<(), Memory>
+        ensures ok { OnOk result (self.new
+            ≡ after_reply (T.behaviour tasks.now) (B.book book.now)
+            (waiting self.old.dropped self.old.kept self.old.task) (from_queue (Some letter))) }
+        ensures err { OnErr result (self.new ≡ self.old) }
+    {
+        match open(alloc, book, &mut letter)? {
+            Some(message) => {
+                let task = message.task;
+                let owned = Owned::of(alloc, tasks, letter, message)?;
+                self.task = Some(task);
+                self.set(Phase::Owning(owned));
+                Ok(())
+            }
+            None => {
+                self.drop_one(letter);
+                Ok(())
+            }
+        }
+    }
+
+    fn drop_one(&mut self, envelope: Letter)
+        ensures { self.new
+            ≡ record {
+              left = acking;
+              is_out = false;
+              dropped = min greatest_count (self.old.dropped + 1);
+              kept = Some envelope;
+              task = None;
+            } }
+    {
+        self.dropped = self.dropped.saturating_add(1);
+        self.phase = Phase::Acking;
+        self.kept = Some(envelope);
+        self.task = None;
+    }
+}

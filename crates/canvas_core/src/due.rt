@@ -1,0 +1,31 @@
+//! Whether the part of a script is due by the latest store of its task.
+
+ghost use Rattle.std.specs.Prelude.{◌≡◌, cond};
+ghost use Rattle.canvas_runs.specs.Core.{is_due};
+ghost use Rattle.canvas_core.specs.Scripts.{jobs_of};
+
+use crate::script::Script;
+use canvas_backend::Stored;
+use canvas_task::TaskNo;
+
+/// Whether the script returns a part of the task.
+fn is_due(script: &Script, task: TaskNo) -> bool
+    ensures { result ≡ is_due task (jobs_of script.now) }
+{
+    match &script.part {
+        Some(part) => task == part.task,
+        None => false,
+    }
+}
+
+/// What the latest store of the part's task answered, once a store is answered: one of another task
+/// changes nothing.
+pub(crate) fn latest(script: &Script, task: TaskNo, stored: Stored) -> Stored
+    ensures { result ≡ cond (is_due task (jobs_of script.now)) stored script.now.latest }
+{
+    if is_due(script, task) {
+        stored
+    } else {
+        script.latest
+    }
+}

@@ -1,0 +1,180 @@
+//! Whether a message names only what a book knows.
+
+ghost use Rattle.std.specs.Prelude.{◌≡◌, map};
+ghost use Rattle.canvas_rewrite.specs.FrozenView.{p_tasks_of, p_lines_of, p_task_view, p_line_view, p_end_view};
+ghost use Rattle.canvas_message.specs.Fits.{how_many};
+ghost use Rattle.canvas_effects.specs.Placing.{last_task};
+ghost use Rattle.canvas_message.specs.MessageView.{place_seen, rest_seen};
+ghost use Rattle.canvas_runs.specs.Book.{task_known, tasks_known, place_known, line_known, members_known, message_known, parent_known, has_size};
+ghost use Rattle.canvas_core.specs.steps.Lasts.{or_zero, last_number, member_is_known};
+
+use crate::Book;
+use canvas_message::Message;
+use canvas_rewrite::{FrozenEnd, FrozenLine, FrozenTask, Place};
+use canvas_task::{GroupNo, TaskNo};
+
+/// The number of the last of some tasks.
+fn last_own(tasks: &[FrozenTask]) -> Option<TaskNo>
+    ensures { or_zero result ≡ last_number tasks.now }
+{
+    match tasks.split_last() {
+        Some((task, _others)) => Some(task.no),
+        None => None,
+    }
+}
+
+/// The last task of a line, which may end in a group.
+#[cycle(last)]
+fn last_task(line: &FrozenLine) -> Option<TaskNo>
+    ensures { or_zero result ≡ last_task 0 (p_line_view line.now) }
+{
+    match &line.tail {
+        Some(end) => last_behind(end, last_own(line.tasks.get())),
+        None => last_own(line.tasks.get()),
+    }
+}
+
+/// The last task of a group or chord; of a group, the one before it.
+#[cycle(last)]
+fn last_behind(end: &FrozenEnd, before: Option<TaskNo>) -> Option<TaskNo>
+    ensures { or_zero result ≡ last_task (or_zero before) (p_end_view end.now) }
+{
+    match &end.body {
+        Some(body) => last_task(body),
+        None => before,
+    }
+}
+
+fn has_size<B: Book>(book: &B, group: GroupNo, size: usize) -> bool
+    ensures { result ≡ has_size size ((B.book book.now).size group) }
+{
+    match book.size(group) {
+        Some(members) => members as usize == size,
+        None => false,
+    }
+}
+
+/// Whether a line is that of a member, by its last task.
+fn ends_member<B: Book>(book: &B, group: GroupNo, line: &FrozenLine) -> bool
+    ensures { result ≡ (B.book book.now).is_member group (last_task 0 (p_line_view line.now)) }
+{
+    match last_task(line) {
+        Some(last) => book.is_member(group, last),
+        None => false,
+    }
+}
+
+fn parent_known<B: Book>(book: &B, parent: Option<TaskNo>) -> bool
+    ensures { result ≡ parent_known (B.book book.now) parent }
+{
+    match parent {
+        Some(task) => book.knows(task),
+        None => true,
+    }
+}
+
+#[cycle(known)]
+fn task_known<B: Book>(book: &B, task: &FrozenTask) -> bool
+    ensures { result ≡ task_known (B.book book.now) (p_task_view task.now) }
+{
+    book.knows(task.no)
+        && tasks_known(book, task.links.get())
+        && tasks_known(book, task.errbacks.get())
+        && place_known(book, task.no, &task.place)
+}
+
+#[cycle(known)]
+fn tasks_known<B: Book>(book: &B, tasks: &[FrozenTask]) -> bool
+    ensures { result ≡ tasks_known (B.book book.now) (p_tasks_of (map p_task_view tasks.now)) }
+{
+    for task in tasks {
+        if !task_known(book, task) {
+            return false;
+        }
+    }
+    true
+}
+
+/// The place of a task.
+#[cycle(known)]
+fn place_known<B: Book>(book: &B, task: TaskNo, place: &Option<Place>) -> bool
+    ensures { result ≡ place_known (B.book book.now) task (place_seen place.now) }
+{
+    match place {
+        None => true,
+        Some(place) => match &place.chord {
+            None => book.is_member(place.group, task),
+            Some(carried) => {
+                book.is_member(place.group, task)
+                    && has_size(book, place.group, carried.size as usize)
+                    && line_known(book, &carried.body)
+            }
+        },
+    }
+}
+
+#[cycle(known)]
+fn line_known<B: Book>(book: &B, line: &FrozenLine) -> bool
+    ensures { result ≡ line_known (B.book book.now) (p_line_view line.now) }
+{
+    match &line.tail {
+        Some(end) => tasks_known(book, line.tasks.get()) && end_known(book, end),
+        None => tasks_known(book, line.tasks.get()),
+    }
+}
+
+#[cycle(known)]
+fn end_known<B: Book>(book: &B, end: &FrozenEnd) -> bool
+    ensures { result ≡ line_known (B.book book.now) (p_end_view end.now) }
+{
+    let members = end.members.get().as_slice();
+    match &end.body {
+        Some(body) => {
+            has_size(book, end.group, members.len())
+                && members_known(book, end.group, members)
+                && line_known(book, body)
+        }
+        None => members_known(book, end.group, members),
+    }
+}
+
+#[cycle(known)]
+fn members_known<B: Book>(book: &B, group: GroupNo, members: &[FrozenLine]) -> bool
+    ensures { result
+        ≡ members_known (B.book book.now) group (p_lines_of (map p_line_view members.now)) }
+{
+    for member in members {
+        if !member_known(book, group, member) {
+            return false;
+        }
+    }
+    true
+}
+
+#[cycle(known)]
+fn member_known<B: Book>(book: &B, group: GroupNo, member: &FrozenLine) -> bool
+    ensures { result ≡ member_is_known (B.book book.now) group (p_line_view member.now) }
+{
+    ends_member(book, group, member) && line_known(book, member)
+}
+
+fn rest_known<B: Book>(book: &B, rest: &Option<FrozenLine>) -> bool
+    ensures { result ≡ line_known (B.book book.now) (rest_seen rest.now) }
+{
+    match rest {
+        Some(line) => line_known(book, line),
+        None => true,
+    }
+}
+
+/// Whether each task, chord and member that a message names is known.
+pub(crate) fn message_known<B: Book>(book: &B, message: &Message) -> bool
+    ensures { result ≡ message_known (B.book book.now) message.now }
+{
+    parent_known(book, message.parent)
+        && book.knows(message.task)
+        && tasks_known(book, message.links.get())
+        && tasks_known(book, message.errbacks.get())
+        && place_known(book, message.task, &message.place)
+        && rest_known(book, &message.rest)
+}

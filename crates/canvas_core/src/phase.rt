@@ -1,0 +1,328 @@
+//! Where a core stands in the script of a message.
+
+ghost use Rattle.std.specs.Prelude.{◌≡◌, ◌<◌, ◌++◌, ◌∷◌, [], Ok, IfOk, OnErr, IfSome, All, true, cond, length, map, unwrap_or};
+ghost use Rattle.std.specs.Option.{option_map};
+ghost use Rattle.canvas_task.specs.Apply.{IsInRange};
+ghost use Rattle.canvas_effects.specs.Carrying.{carried_ok};
+ghost use Rattle.canvas_effects.specs.Effects.{after, outcome_of, script as whole, part_jobs};
+ghost use Rattle.canvas_message.specs.MessageView.{carried_view};
+ghost use Rattle.canvas_effects.specs.Job as job;
+ghost use Rattle.canvas_effects.specs.Job.{store, publish};
+ghost use Rattle.canvas_effects.specs.Todos.{part_view};
+ghost use Rattle.canvas_history.specs.declared.stored.Stored.TheVariants.{First};
+ghost use Rattle.canvas_core.specs.Asks.{replied, suits, FoundInRange, Grows};
+ghost use Rattle.canvas_core.specs.Books.{no_book};
+ghost use Rattle.canvas_core.specs.declared.ask.Ask.TheVariants as ask;
+ghost use Rattle.canvas_runs.specs.Core.{is_due, settled, reads_next, part_counted, all_read, answered, owning, doing, resting, acking, reading as state_reading};
+ghost use Rattle.canvas_core.specs.Phases.{IsAt};
+ghost use Rattle.canvas_core.specs.Scripts.{jobs_of};
+ghost use Rattle.canvas_core.specs.EnvelopeWorker.{enveloped_by, no_tasks, said, enclosed, unapplied, blank};
+
+use crate::due::latest;
+use crate::script::Script;
+use crate::sealed::Sealed;
+use crate::sealing::script_of;
+use crate::stages::{Owned, Publishing, Reading, Storing};
+use crate::{Book, Reply};
+use canvas_backend::Stored;
+use canvas_effects::{ChordBody, PartCall, into_body, into_todo};
+use canvas_message::{Letter, Message};
+use canvas_task::{GroupNo, Memory, Outcome, TaskNo, Tasks};
+use std::alloc::Global;
+
+#[derive(Drop)]
+pub(crate) enum Phase {
+    Taking,
+    Resting,
+    Over,
+    Failed,
+    Owning(Owned),
+    Storing(Storing),
+    Publishing(Publishing),
+    Returning(PartCall),
+    Reading(Reading),
+    Acking,
+}
+
+fn part_or_ack(part: Option<PartCall>, latest: Stored) -> Phase
+    ensures { IsAt result (settled (enveloped_by no_tasks no_book)
+        (map enclosed (part_jobs (option_map part_view part))) latest) }
+{
+    match part {
+        Some(part) => match latest {
+            Stored::First => Phase::Returning(part),
+            Stored::Again => Phase::Acking,
+        },
+        None => Phase::Acking,
+    }
+}
+
+/// What is next in a script.
+#[inline(always)]
+fn settle(script: Script) -> Phase
+    ensures { IsAt result (settled (enveloped_by no_tasks no_book) (jobs_of script) script.latest) }
+{
+    let Script {
+        mut stores,
+        mut publishes,
+        part,
+        latest,
+    } = script;
+    if let Some((task, outcome)) = stores.pop_front() {
+        let script = Script {
+            stores,
+            publishes,
+            part,
+            latest,
+        };
+        return Phase::Storing(Storing {
+            task,
+            outcome,
+            script,
+        });
+    }
+    match publishes.pop_front() {
+        Some(Sealed { envelope }) => Phase::Publishing(Publishing {
+            envelope: Some(envelope),
+            script: Script {
+                stores,
+                publishes,
+                part,
+                latest,
+            },
+        }),
+        None => part_or_ack(part, latest),
+    }
+}
+
+/// The same, where a store is answered.
+fn settle_after(script: Script, task: TaskNo, stored: Stored) -> Phase
+    ensures { IsAt result (settled (enveloped_by no_tasks no_book) (jobs_of script)
+        (cond (is_due task (jobs_of script)) stored script.latest)) }
+{
+    let latest = latest(&script, task, stored);
+    let Script {
+        stores,
+        publishes,
+        part,
+        latest: _,
+    } = script;
+    settle(Script {
+        stores,
+        publishes,
+        part,
+        latest,
+    })
+}
+
+/// What the call of a message answers.
+fn outcome_of<T: Tasks>(tasks: &T, message: &Message) -> Outcome
+    ensures value { result ≡ outcome_of (T.behaviour tasks.now) message.now }
+    ensures in_range { IsInRange result }
+{
+    tasks.apply(message.name.get(), message.args.get(), message.kwargs.get())
+}
+
+/// A function for its contract's sake: the size, as contracts see what is carried.
+fn size_of(chord: &ChordBody) -> u32
+    ensures { result ≡ chord.now.size }
+{
+    chord.carried.size
+}
+
+impl Owned {
+    /// An envelope that was taken, with all that its message needs built.
+    pub(crate) fn of<T: Tasks>(
+        alloc: Global,
+        tasks: &T,
+        envelope: Letter,
+        message: Box<Message>,
+    ) -> Result<Owned, Memory>
+        requires { said envelope ≡ message.value }
+        ensures envelope { IfOk result (λ o. o.envelope ≡ envelope) }
+        ensures value { IfOk result
+            (λ o. o.outcome ≡ outcome_of (T.behaviour tasks.now) (said envelope)) }
+    {
+        let task = message.task;
+        let outcome = outcome_of(tasks, &message);
+        let todo = into_todo(alloc, Box::into_inner(message), &outcome)?;
+        let script = script_of(alloc, todo, Stored::First)?;
+        Ok(Owned {
+            envelope,
+            task,
+            outcome,
+            script,
+        })
+    }
+
+    /// The envelope is given back, which is kept until it is acknowledged.
+    pub(crate) fn answered(self, reply: &Reply) -> (Phase, Letter)
+        ensures phase { IsAt result.0 (answered (enveloped_by no_tasks no_book)
+            (owning (record { envelope = self.envelope; outcome = self.outcome }))
+            (replied reply.now)) }
+        ensures envelope { result.1 ≡ self.envelope }
+    {
+        let Owned {
+            envelope,
+            task: _,
+            outcome: _,
+            script,
+        } = self;
+        let phase = match reply {
+            Reply::Stored(Stored::First) => settle(script),
+            Reply::Stored(Stored::Again) => Phase::Acking,
+            _ => Phase::Failed,
+        };
+        (phase, envelope)
+    }
+}
+
+impl Storing {
+    pub(crate) fn answered(self, reply: &Reply) -> Phase
+        ensures { IsAt result (answered (enveloped_by no_tasks no_book)
+            (doing (store self.task self.outcome ∷ jobs_of self.script) self.script.latest)
+            (replied reply.now)) }
+    {
+        match reply {
+            Reply::Stored(stored) => settle_after(self.script, self.task, *stored),
+            _ => Phase::Failed,
+        }
+    }
+}
+
+impl Publishing {
+    pub(crate) fn answered(self, reply: &Reply) -> Phase
+        requires { suits ask.Publish reply.now ≡ true }
+        ensures { IsAt result (answered (enveloped_by no_tasks no_book) (doing
+            (publish (unapplied (unwrap_or self.envelope blank)) ∷ jobs_of self.script)
+            self.script.latest) (replied reply.now)) }
+    {
+        match reply {
+            Reply::Published => settle(self.script),
+            _ => Phase::Failed,
+        }
+    }
+}
+
+/// The next member of a completed header is read, where the book has it.
+fn read_next<B: Book>(
+    book: &B,
+    group: GroupNo,
+    chord: ChordBody,
+    found: Vec<(TaskNo, Outcome)>,
+) -> Phase
+    requires fits { carried_ok chord ≡ true }
+    requires few { length found.items < chord.size }
+    requires in_range { All (λ e. IsInRange e.1) found.items }
+    ensures { IsAt result (reads_next (enveloped_by no_tasks (B.book book.now)) group
+        chord found.items) }
+{
+    // For the proof alone: a size that is read is known to fit its type.
+    let _size = size_of(&chord);
+    match book.member(group, found.len() as u32) {
+        Some(task) => Phase::Reading(Reading {
+            group,
+            chord,
+            task,
+            found,
+        }),
+        None => Phase::Failed,
+    }
+}
+
+/// Room for the outcomes of so many members, where there is memory for it: else it grows as they
+/// are read, and memory is refused there.
+fn room_for(alloc: Global, size: usize) -> Vec<(TaskNo, Outcome)>
+    ensures { result.items ≡ [] }
+{
+    match Vec::with_capacity(alloc, size) {
+        Ok(found) => found,
+        Err(_) => Vec::new(alloc),
+    }
+}
+
+/// Where the part was the last of its header, the members are read.
+fn counted<B: Book>(alloc: Global, book: &B, part: PartCall, count: u64) -> Phase
+    ensures { IsAt result (part_counted (enveloped_by no_tasks (B.book book.now)) part.group
+        (carried_view part.chord) count) }
+{
+    let chord = ChordBody::of(part.chord, part.text);
+    let size = u64::from(size_of(&chord));
+    if count < size && count + 1 == size {
+        read_next(book, part.group, chord, room_for(alloc, size as usize))
+    } else {
+        Phase::Acking
+    }
+}
+
+pub(crate) fn returned<B: Book>(alloc: Global, book: &B, part: PartCall, reply: &Reply) -> Phase
+    ensures { IsAt result (answered (enveloped_by no_tasks (B.book book.now))
+        (doing (job.part part.group part.task (carried_view part.chord) ∷ []) First)
+        (replied reply.now)) }
+{
+    match reply {
+        Reply::Counted(count) => counted(alloc, book, part, *count),
+        _ => Phase::Failed,
+    }
+}
+
+pub(crate) fn acknowledged(reply: &Reply) -> Phase
+    ensures { IsAt result (answered (enveloped_by no_tasks no_book) acking (replied reply.now)) }
+{
+    match reply {
+        Reply::Acked => Phase::Taking,
+        _ => Phase::Failed,
+    }
+}
+
+pub(crate) fn rested(reply: &Reply) -> Phase
+    ensures { IsAt result (answered (enveloped_by no_tasks no_book) resting (replied reply.now)) }
+{
+    match reply {
+        Reply::Rested { more: true } => Phase::Taking,
+        Reply::Rested { more: false } => Phase::Over,
+        _ => Phase::Failed,
+    }
+}
+
+impl Reading {
+    /// The outcome of one more member. After the last, all that the body needs is built.
+    fn add<B: Book>(self, alloc: Global, book: &B, outcome: Outcome) -> Result<Phase, Memory>
+        requires { IsInRange outcome }
+        ensures { IfOk result (λ p. IsAt p (all_read (enveloped_by no_tasks (B.book book.now))
+            self.group self.chord (self.found.items ++ (self.task, outcome) ∷ []))) }
+    {
+        let Reading {
+            group,
+            chord,
+            task,
+            mut found,
+        } = self;
+        found.push((task, outcome))?;
+        if found.len() == size_of(&chord) as usize {
+            let todo = into_body(alloc, chord, &found)?;
+            Ok(settle(script_of(alloc, todo, Stored::Again)?))
+        } else {
+            Ok(read_next(book, group, chord, found))
+        }
+    }
+
+    pub(crate) fn answered<B: Book>(
+        self,
+        alloc: Global,
+        book: &B,
+        reply: &Reply,
+    ) -> Result<Phase, Memory>
+        requires { FoundInRange reply.now }
+        ensures at { IfOk result (λ p. IsAt p (answered (enveloped_by no_tasks (B.book book.now))
+            (state_reading self.group self.chord self.task self.found.items)
+            (replied reply.now))) }
+        ensures memory { OnErr result (Grows reply.now) }
+    {
+        match reply {
+            Reply::Found(Some(outcome)) => self.add(alloc, book, *outcome),
+            Reply::Found(None) => Ok(Phase::Acking),
+            _ => Ok(Phase::Failed),
+        }
+    }
+}

@@ -1,9 +1,0 @@
--- What a core does, and what ends it.
-pub mod FoundMembers
-pub mod CoreLaw
-pub mod Stores
-pub mod ScriptsMade
-pub mod CorePasts
-pub mod EndLaw
-pub mod ShownAsks
-pub mod Resting

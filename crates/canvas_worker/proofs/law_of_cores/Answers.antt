@@ -1,5 +1,0 @@
-use Rattle.canvas_worker.proofs.Cores.CoreLaw.{cores_are_workers}
-use Rattle.canvas_worker.proofs.law_of_cores.Goals as goal
-
-pub returns : goal.returns
-returns c = cores_are_workers
