@@ -1,28 +1,25 @@
 -- Lines of the code: what stands before and behind the body that their ends carry.
-use Rattle.std.proofs.Common.{◌≡◌, ◌∙◌, ℕ, Bool, true, false, arith, List, [], ◌∷◌, ◌++◌, map, length, ◌==◌, Option, Some, None, Box, Global, refl, sym, ap, ap₂, subst, append_assoc, append-nil}
+use Rattle.std.proofs.Common.{◌≡◌, ◌∙◌, ℕ, true, false, arith, List, [], ◌∷◌, ◌++◌, map, length, ◌==◌, Option, Some, None, Box, Global, refl, sym, ap, ap₂, subst}
 use Rattle.std.specs.Prelude.{codes, is_some}
 use Rattle.std.proofs.lemmas.Bool.Decides.{nat_tests}
 use Rattle.std.proofs.lemmas.List.{map-append}
-use Rattle.json.specs.Token.{Token, begin_object, end_object, key}
-use Rattle.serde_json.specs.Data.{null, string}
-use Rattle.canvas_task.specs.declared.arg.Arg.{Arg}
-use Rattle.canvas_wire.specs.steps.Tokens.{kind_tokens, name_tokens}
-use Rattle.canvas_wire.specs.Writing.{args_wire, kwargs_wire}
-use Rattle.canvas_semantics.specs.PlacedLine.{PTask, PPlace, PLine, p_stop, p_step, p_group_end, p_chord_end}
-use Rattle.canvas_rewrite.specs.FrozenView.{p_steps, p_lines_of, p_task_view, p_line_view, p_end_view}
+use Rattle.json.specs.Token.{key}
+use Rattle.serde_json.specs.Data.{string}
+use Rattle.canvas_semantics.specs.PlacedLine.{PTask, PLine, p_stop, p_step, p_group_end, p_chord_end}
+use Rattle.canvas_rewrite.specs.FrozenView.{p_steps, p_task_view, p_line_view, p_end_view}
 use Rattle.canvas_rewrite.specs.declared.frozen.Carried.{Carried}
 use Rattle.canvas_rewrite.specs.declared.frozen.Place.{Place, out-Place}
 use Rattle.canvas_rewrite.specs.declared.frozen.FrozenTask.{FrozenTask, out-FrozenTask}
 use Rattle.canvas_rewrite.specs.declared.frozen.FrozenLine.{FrozenLine, out-FrozenLine}
 use Rattle.canvas_rewrite.specs.declared.frozen.FrozenEnd.{FrozenEnd, out-FrozenEnd}
-use Rattle.canvas_message.specs.Content.{place_of, number_of, call_of}
+use Rattle.canvas_message.specs.Content.{place_of}
 use Rattle.canvas_message.specs.MessageView.{place_view, place_seen}
-use Rattle.canvas_message.specs.Wire.{task_id, group_id, place_id, members_wire}
+use Rattle.canvas_message.specs.Wire.{members_wire}
 use Rattle.canvas_message.specs.steps.Parts.{is_stop}
 use Rattle.canvas_message.proofs.FitLemmas.{end_stands, never_stops}
 use Rattle.canvas_message.proofs.Seen.{task_seen, group_place, chord_place, line_none, line_some, line_last, line_empty, end_none, end_some}
-use Rattle.canvas_writing.specs.steps.Around.{is_carrying, carries, front_tasks, task_before, chain_before, chord_before, line_before, last_before, task_behind, chain_behind, chord_behind, line_behind, last_behind}
-use Rattle.canvas_writing.specs.steps.Tokens.{call_tokens, named_tokens, links_tokens, links_wire, errbacks_wire, list_tokens, group_closing, members_of_end, group_of_end, opening_tokens, unless_null}
+use Rattle.canvas_writing.specs.steps.Around.{is_carrying, carries, front_tasks, task_before, line_before, last_before, line_behind, last_behind}
+use Rattle.canvas_writing.specs.steps.Tokens.{task_behind, chain_before, chain_behind, list_tokens, group_closing, members_of_end, group_of_end, opening_tokens}
 
 -- ---- places
 
@@ -276,39 +273,3 @@ none_before size (t ∷ ts) h = absurd cc
 pub none_behind : (ts : List FrozenTask) → length ts ≡ 0 → line_behind (p_steps (map p_task_view ts) p_stop) ≡ []
 none_behind [] h = refl
 none_behind (t ∷ ts) h = absurd cc
-
--- ---- tasks
-
-abbrev parts : PPlace → List Token → ℕ → List ℕ → List Token
-parts p links k name =
-    unless_null (codes "group_id") (place_id p)
-    ++ (links ++ ((named_tokens (codes "task_id") (task_id k) ++ end_object ∷ []) ++ (kind_tokens null ++ name_tokens name)))
-
-pub task_before_is : (size : Option ℕ) (t : FrozenTask) (a : List Arg) (w : List (List ℕ × Arg)) → a ≡ (out-FrozenTask t).args
-    → w ≡ (out-FrozenTask t).kwargs
-    → ((call_tokens size (args_wire a) (out-FrozenTask t).immutable (kwargs_wire w) ++ key (codes "options") ∷ []) ++ begin_object ∷ [])
-    ++ key (codes "chord") ∷ []
-    ≡ task_before size (p_task_view t)
-task_before_is size t a w ha hw =
-    three (call_tokens size (args_wire a) (out-FrozenTask t).immutable (kwargs_wire w)) (key (codes "options")) begin_object (key (codes "chord"))
-    ∙ ap₂ (λ x y. call_tokens size (args_wire x) (out-FrozenTask t).immutable (kwargs_wire y)
-    ++ key (codes "options") ∷ begin_object ∷ key (codes "chord") ∷ []) ha hw
-    ∙ sym (ap (task_before size) (task_seen t))
-  where
-    three : (xs : List Token) (x y z : Token) → ((xs ++ x ∷ []) ++ y ∷ []) ++ z ∷ [] ≡ xs ++ x ∷ y ∷ z ∷ []
-    three xs x y z = simp append_assoc
-
-pub task_behind_is : (t : FrozenTask) (p : Option Place) (n : List ℕ) → p ≡ (out-FrozenTask t).place → n ≡ (out-FrozenTask t).name
-    → ((unless_null (codes "group_id") (place_id (place_seen p)) ++ links_tokens (links_wire (p_task_view t)) (errbacks_wire (p_task_view t)))
-    ++ (named_tokens (codes "task_id") (task_id (out-FrozenTask t).no) ++ end_object ∷ []))
-    ++ (kind_tokens null ++ name_tokens n)
-    ≡ task_behind (p_task_view t)
-task_behind_is t p n hp hn =
-    let l : List Token = links_tokens (links_wire (p_task_view t)) (errbacks_wire (p_task_view t)) in
-    three (unless_null (codes "group_id") (place_id (place_seen p))) l (named_tokens (codes "task_id") (task_id (out-FrozenTask t).no) ++ end_object ∷ [])
-    (kind_tokens null ++ name_tokens n)
-    ∙ ap₂ (λ x y. parts x l (out-FrozenTask t).no y) (ap place_seen hp ∙ sym (ap place_of (task_seen t))) (hn ∙ sym (ap (λ x. (call_of x).name) (task_seen t)))
-    ∙ ap (λ k. parts (place_of (p_task_view t)) l k (call_of (p_task_view t)).name) (sym (ap number_of (task_seen t)))
-  where
-    three : (a b c d : List Token) → ((a ++ b) ++ c) ++ d ≡ a ++ (b ++ (c ++ d))
-    three a b c d = simp append_assoc

@@ -1,47 +1,32 @@
 -- The text of a line, around that of the body that its end carries.
 use Rattle.std.proofs.Common.{◌≡◌, ◌∙◌, ℕ, Bool, true, false, List, [], ◌∷◌, ◌++◌, Option, Some, None, refl, sym, ap, append_assoc, append-nil}
 use Rattle.std.specs.Prelude.{codes}
-use Rattle.json.specs.Token.{Token, begin_array, end_array, begin_object, end_object, key}
+use Rattle.json.specs.Token.{Token, begin_array, end_array, end_object, key}
 use Rattle.json.specs.Print.{print}
-use Rattle.serde_json.specs.Data.{Data, null, string, Items}
+use Rattle.serde_json.specs.Data.{Data, string}
 use Rattle.serde_json.specs.Written.{compact_text}
-use Rattle.canvas_wire.specs.steps.Tokens.{data_tokens, rest_tokens, kind_tokens, name_tokens, closing_tokens}
-use Rattle.canvas_wire.specs.Writing.{args_wire, kwargs_wire}
-use Rattle.canvas_semantics.specs.Tree.{Call}
-use Rattle.canvas_semantics.specs.PlacedLine.{PTask, p_task, PTasks, PPlace, p_nowhere, p_group, p_chord, PLine, p_stop, p_step, p_group_end, p_chord_end, PLines}
-use Rattle.canvas_message.specs.Content.{call_of, end_place, place_of}
-use Rattle.canvas_message.specs.SharedTexts.{SaysText, SaysRinged, ringed, inner_place}
-use Rattle.canvas_message.specs.Wire.{chain_wire, chord_wire, task_id, group_id, place_id, task_wire, tasks_wire, carried_wire, line_wire, elements_wire, members_wire}
+use Rattle.canvas_wire.specs.steps.Tokens.{data_tokens, rest_tokens, closing_tokens}
+use Rattle.canvas_semantics.specs.PlacedLine.{PTask, p_task, PPlace, p_nowhere, p_group, p_chord, PLine, p_stop, p_step, p_group_end, p_chord_end, PLines}
+use Rattle.canvas_message.specs.Content.{end_place, place_of}
+use Rattle.canvas_message.specs.SharedTexts.{SaysText, SaysRinged, ringed}
+use Rattle.canvas_message.specs.Wire.{chain_wire, chord_wire, task_wire, carried_wire, line_wire, elements_wire, members_wire}
 use Rattle.canvas_message.specs.steps.Parts.{is_stop}
-use Rattle.canvas_writing.specs.steps.Around.{is_carrying, carries, front_tasks, last_wire, task_before, chain_before, chord_before, line_before, last_before, task_behind, chain_behind, chord_behind, line_behind, last_behind}
-use Rattle.canvas_writing.specs.steps.Tokens.{named_tokens, call_tokens, unless_null, links_tokens, opening_tokens, list_tokens, group_closing, each_tokens}
+use Rattle.canvas_writing.specs.steps.Around.{is_carrying, carries, front_tasks, last_wire, task_before, chord_before, line_before, last_before, chord_behind, line_behind, last_behind}
+use Rattle.canvas_writing.specs.steps.Tokens.{task_front, task_behind, opening_tokens, each_tokens, chain_before, chain_behind}
 use Rattle.canvas_writing.proofs.Holes.{after, after_both, starts, starts_both, text_around}
 use Rattle.canvas_writing.proofs.TaskTokens.{task_parts, line_shown, chain_tokens, chord_tokens}
 
 -- ---- a task
-
-in_task : (c d g l t k : List Token) (x y z : Token)
-    → c ++ ((x ∷ y ∷ (((z ∷ d) ++ g) ++ (l ++ t))) ++ k) ≡ (c ++ x ∷ y ∷ z ∷ []) ++ (d ++ (g ++ (l ++ (t ++ k))))
-in_task c d g l t k x y z =
-    ap (λ m. c ++ x ∷ y ∷ z ∷ m) (five d g l t k) ∙ sym (append_assoc c (x ∷ y ∷ z ∷ []) (d ++ (g ++ (l ++ (t ++ k)))))
-  where
-    five : (d g l t k : List Token) → ((d ++ g) ++ (l ++ t)) ++ k ≡ d ++ (g ++ (l ++ (t ++ k)))
-    five d g l t k = simp append_assoc
 
 task_law : (size : Option ℕ) (t : PTask) → is_carrying (place_of t) ≡ true
     → data_tokens (task_wire size t) ≡ task_before size t ++ (data_tokens (carried_wire (place_of t)) ++ task_behind t)
 task_law size (p_task k call links errbacks p_nowhere) h = absurd cc
 task_law size (p_task k call links errbacks (p_group g)) h = absurd cc
 task_law size (p_task k call links errbacks (p_chord g n b)) h =
-    let d : Data = carried_wire (p_chord g n b) in
-    let c : List Token = call_tokens size (args_wire call.args) call.immutable (kwargs_wire call.kwargs) in
-    let l : List Token = links_tokens (tasks_wire links) (tasks_wire errbacks) in
-    let t : List Token = named_tokens (codes "task_id") (task_id k) ++ end_object ∷ [] in
-    let z : List Token = kind_tokens null ++ name_tokens call.name in
-    let group : List Token = unless_null (codes "group_id") (group_id g) in
-    task_parts size k call links errbacks (p_chord g n b)
-    ∙ ap (λ x. c ++ ((key (codes "options") ∷ begin_object ∷ ((x ++ group) ++ (l ++ t))) ++ z)) (line_shown (codes "chord") (Some n) b)
-    ∙ in_task c (data_tokens d) group l t z (key (codes "options")) begin_object (key (codes "chord"))
+    let t : PTask = p_task k call links errbacks (p_chord g n b) in
+    task_parts size t
+    ∙ ap (λ x. task_front size t ++ (x ++ task_behind t)) (line_shown (codes "chord") (Some n) b)
+    ∙ sym (append_assoc (task_front size t) (key (codes "chord") ∷ []) (data_tokens (carried_wire (p_chord g n b)) ++ task_behind t))
 
 -- ---- chords and chains
 
@@ -129,8 +114,7 @@ mutual
 
 task_open : (size : Option ℕ) (t : PTask) (s : Bool) → after s (task_before size t) ≡ false
 task_open size t s =
-    after_both s (call_tokens size (args_wire (call_of t).args) (call_of t).immutable (kwargs_wire (call_of t).kwargs))
-    (key (codes "options") ∷ begin_object ∷ key (codes "chord") ∷ [])
+    after_both s (task_front size t) (key (codes "chord") ∷ [])
 
 then_open : (a b : List Token) (s : Bool) → ((s : Bool) → after s b ≡ false) → after s (a ++ b) ≡ false
 then_open a b s h = after_both s a b ∙ h (after s a)

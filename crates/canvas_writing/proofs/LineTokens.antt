@@ -1,9 +1,10 @@
 -- The tokens of a line, by its tasks and its end.
-use Rattle.std.proofs.Common.{◌≡◌, ◌∙◌, ℕ, true, false, arith, List, [], ◌∷◌, ◌++◌, map, length, ◌==◌, get_or, Option, Some, None, Box, Global, refl, sym, ap, append_assoc}
+use Rattle.std.proofs.Common.{◌≡◌, ◌∙◌, ℕ, true, false, arith, List, [], ◌∷◌, ◌++◌, map, length, ◌==◌, get_or, Option, Some, None, Box, Global, refl, sym, ap, ap₂, append_assoc, append-nil}
+use Rattle.std.specs.Prelude.{codes}
 use Rattle.std.proofs.lemmas.Bool.Decides.{nat_tests}
-use Rattle.json.specs.Token.{end_array}
-use Rattle.serde_json.specs.Data.{Data, null, array, Items, no_items, item}
-use Rattle.canvas_wire.specs.steps.Tokens.{data_tokens, rest_tokens}
+use Rattle.json.specs.Token.{Token, begin_array, end_array, end_object, key}
+use Rattle.serde_json.specs.Data.{Data, null, string, array, Items, no_items, item}
+use Rattle.canvas_wire.specs.steps.Tokens.{data_tokens, rest_tokens, closing_tokens}
 use Rattle.canvas_semantics.specs.PlacedLine.{PTask, PLine, p_stop, p_step, p_group_end, p_chord_end}
 use Rattle.canvas_rewrite.specs.FrozenView.{p_tasks_of, p_steps, p_task_view, p_line_view, p_end_view}
 use Rattle.canvas_rewrite.specs.declared.frozen.FrozenTask.{FrozenTask}
@@ -11,7 +12,8 @@ use Rattle.canvas_rewrite.specs.declared.frozen.FrozenLine.{FrozenLine, out-Froz
 use Rattle.canvas_rewrite.specs.declared.frozen.FrozenEnd.{FrozenEnd, out-FrozenEnd}
 use Rattle.canvas_message.specs.steps.Parts.{is_stop}
 use Rattle.canvas_message.specs.SharedTexts.{backwards}
-use Rattle.canvas_writing.specs.steps.Tokens.{each_tokens, tasks_of_line, tail_tokens}
+use Rattle.canvas_writing.specs.steps.Tokens.{opening_tokens, each_tokens, chain_before, chain_behind, tasks_of_line, tail_tokens}
+use Rattle.canvas_writing.proofs.TaskTokens.{chain_tokens}
 use Rattle.canvas_message.specs.Wire.{chain_wire, task_wire, line_wire, elements_wire, onto_reversed, tasks_wire, list_or_null}
 use Rattle.canvas_message.proofs.FitLemmas.{end_stands, never_stops}
 use Rattle.canvas_message.proofs.Seen.{line_none, line_some, end_none, end_some}
@@ -62,12 +64,17 @@ pub a_tail : (l : FrozenLine) (b : Box FrozenEnd Global) → (out-FrozenLine l).
 a_tail l b e = ap tail_tokens (line_some l b e) ∙ tail_steps (map p_task_view (out-FrozenLine l).tasks) (p_end_view b.value)
     ∙ tail_by b.value (out-FrozenEnd b.value).body refl
 
-pub elements_written : (l : FrozenLine) (ts : List FrozenTask) → ts ≡ (out-FrozenLine l).tasks
-    → (each_tokens (map p_task_view ts) ++ tail_tokens (p_line_view l)) ++ end_array ∷ [] ≡ rest_tokens (elements_wire (p_line_view l))
-elements_written l ts same =
-    append_assoc (each_tokens (map p_task_view ts)) (tail_tokens (p_line_view l)) (end_array ∷ [])
-    ∙ ap (λ xs. each_tokens xs ++ (tail_tokens (p_line_view l) ++ end_array ∷ [])) (ap (map p_task_view) same ∙ sym (tasks_seen l))
-    ∙ sym (elements_tokens (p_line_view l))
+-- a chain, around its last element where that is a group or chord
+chain_around : (size : Option ℕ) (l : PLine) → (chain_before size (tasks_of_line l) ++ tail_tokens l) ++ chain_behind ≡ data_tokens (chain_wire size (elements_wire l))
+chain_around size l =
+    let c : List Token = closing_tokens (string (codes "chain")) (codes "celery.chain") in
+    together (opening_tokens size) (each_tokens (tasks_of_line l)) (tail_tokens l) c (key (codes "tasks")) begin_array end_array end_object
+    ∙ ap (λ x. opening_tokens size ++ (((key (codes "tasks") ∷ begin_array ∷ x) ++ end_object ∷ []) ++ c)) (sym (elements_tokens l))
+    ∙ chain_tokens size (elements_wire l)
+  where
+    together : (o f a c : List Token) (k x y w : Token)
+        → ((o ++ k ∷ x ∷ f) ++ a) ++ y ∷ w ∷ c ≡ o ++ (((k ∷ x ∷ (f ++ (a ++ y ∷ []))) ++ w ∷ []) ++ c)
+    together o f a c k x y w = simp append_assoc
 
 -- ---- one element, or a chain
 
@@ -109,21 +116,34 @@ module _ (size : Option ℕ) (l : FrozenLine) (ts : List FrozenTask) (same : ts 
   seen_none : (out-FrozenLine l).tail ≡ None → p_line_view l ≡ line ts p_stop
   seen_none e = line_none l e ∙ ap (λ xs. line xs p_stop) (sym same)
 
+  front : map p_task_view ts ≡ tasks_of_line (p_line_view l)
+  front = ap (map p_task_view) same ∙ sym (tasks_seen l)
+
   pub is_end : (b : Box FrozenEnd Global) (t : FrozenEnd) → (out-FrozenLine l).tail ≡ Some b → t ≡ b.value → (length ts == 0) ≡ true
       → line_wire size (p_end_view t) ≡ line_wire size (p_line_view l)
   is_end b t e there h = ap (λ x. line_wire size (p_end_view x)) there ∙ sym (ap (line_wire size) (seen_some b e) ∙ only_end size ts b.value h)
 
-  pub is_chain_to_end : (b : Box FrozenEnd Global) → (out-FrozenLine l).tail ≡ Some b → (length ts == 0) ≡ false
-      → chain_wire size (elements_wire (p_line_view l)) ≡ line_wire size (p_line_view l)
-  is_chain_to_end b e h =
-      ap (λ x. chain_wire size (elements_wire x)) (seen_some b e) ∙ sym (ap (line_wire size) (seen_some b e) ∙ longer_end size ts b.value h)
+  pub is_chain_to_end : (b : Box FrozenEnd Global) (t : FrozenEnd) → (out-FrozenLine l).tail ≡ Some b → t ≡ b.value → (length ts == 0) ≡ false
+      → (chain_before size (map p_task_view ts) ++ data_tokens (line_wire None (p_end_view t))) ++ chain_behind ≡ data_tokens (line_wire size (p_line_view l))
+  is_chain_to_end b t e there h =
+      ap₂ (λ xs x. (chain_before size xs ++ x) ++ chain_behind) front (ap (λ x. data_tokens (line_wire None (p_end_view x))) there ∙ sym (a_tail l b e))
+      ∙ chain_around size (p_line_view l)
+      ∙ ap (λ x. data_tokens (chain_wire size (elements_wire x))) (seen_some b e)
+      ∙ ap data_tokens (sym (ap (line_wire size) (seen_some b e) ∙ longer_end size ts b.value h))
 
   pub is_task : (t : FrozenTask) → (out-FrozenLine l).tail ≡ None → length ts ≡ 1 → t ≡ get_or ts 0 t
       → task_wire size (p_task_view t) ≡ line_wire size (p_line_view l)
   is_task t e h at = sym (ap (line_wire size) (seen_none e) ∙ only_task size ts t h at)
 
-  pub is_chain : (out-FrozenLine l).tail ≡ None → (length ts ≡ 1 → ⊥) → chain_wire size (elements_wire (p_line_view l)) ≡ line_wire size (p_line_view l)
-  is_chain e h = ap (λ x. chain_wire size (elements_wire x)) (seen_none e) ∙ sym (ap (line_wire size) (seen_none e) ∙ longer_tasks size ts h)
+  pub is_chain : (out-FrozenLine l).tail ≡ None → (length ts ≡ 1 → ⊥)
+      → chain_before size (map p_task_view ts) ++ chain_behind ≡ data_tokens (line_wire size (p_line_view l))
+  is_chain e h =
+      let v : PLine = p_line_view l in
+      ap (λ xs. chain_before size xs ++ chain_behind) front
+      ∙ ap (λ x. x ++ chain_behind) (sym (ap (λ x. chain_before size (tasks_of_line v) ++ x) (no_tail l e) ∙ append-nil (chain_before size (tasks_of_line v))))
+      ∙ chain_around size v
+      ∙ ap (λ x. data_tokens (chain_wire size (elements_wire x))) (seen_none e)
+      ∙ ap data_tokens (sym (ap (line_wire size) (seen_none e) ∙ longer_tasks size ts h))
 
 -- ---- lists that may be null
 

@@ -1,6 +1,6 @@
--- One more turn of a loop over a list.
-use Rattle.std.proofs.Common.{◌≡◌, ◌∙◌, ◌<◌, ◌+◌, ℕ, List, ◌∷◌, ◌++◌, length, get_or, drop, sym, ap, append_assoc}
-use Rattle.std.proofs.lemmas.List.{at_drop_more}
+-- The turns of a loop over a list.
+use Rattle.std.proofs.Common.{◌≡◌, ◌∙◌, ◌<◌, ◌≤◌, ◌+◌, ℕ, List, [], ◌∷◌, ◌++◌, length, get_or, drop, sym, ap, append_assoc}
+use Rattle.std.proofs.lemmas.List.{at_drop_more, at_drop_all}
 
 -- a loop that puts what each item gives behind the others
 module _ {X Y : Type 0} where
@@ -11,3 +11,12 @@ module _ {X Y : Type 0} where
       let rest : List Y = F (drop (i + 1) xs) in
       ap (λ ys. ys ++ rest) pushed ∙ append_assoc before here rest
       ∙ ap (λ ys. before ++ ys) (sym (at_drop_more F xs i x lt ∙ ap (λ y. F (y ∷ drop (i + 1) xs)) (sym is) ∙ turn)) ∙ so_far
+
+  -- after the last turn, where what the loop gives has an end of its own
+  pub put_all : (F : List X → List Y) (xs : List X) (i : ℕ) (before after all : List Y) → length xs ≤ i → before ++ F (drop i xs) ≡ all
+      → after ≡ before ++ F [] → after ≡ all
+  put_all F xs i before after all past so_far ended = ended ∙ ap (λ ys. before ++ ys) (sym (at_drop_all F xs i past)) ∙ so_far
+
+-- before the first turn, where the loop begins behind some that stand there
+pub put_none : {Y : Type 0} (old front new rest all : List Y) → new ≡ old ++ front → front ++ rest ≡ all → new ++ rest ≡ old ++ all
+put_none old front new rest all written is = ap (λ ys. ys ++ rest) written ∙ append_assoc old front rest ∙ ap (λ ys. old ++ ys) is

@@ -1,19 +1,16 @@
 //! What stands before and behind the text of the body that the end of a line carries, in the text
 //! of the line, as tokens of JSON.
 
-ghost use Rattle.std.specs.Prelude.{◌≡◌, None, codes, map};
+ghost use Rattle.std.specs.Prelude.{◌≡◌, None, map};
 ghost use Rattle.canvas_wire.specs.steps.Tokens.{Appends};
 ghost use Rattle.canvas_semantics.specs.PlacedLine.{p_stop};
 ghost use Rattle.canvas_rewrite.specs.FrozenView.{p_steps, p_task_view, p_line_view, p_end_view};
 ghost use Rattle.canvas_message.specs.MessageView.{place_seen};
-ghost use Rattle.canvas_message.specs.Wire.{place_id};
-ghost use Rattle.canvas_writing.specs.steps.Around.{carries, is_carrying, task_before, chain_before, line_before, last_before, task_behind, chain_behind, line_behind, last_behind};
-ghost use Rattle.canvas_writing.specs.steps.Tokens.{unless_null};
+ghost use Rattle.canvas_writing.specs.steps.Around.{carries, is_carrying, task_before, line_before, last_before, line_behind, last_behind};
 
-use crate::frozen::{write_each, write_group_option, write_links, write_rest};
-use crate::pieces::{write_call, write_opening, write_own_id};
+use crate::frozen::{write_chain_before, write_rest, write_task_behind};
+use crate::pieces::{write_chain_behind, write_opening, write_task_front};
 use canvas_rewrite::{FrozenEnd, FrozenLine, FrozenTask, Place};
-use canvas_wire::{write_closing, write_end};
 use json::Writer;
 use std::alloc::AllocError;
 
@@ -50,7 +47,7 @@ fn end_carries(end: &FrozenEnd) -> bool
     }
 }
 
-/// The members before the body that a task's place carries.
+/// A task up to the body that its place carries.
 fn write_task_before(
     out: &mut Writer,
     task: &FrozenTask,
@@ -58,30 +55,8 @@ fn write_task_before(
 ) -> Result<(), AllocError>
     ensures { Appends result out.old out.new (task_before size (p_task_view task.now)) }
 {
-    write_call(
-        out,
-        task.args.get(),
-        task.immutable,
-        task.kwargs.get(),
-        size,
-    )?;
-    out.key("options")?;
-    out.begin_object()?;
+    write_task_front(out, task, size)?;
     out.key("chord")
-}
-
-/// The elements of a chain before its last.
-fn write_chain_before(
-    out: &mut Writer,
-    tasks: &[FrozenTask],
-    size: Option<u32>,
-) -> Result<(), AllocError>
-    ensures { Appends result out.old out.new (chain_before size (map p_task_view tasks.now)) }
-{
-    write_opening(out, size)?;
-    out.key("tasks")?;
-    out.begin_array()?;
-    write_each(out, tasks)
 }
 
 /// A line up to the body that its end carries.
@@ -152,35 +127,6 @@ pub(crate) fn write_last_before(out: &mut Writer, line: &FrozenLine) -> Result<(
             None => Ok(()),
         },
     }
-}
-
-fn write_group(out: &mut Writer, place: &Option<Place>) -> Result<(), AllocError>
-    ensures { Appends result out.old out.new
-        (unless_null (codes "group_id") (place_id (place_seen place.now))) }
-{
-    match place {
-        Some(place) => write_group_option(out, place.group),
-        None => Ok(()),
-    }
-}
-
-/// What stands in a task behind the body that its place carries.
-fn write_task_behind(out: &mut Writer, task: &FrozenTask) -> Result<(), AllocError>
-    ensures { Appends result out.old out.new (task_behind (p_task_view task.now)) }
-{
-    write_group(out, &task.place)?;
-    write_links(out, task)?;
-    write_own_id(out, task.no)?;
-    write_end(out, task.name.get())
-}
-
-/// What stands in a chain behind its last element.
-fn write_chain_behind(out: &mut Writer) -> Result<(), AllocError>
-    ensures { Appends result out.old out.new chain_behind }
-{
-    out.end_array()?;
-    out.end_object()?;
-    write_closing(out, "chain", "celery.chain")
 }
 
 /// A line from behind the body that its end carries.

@@ -3,18 +3,19 @@
 ghost use Rattle.std.specs.Prelude.{◌∷◌, [], ◌++◌, codes, decimal};
 ghost use Rattle.json.specs.Token.{begin_object, end_object, key, number};
 ghost use Rattle.serde_json.specs.Data.{string};
-ghost use Rattle.canvas_task.specs.Entries.{named};
-ghost use Rattle.canvas_wire.specs.steps.Tokens.{Appends, data_tokens};
-ghost use Rattle.canvas_wire.specs.Writing.{args_wire, kwargs_wire};
-ghost use Rattle.canvas_writing.specs.steps.Tokens.{size_tokens, start_tokens, call_tokens, opening_tokens, group_closing, named_tokens};
-ghost use Rattle.canvas_message.specs.Wire.{task_id, group_id};
+ghost use Rattle.canvas_rewrite.specs.FrozenView.{p_task_view};
+ghost use Rattle.canvas_wire.specs.steps.Tokens.{Appends};
+ghost use Rattle.canvas_wire.specs.Writing.{args_wire};
+ghost use Rattle.canvas_writing.specs.steps.Tokens.{size_tokens, start_tokens, task_front, unless_null, opening_tokens, chain_behind, group_closing, named_tokens};
+ghost use Rattle.canvas_message.specs.MessageView.{place_seen};
+ghost use Rattle.canvas_message.specs.Wire.{task_id, group_id, place_id};
 
 use crate::identifiers::{write_group_id, write_task_member};
+use canvas_rewrite::{FrozenTask, Place};
 use canvas_task::{Arg, GroupNo, TaskNo};
-use canvas_wire::{write_flag, write_front, write_kind, write_kwargs};
+use canvas_wire::{write_closing, write_flag, write_front, write_kind, write_kwargs};
 use json::Writer;
 use std::alloc::AllocError;
-use std::collections::BTreeMap;
 
 fn write_how_many(out: &mut Writer, size: u32) -> Result<(), AllocError>
     ensures { Appends result out.old out.new
@@ -41,20 +42,33 @@ fn write_start(out: &mut Writer, args: &[Arg], size: Option<u32>) -> Result<(), 
     write_size(out, size)
 }
 
-/// The members before the options of a task.
-pub(crate) fn write_call(
+/// A task up to its options, with their opening brace.
+pub(crate) fn write_task_front(
     out: &mut Writer,
-    args: &[Arg],
-    immutable: bool,
-    kwargs: &BTreeMap<String, Arg>,
+    task: &FrozenTask,
     size: Option<u32>,
 ) -> Result<(), AllocError>
-    ensures { Appends result out.old out.new
-        (call_tokens size (args_wire args.now) immutable (kwargs_wire (named kwargs.now.entries))) }
+    ensures { Appends result out.old out.new (task_front size (p_task_view task.now)) }
 {
-    write_start(out, args, size)?;
-    write_flag(out, immutable)?;
-    write_kwargs(out, kwargs)
+    write_start(out, task.args.get(), size)?;
+    write_flag(out, task.immutable)?;
+    write_kwargs(out, task.kwargs.get())?;
+    out.key("options")?;
+    out.begin_object()
+}
+
+/// The group or chord that a place names, where there is one.
+pub(crate) fn write_group(out: &mut Writer, place: &Option<Place>) -> Result<(), AllocError>
+    ensures { Appends result out.old out.new
+        (unless_null (codes "group_id") (place_id (place_seen place.now))) }
+{
+    match place {
+        Some(place) => {
+            out.key("group_id")?;
+            write_group_id(out, place.group)
+        }
+        None => Ok(()),
+    }
 }
 
 /// The last of a task's options, and the closing brace.
@@ -74,6 +88,15 @@ pub(crate) fn write_opening(out: &mut Writer, size: Option<u32>) -> Result<(), A
     write_flag(out, false)?;
     out.key("kwargs")?;
     out.begin_object()
+}
+
+/// What stands in a chain behind its last element.
+pub(crate) fn write_chain_behind(out: &mut Writer) -> Result<(), AllocError>
+    ensures { Appends result out.old out.new chain_behind }
+{
+    out.end_array()?;
+    out.end_object()?;
+    write_closing(out, "chain", "celery.chain")
 }
 
 fn write_group_options(out: &mut Writer, group: GroupNo) -> Result<(), AllocError>

@@ -3,14 +3,12 @@
 --     line_before, line_behind    in a line
 --     last_before, last_behind    in its last element
 use Rattle.std.specs.Prelude.{ℕ, Bool, true, false, List, [], ◌∷◌, ◌++◌, Option, None, codes}
-use Rattle.json.specs.Token.{Token, begin_array, end_array, begin_object, end_object, key}
+use Rattle.json.specs.Token.{Token, key}
 use Rattle.serde_json.specs.Data.{Data, null, string}
-use Rattle.canvas_wire.specs.Writing.{args_wire, kwargs_wire}
-use Rattle.canvas_wire.specs.steps.Tokens.{closing_tokens, kind_tokens, name_tokens}
 use Rattle.canvas_semantics.specs.PlacedLine.{PTask, PPlace, p_nowhere, p_group, p_chord, PLine, p_stop, p_step, p_group_end, p_chord_end, PLines}
-use Rattle.canvas_message.specs.Content.{number_of, call_of, place_of}
-use Rattle.canvas_message.specs.Wire.{task_id, place_id, task_wire, line_wire, members_wire}
-use Rattle.canvas_writing.specs.steps.Tokens.{named_tokens, call_tokens, unless_null, links_wire, errbacks_wire, links_tokens, opening_tokens, group_closing, list_tokens, each_tokens}
+use Rattle.canvas_message.specs.Content.{place_of}
+use Rattle.canvas_message.specs.Wire.{task_wire, line_wire, members_wire}
+use Rattle.canvas_writing.specs.steps.Tokens.{task_front, task_behind, opening_tokens, group_closing, list_tokens, chain_before, chain_behind}
 
 abbrev pub is_carrying : PPlace → Bool
 is_carrying p_nowhere = false
@@ -44,13 +42,7 @@ last_wire (p_chord_end g ms b) = line_wire None (p_chord_end g ms b)
 -- ---- before
 
 abbrev pub task_before : (size : Option ℕ) → PTask → List Token
-task_before size t =
-    call_tokens size (args_wire (call_of t).args) (call_of t).immutable
-    (kwargs_wire (call_of t).kwargs)
-    ++ key (codes "options") ∷ begin_object ∷ key (codes "chord") ∷ []
-
-abbrev pub chain_before : (size : Option ℕ) → List PTask → List Token
-chain_before size ts = opening_tokens size ++ key (codes "tasks") ∷ begin_array ∷ each_tokens ts
+task_before size t = task_front size t ++ key (codes "chord") ∷ []
 
 abbrev pub chord_before : (size : Option ℕ) → List Token
 chord_before size = opening_tokens size ++ key (codes "body") ∷ []
@@ -71,17 +63,6 @@ abbrev mutual
   last_before (p_chord_end g ms b) = chord_before None ++ line_before None b
 
 -- ---- behind
-
-abbrev pub task_behind : PTask → List Token
-task_behind t =
-    unless_null (codes "group_id") (place_id (place_of t))
-    ++ (links_tokens (links_wire t) (errbacks_wire t)
-    ++ ((named_tokens (codes "task_id") (task_id (number_of t)) ++ end_object ∷ [])
-    ++ (kind_tokens null ++ name_tokens (call_of t).name)))
-
-abbrev pub chain_behind : List Token
-chain_behind =
-    end_array ∷ end_object ∷ closing_tokens (string (codes "chain")) (codes "celery.chain")
 
 abbrev pub chord_behind : (number : ℕ) → PLines → List Token
 chord_behind g ms =

@@ -1,11 +1,12 @@
 -- The tokens of JSON that a message is written as.
 use Rattle.std.specs.Prelude.{ℕ, Bool, false, List, [], ◌∷◌, ◌++◌, Option, Some, None, decimal, codes}
-use Rattle.json.specs.Token.{Token, begin_object, end_object, key, number}
-use Rattle.serde_json.specs.Data.{Data, null, Items, no_items, Members}
-use Rattle.canvas_wire.specs.steps.Tokens.{data_tokens, front_tokens, flag_tokens, kwargs_tokens, link_tokens, member_tokens, kind_tokens, name_tokens}
-use Rattle.canvas_semantics.specs.PlacedLine.{PTask, PPlace, PLine, p_stop, p_step, p_group_end, p_chord_end, PLines, no_p_lines}
-use Rattle.canvas_message.specs.Content.{number_of, links_of, errbacks_of, place_of}
-use Rattle.canvas_message.specs.Wire.{task_id, group_id, place_id, task_wire, tasks_wire, carried_wire, line_wire}
+use Rattle.json.specs.Token.{Token, begin_array, end_array, begin_object, end_object, key, number}
+use Rattle.serde_json.specs.Data.{Data, null, string, Items, no_items, Members}
+use Rattle.canvas_wire.specs.Writing.{args_wire, kwargs_wire}
+use Rattle.canvas_wire.specs.steps.Tokens.{data_tokens, front_tokens, flag_tokens, kwargs_tokens, link_tokens, member_tokens, closing_tokens, kind_tokens, name_tokens}
+use Rattle.canvas_semantics.specs.PlacedLine.{PTask, PLine, p_stop, p_step, p_group_end, p_chord_end, PLines, no_p_lines}
+use Rattle.canvas_message.specs.Content.{number_of, call_of, links_of, errbacks_of, place_of}
+use Rattle.canvas_message.specs.Wire.{task_id, group_id, place_id, task_wire, tasks_wire, line_wire}
 
 -- a member
 abbrev pub named_tokens : List ℕ → Data → List Token
@@ -35,23 +36,24 @@ abbrev pub unless_null : List ℕ → Data → List Token
 unless_null k null = []
 unless_null k d = key k ∷ data_tokens d
 
-abbrev pub place_tokens : PPlace → List Token
-place_tokens p =
-    unless_null (codes "chord") (carried_wire p) ++ unless_null (codes "group_id") (place_id p)
-
 abbrev pub links_tokens : (links errbacks : Items) → List Token
 links_tokens links errbacks =
     link_tokens (codes "link") links ++ link_tokens (codes "link_error") errbacks
 
--- a task's options, with the closing brace
-abbrev pub option_members : PTask → List Token
-option_members t =
-    place_tokens (place_of t)
-    ++ (links_tokens (links_wire t) (errbacks_wire t)
-    ++ (named_tokens (codes "task_id") (task_id (number_of t)) ++ end_object ∷ []))
+-- a task up to its options, with their opening brace
+abbrev pub task_front : (size : Option ℕ) → PTask → List Token
+task_front size t =
+    call_tokens size (args_wire (call_of t).args) (call_of t).immutable
+    (kwargs_wire (call_of t).kwargs)
+    ++ key (codes "options") ∷ begin_object ∷ []
 
-abbrev pub options_tokens : PTask → List Token
-options_tokens t = key (codes "options") ∷ begin_object ∷ option_members t
+-- a task from behind the body that its place carries
+abbrev pub task_behind : PTask → List Token
+task_behind t =
+    unless_null (codes "group_id") (place_id (place_of t))
+    ++ (links_tokens (links_wire t) (errbacks_wire t)
+    ++ ((named_tokens (codes "task_id") (task_id (number_of t)) ++ end_object ∷ [])
+    ++ (kind_tokens null ++ name_tokens (call_of t).name)))
 
 -- up to the keyword arguments of a chain, group or chord
 abbrev pub opening_tokens : (size : Option ℕ) → List Token
@@ -73,6 +75,14 @@ list_tokens k ds = member_tokens k ds ++ end_object ∷ []
 abbrev pub each_tokens : List PTask → List Token
 each_tokens [] = []
 each_tokens (t ∷ ts) = data_tokens (task_wire None t) ++ each_tokens ts
+
+-- a chain up to the last of its first tasks, and from behind its last element
+abbrev pub chain_before : (size : Option ℕ) → List PTask → List Token
+chain_before size ts = opening_tokens size ++ key (codes "tasks") ∷ begin_array ∷ each_tokens ts
+
+abbrev pub chain_behind : List Token
+chain_behind =
+    end_array ∷ end_object ∷ closing_tokens (string (codes "chain")) (codes "celery.chain")
 
 abbrev pub tasks_of_line : PLine → List PTask
 tasks_of_line p_stop = []

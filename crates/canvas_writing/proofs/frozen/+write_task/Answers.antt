@@ -1,90 +1,44 @@
-use Rattle.std.proofs.Common.{rules, [], ◌∷◌, ◌++◌, map, codes, Some, None, sym, ap, ap₂, ◌∙◌, append-nil, refl}
-use Rattle.json.specs.Token.{key, end_array}
-use Rattle.canvas_wire.specs.steps.Tokens.{data_tokens, rest_tokens, link_tokens}
-use Rattle.canvas_rewrite.specs.FrozenView.{p_tasks_of, p_lines_of, p_task_view, p_line_view, p_end_view}
-use Rattle.canvas_writing.specs.steps.Tokens.{named_tokens, each_tokens}
-use Rattle.canvas_message.specs.Wire.{task_wire, tasks_wire, line_wire, elements_wire, members_wire}
+use Rattle.std.proofs.Common.{◌∙◌, [], ◌∷◌, ◌++◌, List, map, codes, Some, None, append-nil, sym, ap, refl}
+use Rattle.json.specs.Token.{Token, begin_array, end_object, key}
+use Rattle.serde_json.specs.Data.{string}
+use Rattle.canvas_wire.specs.steps.Tokens.{data_tokens, rest_tokens, member_tokens}
+use Rattle.canvas_rewrite.specs.FrozenView.{p_tasks_of, p_lines_of, p_task_view, p_line_view}
 use Rattle.canvas_rewrite.specs.declared.frozen.Carried.{out-Carried}
-use Rattle.canvas_wire.proofs.Writers.{after_ok, then_tokens}
-use Rattle.canvas_writing.proofs.TaskTokens.{a_chord, chain_written, task_written, chord_written, group_written, some_link, links_are, alike}
-use Rattle.canvas_writing.proofs.LineTokens.{elements_written, no_tail, a_tail, is_chain_to_end, is_task, is_chain}
-use Rattle.canvas_writing.proofs.Turns.{put_on}
+use Rattle.canvas_rewrite.specs.declared.frozen.FrozenLine.{FrozenLine}
+use Rattle.canvas_writing.specs.steps.Tokens.{named_tokens, each_tokens, opening_tokens}
+use Rattle.canvas_message.specs.Wire.{task_wire, tasks_wire, line_wire, members_wire}
+use Rattle.canvas_wire.proofs.Writers.{Stands, after_ok, then_tokens}
+use Rattle.canvas_writing.proofs.TaskTokens.{alike, no_place, no_chord, a_chord, behind_is, task_written, chord_written, group_written, rest_written, no_link, some_link, opened}
+use Rattle.canvas_writing.proofs.LineTokens.{is_end, is_task, is_chain_to_end, is_chain}
+use Rattle.canvas_writing.proofs.Turns.{put_on, put_all, put_none}
 use Rattle.canvas_writing.proofs.frozen.+write_task.Goals as goal
 
-pub write_chain-returns : goal.write_chain-returns
-write_chain-returns t c =
-    let front = then_tokens c.args.out.now c.write_opening.new.out c.write_list_of_elements.new.out _ _ c.in_ok-write_opening.ensures c.in_ok-write_list_of_elements.ensures in
-    after_ok c.write_closing.result c.args.out.now c.write_list_of_elements.new.out c.write_closing.new.out _ _ _ front c.write_closing.ensures
-    (chain_written c.args.size (elements_wire (p_line_view c.args.line.now)))
-
-pub write_chord_option-returns-in_ok-key-in-Some : goal.write_chord_option-returns-in_ok-key-in-Some
-write_chord_option-returns-in_ok-key-in-Some t c =
-    let named = c.in_ok-key-in-Some.ensures in
-    after_ok c.write_line.result c.args.out.now c.key.new.self c.write_line.new.out (key (codes "chord") ∷ []) _ _ (named.ok, named.room.0) c.write_line.ensures
-    (ap (λ l. named_tokens (codes "chord") (line_wire (Some (out-Carried c.in-Some.carried).size) (p_line_view l))) c.deref.ensures ∙ sym (a_chord c.args.place.now c.in-Some.carried c.in-Some.is))
-
-pub write_elements-returns : goal.write_elements-returns
-write_elements-returns t c =
-    let l = c.args.line.now in
-    let front = then_tokens c.args.out.now c.write_each.new.out c.write_tail.new.out _ _ c.in_ok-write_each.ensures c.in_ok-write_tail.ensures in
-    after_ok c.end_array.result c.args.out.now c.write_tail.new.out c.end_array.new.self _ (end_array ∷ []) _ front (search rules)
-    (elements_written l c.deref.result.now (c.deref.ensures.value ∙ c.get.ensures))
-
-pub write_last-returns-in_ok-write_body-in-Some : goal.write_last-returns-in_ok-write_body-in-Some
-write_last-returns-in_ok-write_body-in-Some t c =
-    let front = then_tokens c.args.out.now c.write_opening.new.out c.write_body.new.out _ _ c.in_ok-write_opening-in-Some.ensures c.in_ok-write_body-in-Some.ensures in
-    after_ok c.write_rest.result c.args.out.now c.write_body.new.out c.write_rest.new.out _ _ _ front c.write_rest.ensures
-    (chord_written c.args.size c.args.end.now c.in-Some.body c.in-Some.is)
-
-pub write_last-returns-in_ok-write_opening-in-None : goal.write_last-returns-in_ok-write_opening-in-None
-write_last-returns-in_ok-write_opening-in-None t c =
-    after_ok c.write_rest-in-None.result c.args.out.now c.write_opening-in-None.new.out c.write_rest-in-None.new.out _ _ _ c.in_ok-write_opening-in-None.ensures c.write_rest-in-None.ensures
-    (group_written c.args.size c.args.end.now c.in-None.is)
-
-pub write_line-returns-else-is_empty : goal.write_line-returns-else-is_empty
-write_line-returns-else-is_empty t c =
-    let tasks = c.as_slice-tasks.ensures.value ∙ c.get.ensures in
-    alike c.write_chain.result c.args.out.now c.write_chain.new.out _ _
-    (ap data_tokens (is_chain_to_end c.args.size c.args.line.now c.as_slice-tasks.result.now tasks c.in-Some.end c.in-Some.is
-    (sym c.is_empty.ensures ∙ c.if-is_empty.false))) c.write_chain.ensures
-
-pub write_line-returns-then-tasks-eq1 : goal.write_line-returns-then-tasks-eq1
-write_line-returns-then-tasks-eq1 t c =
-    let tasks = c.as_slice-tasks.ensures.value ∙ c.get.ensures in
-    alike c.write_task.result c.args.out.now c.write_task.new.out _ _
-    (ap data_tokens (is_task c.args.size c.args.line.now c.as_slice-tasks.result.now tasks c.index-tasks-0.result c.in-None.is c.if-tasks-eq1.true c.index-tasks-0.is)) c.write_task.ensures
-
-pub write_line-returns-else-tasks-eq1 : goal.write_line-returns-else-tasks-eq1
-write_line-returns-else-tasks-eq1 t c =
-    let tasks = c.as_slice-tasks.ensures.value ∙ c.get.ensures in
-    alike c.write_chain-else-tasks-eq1.result c.args.out.now c.write_chain-else-tasks-eq1.new.out _ _
-    (ap data_tokens (is_chain c.args.size c.args.line.now c.as_slice-tasks.result.now tasks c.in-None.is c.if-tasks-eq1.false)) c.write_chain-else-tasks-eq1.ensures
+pub write_link-returns-then-is_empty : goal.write_link-returns-then-is_empty
+write_link-returns-then-is_empty t c =
+    let none = no_link c.args.name.now c.args.tasks.now (sym c.is_empty.ensures ∙ c.if-is_empty.true) in
+    (sym (ap (λ ts. c.args.out.now.tokens ++ ts) none ∙ append-nil c.args.out.now.tokens), refl)
 
 pub write_link-returns : goal.write_link-returns
 write_link-returns t c =
-    alike c.write_member.result c.args.out.now c.write_member.new.out _ _
-    (sym (some_link c.args.name.now c.args.tasks.now (sym c.is_empty.ensures ∙ c.if-is_empty.false))) c.write_member.ensures
+    let opened = then_tokens c.args.out.now c.key.new.self c.begin_array.new.self (key c.args.name.now ∷ []) (begin_array ∷ [])
+    (c.in_ok-key.ensures.ok, c.in_ok-key.ensures.room.0) (c.in_ok-begin_array.ensures.ok, c.in_ok-begin_array.ensures.room.0) in
+    after_ok c.write_tasks.result c.args.out.now c.begin_array.new.self c.write_tasks.new.out _ _ _ opened c.write_tasks.ensures
+    (sym (some_link c.args.name.now c.args.tasks.now (sym c.is_empty.ensures ∙ c.if-is_empty.false)))
 
-pub write_links-returns : goal.write_links-returns
-write_links-returns t c =
-    after_ok c.write_link-2.result c.args.out.now c.write_link.new.out c.write_link-2.new.out _ _ _ c.in_ok-write_link.ensures c.write_link-2.ensures
-    (ap₂ (λ xs ys. link_tokens (codes "link") (tasks_wire (p_tasks_of (map p_task_view xs))) ++ link_tokens (codes "link_error") (tasks_wire (p_tasks_of (map p_task_view ys))))
-    (c.deref.ensures.value ∙ c.get.ensures) (c.deref-2.ensures.value ∙ c.get-2.ensures) ∙ sym (links_are c.args.task.now))
-
-pub write_tail-returns-in-Some : goal.write_tail-returns-in-Some
-write_tail-returns-in-Some t c =
-    alike c.write_last.result c.args.out.now c.write_last.new.out _ _ (ap (λ e. data_tokens (line_wire None (p_end_view e))) c.deref.ensures
-    ∙ sym (a_tail c.args.line.now c.in-Some.end c.in-Some.is)) c.write_last.ensures
-
-pub write_tail-returns-in-None : goal.write_tail-returns-in-None
-write_tail-returns-in-None t c =
-    (sym (ap (λ ts. c.args.out.now.tokens ++ ts) (no_tail c.args.line.now c.in-None.is) ∙ append-nil c.args.out.now.tokens), refl)
+pub write_task_behind-returns : goal.write_task_behind-returns
+write_task_behind-returns t c =
+    let out = c.args.out.now in
+    let linked = then_tokens out c.write_group.new.out c.write_link.new.out _ _ c.in_ok-write_group.ensures c.in_ok-write_link.ensures in
+    let both = then_tokens out c.write_link.new.out c.write_link-2.new.out _ _ linked c.in_ok-write_link-2.ensures in
+    let named = then_tokens out c.write_link-2.new.out c.write_own_id.new.out _ _ both c.in_ok-write_own_id.ensures in
+    after_ok c.write_end.result out c.write_own_id.new.out c.write_end.new.out _ _ _ named c.write_end.ensures
+    (behind_is c.args.task.now _ _ _ (c.deref.ensures.value ∙ c.get.ensures) (c.deref-2.ensures.value ∙ c.get-2.ensures) (c.deref-3.ensures ∙ c.get-3.ensures))
 
 pub write_task-returns : goal.write_task-returns
 write_task-returns t c =
-    let front = then_tokens c.args.out.now c.write_call.new.out c.write_options.new.out _ _ c.in_ok-write_call.ensures c.in_ok-write_options.ensures in
-    after_ok c.write_end.result c.args.out.now c.write_options.new.out c.write_end.new.out _ _ _ front c.write_end.ensures
-    (task_written c.args.size c.args.task.now _ _ _ (c.deref.ensures.value ∙ c.get.ensures) c.get-2.ensures.entries (c.deref-2.ensures ∙ c.get-3.ensures))
+    let front = then_tokens c.args.out.now c.write_task_front.new.out c.write_chord.new.out _ _ c.in_ok-write_task_front.ensures c.in_ok-write_chord.ensures in
+    after_ok c.write_task_behind.result c.args.out.now c.write_chord.new.out c.write_task_behind.new.out _ _ _ front c.write_task_behind.ensures
+    (task_written c.args.size c.args.task.now)
 
 pub write_tasks-loop-task-init : goal.write_tasks-loop-task-init
 write_tasks-loop-task-init t c = (refl, refl)
@@ -97,24 +51,114 @@ write_tasks-loop-task-preserved t c = (
   c.in_ok-write_task.ensures.1 ∙ c.loop-task.invariant.1,
 )
 
-pub write_each-loop-task-init : goal.write_each-loop-task-init
-write_each-loop-task-init t c = (refl, refl)
+pub write_chain_before-loop-task-init : goal.write_chain_before-loop-task-init
+write_chain_before-loop-task-init t c =
+    let out = c.args.out.now in
+    let each = each_tokens (map p_task_view c.args.tasks.now) in
+    let named = then_tokens out c.write_opening.new.out c.key.new.self _ (key (codes "tasks") ∷ []) c.in_ok-write_opening.ensures
+    (c.in_ok-key.ensures.ok, c.in_ok-key.ensures.room.0) in
+    let begun = then_tokens out c.key.new.self c.begin_array.new.self _ (begin_array ∷ []) named
+    (c.in_ok-begin_array.ensures.ok, c.in_ok-begin_array.ensures.room.0) in (
+      put_none out.tokens _ c.begin_array.new.self.tokens each _ begun.0
+          (opened (opening_tokens c.args.size) (key (codes "tasks") ∷ []) (begin_array ∷ []) each),
+      begun.1,
+    )
 
-pub write_each-loop-task-preserved : goal.write_each-loop-task-preserved
-write_each-loop-task-preserved t c = (
+pub write_chain_before-loop-task-preserved : goal.write_chain_before-loop-task-preserved
+write_chain_before-loop-task-preserved t c = (
   put_on (λ xs. each_tokens (map p_task_view xs)) c.args.tasks.now c.loop-task.task-index c.task-item.result
       (data_tokens (task_wire None (p_task_view c.task-item.result))) _ _ _ c.loop-task-test.true c.task-item.is refl c.loop-task.invariant.0
       c.in_ok-write_task.ensures.0,
   c.in_ok-write_task.ensures.1 ∙ c.loop-task.invariant.1,
 )
 
-pub write_lines-loop-line-init : goal.write_lines-loop-line-init
-write_lines-loop-line-init t c = (refl, refl)
+pub write_chain_before-returns : goal.write_chain_before-returns
+write_chain_before-returns t c =
+    let before = c.loop-task.out.tokens in (
+      put_all (λ ts. each_tokens (map p_task_view ts)) c.args.tasks.now c.loop-task.task-index before before _ c.loop-task-test.false
+          c.loop-task.invariant.0 (sym (append-nil before)),
+      c.loop-task.invariant.1,
+    )
 
-pub write_lines-loop-line-preserved : goal.write_lines-loop-line-preserved
-write_lines-loop-line-preserved t c = (
-  put_on (λ xs. rest_tokens (members_wire (p_lines_of (map p_line_view xs)))) c.args.lines.now c.loop-line.line-index c.line-item.result
-      (data_tokens (line_wire None (p_line_view c.line-item.result))) _ _ _ c.loop-line-test.true c.line-item.is refl c.loop-line.invariant.0
-      c.in_ok-write_line.ensures.0,
-  c.in_ok-write_line.ensures.1 ∙ c.loop-line.invariant.1,
-)
+pub write_rest-loop-line-init : goal.write_rest-loop-line-init
+write_rest-loop-line-init t c =
+    let out = c.args.out.now in
+    let rest = rest_tokens (members_wire (p_lines_of (map p_line_view c.as_slice-lines.result.now))) in
+    let begun = then_tokens out c.key.new.self c.begin_array.new.self (key c.args.name.now ∷ []) (begin_array ∷ [])
+    (c.in_ok-key.ensures.ok, c.in_ok-key.ensures.room.0) (c.in_ok-begin_array.ensures.ok, c.in_ok-begin_array.ensures.room.0) in
+    (put_none out.tokens _ c.begin_array.new.self.tokens rest _ begun.0 refl, begun.1)
+
+pub write_rest-returns : goal.write_rest-returns
+write_rest-returns t c =
+    let out = c.args.out.now in
+    let lines = c.as_slice-lines.result.now in
+    let of_lines : List FrozenLine → List Token = λ ls. rest_tokens (members_wire (p_lines_of (map p_line_view ls))) in
+    let members : Stands out c.end_array.new.self (member_tokens c.args.name.now (members_wire (p_lines_of (map p_line_view lines)))) = (
+      put_all of_lines lines c.loop-line.line-index c.loop-line.out.tokens c.end_array.new.self.tokens _ c.loop-line-test.false
+          c.loop-line.invariant.0 c.in_ok-end_array.ensures.ok,
+      c.in_ok-end_array.ensures.room.0 ∙ c.loop-line.invariant.1,
+    ) in
+    let list = then_tokens out c.end_array.new.self c.end_object.new.self _ (end_object ∷ []) members
+    (c.in_ok-end_object.ensures.ok, c.in_ok-end_object.ensures.room.0) in
+    after_ok c.write_group_closing.result out c.end_object.new.self c.write_group_closing.new.out _ _ _ list c.write_group_closing.ensures
+    (rest_written c.args.end.now lines c.args.name.now (string c.args.kind.now) c.args.type_name.now (c.as_slice-lines.ensures.value ∙ c.get.ensures))
+
+pub write_chord-returns-in_ok-key-in-Some-chord : goal.write_chord-returns-in_ok-key-in-Some-chord
+write_chord-returns-in_ok-key-in-Some-chord t c =
+    let named = c.in_ok-key-in-Some-chord.ensures in
+    after_ok c.write_line.result c.args.out.now c.key.new.self c.write_line.new.out (key (codes "chord") ∷ []) _ _ (named.ok, named.room.0) c.write_line.ensures
+    (ap (λ l. named_tokens (codes "chord") (line_wire (Some (out-Carried c.in-Some-chord.carried).size) (p_line_view l))) c.deref.ensures
+    ∙ a_chord c.args.place.now c.in-Some.place c.in-Some-chord.carried c.in-Some.is c.in-Some-chord.is)
+
+pub write_chord-returns-in-None-chord : goal.write_chord-returns-in-None-chord
+write_chord-returns-in-None-chord t c =
+    let none = no_chord c.args.place.now c.in-Some.place c.in-Some.is c.in-None-chord.is in
+    (sym (ap (λ ts. c.args.out.now.tokens ++ ts) none ∙ append-nil c.args.out.now.tokens), refl)
+
+pub write_chord-returns-in-None : goal.write_chord-returns-in-None
+write_chord-returns-in-None t c =
+    (sym (ap (λ ts. c.args.out.now.tokens ++ ts) (no_place c.args.place.now c.in-None.is) ∙ append-nil c.args.out.now.tokens), refl)
+
+pub write_line-returns-then-is_empty : goal.write_line-returns-then-is_empty
+write_line-returns-then-is_empty t c =
+    alike c.write_last.result c.args.out.now c.write_last.new.out _ _
+    (ap data_tokens (is_end c.args.size c.args.line.now c.as_slice-tasks.result.now (c.as_slice-tasks.ensures.value ∙ c.get.ensures) c.in-Some.end
+    c.deref.result.now c.in-Some.is c.deref.ensures (sym c.is_empty.ensures ∙ c.if-is_empty.true)))
+    c.write_last.ensures
+
+pub write_line-returns-then-tasks-eq1 : goal.write_line-returns-then-tasks-eq1
+write_line-returns-then-tasks-eq1 t c =
+    let tasks = c.as_slice-tasks.ensures.value ∙ c.get.ensures in
+    alike c.write_task.result c.args.out.now c.write_task.new.out _ _
+    (ap data_tokens (is_task c.args.size c.args.line.now c.as_slice-tasks.result.now tasks c.index-tasks-0.result c.in-None.is c.if-tasks-eq1.true
+    c.index-tasks-0.is))
+    c.write_task.ensures
+
+pub write_line-returns-in_ok-write_last-in-Some : goal.write_line-returns-in_ok-write_last-in-Some
+write_line-returns-in_ok-write_last-in-Some t c =
+    let out = c.args.out.now in
+    let front = then_tokens out c.write_chain_before.new.out c.write_last-in-Some.new.out _ _ c.in_ok-write_chain_before-in-Some.ensures
+    c.in_ok-write_last-in-Some.ensures in
+    after_ok c.write_chain_behind.result out c.write_last-in-Some.new.out c.write_chain_behind.new.out _ _ _ front c.write_chain_behind.ensures
+    (is_chain_to_end c.args.size c.args.line.now c.as_slice-tasks.result.now (c.as_slice-tasks.ensures.value ∙ c.get.ensures) c.in-Some.end
+    c.deref-in-Some.result.now c.in-Some.is c.deref-in-Some.ensures (sym c.is_empty.ensures ∙ c.if-is_empty.false))
+
+pub write_line-returns-in_ok-write_chain_before-in-None : goal.write_line-returns-in_ok-write_chain_before-in-None
+write_line-returns-in_ok-write_chain_before-in-None t c =
+    after_ok c.write_chain_behind-in-None.result c.args.out.now c.write_chain_before-in-None.new.out c.write_chain_behind-in-None.new.out _ _ _
+    c.in_ok-write_chain_before-in-None.ensures c.write_chain_behind-in-None.ensures
+    (is_chain c.args.size c.args.line.now c.as_slice-tasks.result.now (c.as_slice-tasks.ensures.value ∙ c.get.ensures) c.in-None.is c.if-tasks-eq1.false)
+
+pub write_last-returns-in_ok-write_line-in-Some : goal.write_last-returns-in_ok-write_line-in-Some
+write_last-returns-in_ok-write_line-in-Some t c =
+    let out = c.args.out.now in
+    let named = then_tokens out c.write_opening.new.out c.key.new.self _ (key (codes "body") ∷ []) c.in_ok-write_opening.ensures
+    (c.in_ok-key-in-Some.ensures.ok, c.in_ok-key-in-Some.ensures.room.0) in
+    let body = then_tokens out c.key.new.self c.write_line.new.out _ _ named c.in_ok-write_line-in-Some.ensures in
+    after_ok c.write_rest.result out c.write_line.new.out c.write_rest.new.out _ _ _ body c.write_rest.ensures
+    (chord_written c.args.size c.args.end.now c.in-Some.body c.in-Some.is)
+
+pub write_last-returns-in-None : goal.write_last-returns-in-None
+write_last-returns-in-None t c =
+    after_ok c.write_rest-in-None.result c.args.out.now c.write_opening.new.out c.write_rest-in-None.new.out _ _ _ c.in_ok-write_opening.ensures
+    c.write_rest-in-None.ensures (group_written c.args.size c.args.end.now c.in-None.is)

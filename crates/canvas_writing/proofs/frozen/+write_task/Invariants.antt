@@ -1,7 +1,7 @@
 use Rattle.std.proofs.Common.{◌≡◌, ◌++◌, map, drop}
 use Rattle.canvas_rewrite.specs.FrozenView.{p_tasks_of, p_lines_of, p_task_view, p_line_view}
-use Rattle.canvas_wire.specs.steps.Tokens.{rest_tokens}
-use Rattle.canvas_writing.specs.steps.Tokens.{each_tokens}
+use Rattle.canvas_wire.specs.steps.Tokens.{rest_tokens, member_tokens}
+use Rattle.canvas_writing.specs.steps.Tokens.{each_tokens, chain_before}
 use Rattle.canvas_message.specs.Wire.{tasks_wire, members_wire}
 use Rattle.canvas_writing.proofs.frozen.+write_task.Given as goal
 
@@ -10,12 +10,12 @@ invariant-write_tasks-loop-task l =
     (l.out.tokens ++ rest_tokens (tasks_wire (p_tasks_of (map p_task_view (drop l.task-index l.tasks)))) ≡ l.fn.out.tokens
     ++ rest_tokens (tasks_wire (p_tasks_of (map p_task_view l.tasks)))) × (l.out.before ≡ l.fn.out.before)
 
-abbrev pub invariant-write_each-loop-task : goal.invariant-write_each-loop-task
-invariant-write_each-loop-task l =
-    (l.out.tokens ++ each_tokens (map p_task_view (drop l.task-index l.tasks)) ≡ l.fn.out.tokens ++ each_tokens (map p_task_view l.tasks))
+abbrev pub invariant-write_chain_before-loop-task : goal.invariant-write_chain_before-loop-task
+invariant-write_chain_before-loop-task l =
+    (l.out.tokens ++ each_tokens (map p_task_view (drop l.task-index l.tasks)) ≡ l.fn.out.tokens ++ chain_before l.fn.size (map p_task_view l.tasks))
     × (l.out.before ≡ l.fn.out.before)
 
-abbrev pub invariant-write_lines-loop-line : goal.invariant-write_lines-loop-line
-invariant-write_lines-loop-line l =
+abbrev pub invariant-write_rest-loop-line : goal.invariant-write_rest-loop-line
+invariant-write_rest-loop-line l =
     (l.out.tokens ++ rest_tokens (members_wire (p_lines_of (map p_line_view (drop l.line-index l.lines)))) ≡ l.fn.out.tokens
-    ++ rest_tokens (members_wire (p_lines_of (map p_line_view l.lines)))) × (l.out.before ≡ l.fn.out.before)
+    ++ member_tokens l.name (members_wire (p_lines_of (map p_line_view l.lines)))) × (l.out.before ≡ l.fn.out.before)

@@ -1,0 +1,16 @@
+use Rattle.std.proofs.Common.{◌∙◌, ◌++◌, ap, ap₂, codes, map}
+use Rattle.std.specs.Prelude.{string_bytes}
+use Rattle.canvas_rewrite.specs.FrozenView.{p_tasks_of, p_task_view}
+use Rattle.canvas_message.specs.Pieces.{piece_text}
+use Rattle.canvas_message.specs.Wire.{tasks_wire, list_or_null}
+use Rattle.canvas_writing.specs.steps.Texts.{closing_text}
+use Rattle.canvas_writing.proofs.Bodies.{followed_text}
+use Rattle.canvas_writing.proofs.body.followed.Goals as goal
+
+pub returns-clause-value : goal.returns-clause-value
+returns-clause-value c ds listed =
+    let errbacks = list_or_null (tasks_wire (p_tasks_of (map p_task_view c.args.errbacks.now))) in
+    ap₂ (λ f b. f ++ (piece_text c.args.piece ++ b)) c.in_ok-put.ensures
+    (c.in_ok-put_closing.ensures ∙ ap (λ x. x ++ closing_text errbacks)
+    (c.in_ok-put-2.ensures ∙ ap (λ x. x ++ codes "],\"chord\":null") c.in_ok-back.ensures.bytes))
+    ∙ followed_text (string_bytes c.args.front) (piece_text c.args.piece) ds errbacks listed
