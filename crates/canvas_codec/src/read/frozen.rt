@@ -1,8 +1,9 @@
 //! Reading frozen signatures, with the signatures in them, out of JSON values.
 
-ghost use Rattle.std.specs.Prelude.{◌≡◌, false, map, OnOk, IfErr, Some, None};
+ghost use Rattle.std.specs.Prelude.{◌≡◌, false, true, map, OnOk, IfErr, MatchOption, Some, None};
+ghost use Rattle.serde_json.specs.Data.{null};
 ghost use Rattle.canvas_sig.specs.Datum.{view, value_at};
-ghost use Rattle.canvas_values.specs.Fields.{as_list, listed, tasks, subtype};
+ghost use Rattle.canvas_values.specs.Fields.{as_list, is_null, listed, tasks, subtype};
 ghost use Rattle.canvas_values.specs.Answers.{Gives, ◌or_else◌, unless, in_turn};
 ghost use Rattle.canvas_values.specs.Grammar.{own_fault, primitive_of};
 ghost use Rattle.canvas_rewrite.specs.FrozenView.{p_task_view, p_line_view, p_end_view};
@@ -22,6 +23,7 @@ use canvas_sig::parts::{
 use canvas_task::{ListOf, MapOf, TextOf};
 use canvas_values::Primitive;
 use std::alloc::Global;
+use std::slice;
 use std::sync::Arc;
 
 /// A place isn't a fault of a task.
@@ -42,6 +44,49 @@ fn refuse(fault: Option<SigFault>) -> Result<(), SigFault>
     match fault {
         Some(fault) => Err(fault),
         None => Ok(()),
+    }
+}
+
+fn items_or_one<'a>(value: &'a Datum<'a>) -> &'a [Datum<'a>]
+    ensures { map view result.now ≡ as_list (view value.now) }
+{
+    match value {
+        Datum::Null => &[],
+        Datum::List(values) => values,
+        _ => slice::from_ref(value),
+    }
+}
+
+/// The items of a list, one value alone, or nothing.
+fn as_list<'a>(field: Option<&'a Datum<'a>>) -> &'a [Datum<'a>]
+    ensures { map view result.now ≡ as_list (value_at field.entry) }
+{
+    match field {
+        Some(value) => items_or_one(value),
+        None => &[],
+    }
+}
+
+/// A value other than null.
+fn given<'a>(field: Option<&'a Datum<'a>>) -> Option<&'a Datum<'a>>
+    ensures { MatchOption result (is_null (value_at field.entry) ≡ true)
+        (λ value. (is_null (value_at field.entry) ≡ false)
+        × (view value.now ≡ value_at field.entry)) }
+{
+    match field {
+        None | Some(Datum::Null) => None,
+        other => other,
+    }
+}
+
+/// A value, or the null that the caller lends where it is missing.
+fn or_null<'a>(field: Option<&'a Datum<'a>>, lent: &'a Datum<'a>) -> &'a Datum<'a>
+    requires { view lent.now ≡ null }
+    ensures { view result.now ≡ value_at field.entry }
+{
+    match field {
+        Some(value) => value,
+        None => lent,
     }
 }
 
@@ -92,8 +137,8 @@ fn read_parts_of(alloc: Global, value: &Datum<'_>, left: u32) -> Result<FrozenTa
     let no = known_task(option_of(value, "task_id"))?;
     let args = read_args(alloc, listed(value.get("args")))?;
     let kwargs = read_kwargs(alloc, value.get("kwargs"))?;
-    let links = read_links(alloc, option_of(value, "link"), left)?;
-    let errbacks = read_links(alloc, option_of(value, "link_error"), left)?;
+    let links = read_all_links(alloc, as_list(option_of(value, "link")), left)?;
+    let errbacks = read_all_links(alloc, as_list(option_of(value, "link_error")), left)?;
     let group = option_of(value, "group_id");
     let place = read_place(alloc, group, option_of(value, "chord"), left)?;
     let name = text_of(alloc, value.get("task"))?;
@@ -109,42 +154,7 @@ fn read_parts_of(alloc: Global, value: &Datum<'_>, left: u32) -> Result<FrozenTa
     })
 }
 
-/// The signatures in a list, one signature, or none.
-#[cycle(read)]
-fn read_links(
-    alloc: Global,
-    field: Option<&Datum<'_>>,
-    left: u32,
-) -> Result<Vec<FrozenTask>, SigFault>
-    ensures { Gives (λ v. map p_task_view v.items) result
-        (in_turn (link_reading left) (as_list (value_at field.entry))) }
-{
-    match field {
-        None => Ok(Vec::new(alloc)),
-        Some(value) => read_one_or_more(alloc, value, left),
-    }
-}
-
-#[cycle(read)]
-fn read_one_or_more(
-    alloc: Global,
-    value: &Datum<'_>,
-    left: u32,
-) -> Result<Vec<FrozenTask>, SigFault>
-    ensures { Gives (λ v. map p_task_view v.items) result
-        (in_turn (link_reading left) (as_list (view value.now))) }
-{
-    match value {
-        Datum::Null => Ok(Vec::new(alloc)),
-        Datum::List(values) => read_all_links(alloc, values, left),
-        _ => {
-            let mut tasks = Vec::new(alloc);
-            tasks.push(read_link(alloc, value, left)?)?;
-            Ok(tasks)
-        }
-    }
-}
-
+/// The signatures in a list.
 #[cycle(read)]
 pub(crate) fn read_all_links(
     alloc: Global,
@@ -179,28 +189,20 @@ pub(crate) fn read_place(
         return Err(SigFault::Frozen);
     }
     let group = known_group(group)?;
-    if is_null(body) {
-        return Ok(Some(Place { group, chord: None }));
-    }
-    let carried = read_carried(alloc, body, left)?;
-    Ok(Some(Place {
-        group,
-        chord: Some(carried),
-    }))
-}
-
-#[cycle(read)]
-fn read_carried(alloc: Global, field: Option<&Datum<'_>>, left: u32) -> Result<Carried, SigFault>
-    ensures { Gives carried_view result (carried_with (line_reading left) (value_at field.entry)) }
-{
-    match field {
-        Some(value) => read_load(alloc, value, left),
-        None => Err(SigFault::TooMany),
+    match given(body) {
+        Some(body) => {
+            let carried = read_carried(alloc, body, left)?;
+            Ok(Some(Place {
+                group,
+                chord: Some(carried),
+            }))
+        }
+        None => Ok(Some(Place { group, chord: None })),
     }
 }
 
 #[cycle(read)]
-fn read_load(alloc: Global, value: &Datum<'_>, left: u32) -> Result<Carried, SigFault>
+fn read_carried(alloc: Global, value: &Datum<'_>, left: u32) -> Result<Carried, SigFault>
     ensures { Gives carried_view result (carried_with (line_reading left) (view value.now)) }
 {
     let size = read_size(value.get("chord_size"))?;
@@ -234,7 +236,13 @@ fn read_chain(alloc: Global, value: &Datum<'_>, left: u32) -> Result<FrozenLine,
         (step_reading left) (last_reading left) (listed (tasks (view value.now))))) }
 {
     refuse(own_fault(value, false))?;
-    read_elements(alloc, listed(kwarg_of(value, "tasks")), left)
+    match listed(kwarg_of(value, "tasks")) {
+        [] => Ok(FrozenLine {
+            tasks: ListOf::of(Vec::new(alloc)),
+            tail: None,
+        }),
+        [steps @ .., last] => read_parts(alloc, steps, last, left),
+    }
 }
 
 #[cycle(read)]
@@ -244,21 +252,6 @@ fn read_single(alloc: Global, value: &Datum<'_>, left: u32) -> Result<FrozenLine
 {
     let element = read_last_as(alloc, value, primitive_of(value.get("subtask_type")), left)?;
     Ok(line_of(alloc, Vec::new(alloc), element)?)
-}
-
-/// The line of a chain's elements.
-#[cycle(read)]
-fn read_elements(alloc: Global, values: &[Datum<'_>], left: u32) -> Result<FrozenLine, SigFault>
-    ensures { Gives p_line_view result
-        (elements_with (step_reading left) (last_reading left) (map view values.now)) }
-{
-    match values {
-        [] => Ok(FrozenLine {
-            tasks: ListOf::of(Vec::new(alloc)),
-            tail: None,
-        }),
-        [steps @ .., last] => read_parts(alloc, steps, last, left),
-    }
 }
 
 #[cycle(read)]
@@ -369,23 +362,12 @@ fn read_chord(alloc: Global, value: &Datum<'_>, left: u32) -> Result<FrozenEnd, 
     refuse(header_fault(value))?;
     let group = known_group(option_of(value, "group_id"))?;
     let members = read_lines(alloc, listed(kwarg_of(value, "header")), left)?;
-    let body = read_member(alloc, kwarg_of(value, "body"), left)?;
+    let body = read_line(alloc, or_null(kwarg_of(value, "body"), &Datum::Null), left)?;
     Ok(FrozenEnd {
         group,
         members: ListOf::of(members),
         body: Some(body),
     })
-}
-
-/// The line that a member stands for; one that is missing is null.
-#[cycle(read)]
-fn read_member(alloc: Global, field: Option<&Datum<'_>>, left: u32) -> Result<FrozenLine, SigFault>
-    ensures { Gives p_line_view result (line_reading left (value_at field.entry)) }
-{
-    match field {
-        Some(value) => read_line(alloc, value, left),
-        None => read_line(alloc, &Datum::Null, left),
-    }
 }
 
 #[cycle(read)]

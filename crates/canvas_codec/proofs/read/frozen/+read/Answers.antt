@@ -1,18 +1,13 @@
 use Rattle.std.proofs.Common.{◌≡◌, ◌∙◌, false, None, sym, ap, map, subst, rules}
 use Rattle.canvas_sig.specs.Datum.{view}
-use Rattle.canvas_values.specs.Answers.{Gives, ◌or_else◌, unless, in_turn}
+use Rattle.canvas_values.specs.Answers.{Gives, ◌or_else◌, unless}
+use Rattle.canvas_values.specs.Fields.{listed, tasks}
 use Rattle.canvas_values.specs.Grammar.{own_fault}
-use Rattle.canvas_sig.proofs.Datums.{array_list}
 use Rattle.canvas_rewrite.specs.FrozenView.{p_task_view, p_line_view}
 use Rattle.canvas_codec.specs.steps.FrozenReading.{group_with, chord_with, header_fault, elements_with, link_reading, step_reading, last_reading, line_reading}
 use Rattle.canvas_codec.proofs.Made.{task_read, group_read, chord_read, last_apart, no_line, last_item, no_items}
 use Rattle.canvas_codec.proofs.Turns.{read_on, read_all}
 use Rattle.canvas_codec.proofs.read.frozen.+read.Goals as goal
-
-pub read_one_or_more-returns-in-List : goal.read_one_or_more-returns-in-List
-read_one_or_more-returns-in-List t c =
-    subst (Gives (λ v. map p_task_view v.items) c.read_all_links.result)
-    (sym (ap (in_turn (link_reading c.args.left)) (array_list _ _ c.in-List.is))) c.read_all_links.ensures
 
 pub read_parts_of-returns : goal.read_parts_of-returns
 read_parts_of-returns t c =
@@ -33,16 +28,23 @@ read_chord-returns t c =
     ∙ chord_read (line_reading c.args.left) (view c.args.value.now) c.in_ok-group.group c.of.result c.in_ok-body.body (search rules)
     (search rules) (search rules)
 
-pub read_elements-returns-in-empty : goal.read_elements-returns-in-empty
-read_elements-returns-in-empty t c =
-    no_line (map view c.args.values.now) (step_reading c.args.left) (last_reading c.args.left) c.of.result (no_items c.args.values.now c.in-empty.len_below)
-    (c.of.ensures ∙ c.new.ensures.items)
-
-pub read_elements-returns-in-len1-up : goal.read_elements-returns-in-len1-up
-read_elements-returns-in-len1-up t c =
+pub read_chain-returns-in-empty : goal.read_chain-returns-in-empty
+read_chain-returns-in-empty t c =
     let elements = elements_with (step_reading c.args.left) (last_reading c.args.left) in
+    let none : own_fault false (view c.args.value.now) ≡ None = search rules in
+    let same : listed (tasks (view c.args.value.now)) ≡ map view c.listed.result.now = sym (c.listed.ensures ∙ ap listed c.kwarg_of.ensures) in
+    ap (λ o. unless o (elements (listed (tasks (view c.args.value.now))))) none
+    ∙ no_line (listed (tasks (view c.args.value.now))) (step_reading c.args.left) (last_reading c.args.left) c.of.result
+    (same ∙ no_items c.listed.result.now c.in-empty.len_below) (c.of.ensures ∙ c.new.ensures.items)
+
+pub read_chain-returns-in-len1-up : goal.read_chain-returns-in-len1-up
+read_chain-returns-in-len1-up t c =
+    let elements = elements_with (step_reading c.args.left) (last_reading c.args.left) in
+    let none : own_fault false (view c.args.value.now) ≡ None = search rules in
+    let same : listed (tasks (view c.args.value.now)) ≡ map view c.listed.result.now = sym (c.listed.ensures ∙ ap listed c.kwarg_of.ensures) in
     subst (Gives p_line_view c.read_parts.result)
-    (sym (ap elements (last_item c.args.values.now c.last-item.result c.in-len1-up.len_at_least c.last-item.is)
+    (sym (ap (λ o. unless o (elements (listed (tasks (view c.args.value.now))))) none
+    ∙ ap elements (same ∙ last_item c.listed.result.now c.last-item.result c.in-len1-up.len_at_least c.last-item.is)
     ∙ last_apart (step_reading c.args.left) (last_reading c.args.left) _ _))
     c.read_parts.ensures
 

@@ -42,26 +42,11 @@ decreases-read_steps l = 30 * l.left + 5
 abbrev pub decreases-read_lines : goal.decreases-read_lines
 decreases-read_lines l = 30 * l.left + 6
 
-abbrev pub decreases-read_member : goal.decreases-read_member
-decreases-read_member l = 30 * l.left + 7
-
-abbrev pub decreases-read_load : goal.decreases-read_load
-decreases-read_load l = 30 * l.left + 8
-
-abbrev pub decreases-read_one_or_more : goal.decreases-read_one_or_more
-decreases-read_one_or_more l = 30 * l.left + 9
-
 abbrev pub decreases-read_carried : goal.decreases-read_carried
 decreases-read_carried l = 30 * l.left + 10
 
-abbrev pub decreases-read_links : goal.decreases-read_links
-decreases-read_links l = 30 * l.left + 11
-
 abbrev pub decreases-read_place : goal.decreases-read_place
 decreases-read_place l = 30 * l.left + 12
-
-abbrev pub decreases-read_elements : goal.decreases-read_elements
-decreases-read_elements l = 30 * l.left + 13
 
 abbrev pub decreases-read_parts_of : goal.decreases-read_parts_of
 decreases-read_parts_of l = 30 * l.left + 14
