@@ -125,15 +125,6 @@ fn read_task(
         (task_as linked (link_reading left) (line_reading left) (view value.now)) }
 {
     refuse(but_a_place(own_fault(value, linked)))?;
-    read_parts_of(alloc, value, left)
-}
-
-/// The same of a value that has no fault of its own.
-#[cycle(read)]
-fn read_parts_of(alloc: Global, value: &Datum<'_>, left: u32) -> Result<FrozenTask, SigFault>
-    ensures { Gives p_task_view result
-        (task_with (link_reading left) (line_reading left) (view value.now)) }
-{
     let no = known_task(option_of(value, "task_id"))?;
     let args = read_args(alloc, listed(value.get("args")))?;
     let kwargs = read_kwargs(alloc, value.get("kwargs"))?;
@@ -223,10 +214,11 @@ pub(crate) fn read_line(alloc: Global, value: &Datum<'_>, left: u32) -> Result<F
         return Err(SigFault::TooDeep);
     }
     if is_text(value.get("subtask_type"), "chain") {
-        read_chain(alloc, value, left - 1)
-    } else {
-        read_single(alloc, value, left - 1)
+        return read_chain(alloc, value, left - 1);
     }
+    let primitive = primitive_of(value.get("subtask_type"));
+    let element = read_last_as(alloc, value, primitive, left - 1)?;
+    Ok(line_of(alloc, Vec::new(alloc), element)?)
 }
 
 #[cycle(read)]
@@ -243,15 +235,6 @@ fn read_chain(alloc: Global, value: &Datum<'_>, left: u32) -> Result<FrozenLine,
         }),
         [steps @ .., last] => read_parts(alloc, steps, last, left),
     }
-}
-
-#[cycle(read)]
-fn read_single(alloc: Global, value: &Datum<'_>, left: u32) -> Result<FrozenLine, SigFault>
-    ensures { Gives p_line_view result (last_as (link_reading left) (line_reading left)
-        (primitive_of (subtype (view value.now))) (view value.now)) }
-{
-    let element = read_last_as(alloc, value, primitive_of(value.get("subtask_type")), left)?;
-    Ok(line_of(alloc, Vec::new(alloc), element)?)
 }
 
 #[cycle(read)]

@@ -4,14 +4,17 @@ use Rattle.canvas_values.specs.Answers.{Gives, ◌or_else◌, unless}
 use Rattle.canvas_values.specs.Fields.{listed, tasks}
 use Rattle.canvas_values.specs.Grammar.{own_fault}
 use Rattle.canvas_rewrite.specs.FrozenView.{p_task_view, p_line_view}
-use Rattle.canvas_codec.specs.steps.FrozenReading.{group_with, chord_with, header_fault, elements_with, link_reading, step_reading, last_reading, line_reading}
+use Rattle.canvas_message.specs.FrozenGrammar.{but_a_place}
+use Rattle.canvas_codec.specs.steps.FrozenReading.{task_with, group_with, chord_with, header_fault, elements_with, link_reading, step_reading, last_reading, line_reading}
 use Rattle.canvas_codec.proofs.Made.{task_read, group_read, chord_read, last_apart, no_line, last_item, no_items}
 use Rattle.canvas_codec.proofs.Turns.{read_on, read_all}
 use Rattle.canvas_codec.proofs.read.frozen.+read.Goals as goal
 
-pub read_parts_of-returns : goal.read_parts_of-returns
-read_parts_of-returns t c =
-    task_read (link_reading c.args.left) (line_reading c.args.left)
+pub read_task-returns : goal.read_task-returns
+read_task-returns t c =
+    let none : but_a_place (own_fault c.args.linked (view c.args.value.now)) ≡ None = search rules in
+    ap (λ o. unless o (task_with (link_reading c.args.left) (line_reading c.args.left) (view c.args.value.now))) none
+    ∙ task_read (link_reading c.args.left) (line_reading c.args.left)
     (view c.args.value.now) c.in_ok-no.no c.of.result c.of-2.result c.of-3.result c.is_true.result c.of-4.result c.of-5.result c.in_ok-place.place
     (search rules) (search rules) (search rules) (search rules) (search rules) (search rules) (search rules) (search rules)
 

@@ -48,9 +48,6 @@ decreases-read_carried l = 30 * l.left + 10
 abbrev pub decreases-read_place : goal.decreases-read_place
 decreases-read_place l = 30 * l.left + 12
 
-abbrev pub decreases-read_parts_of : goal.decreases-read_parts_of
-decreases-read_parts_of l = 30 * l.left + 14
-
 abbrev pub decreases-read_group : goal.decreases-read_group
 decreases-read_group l = 30 * l.left + 15
 
@@ -65,9 +62,6 @@ decreases-read_chain l = 30 * l.left + 20
 
 abbrev pub decreases-read_last_as : goal.decreases-read_last_as
 decreases-read_last_as l = 30 * l.left + 22
-
-abbrev pub decreases-read_single : goal.decreases-read_single
-decreases-read_single l = 30 * l.left + 23
 
 abbrev pub decreases-read_parts : goal.decreases-read_parts
 decreases-read_parts l = 30 * l.left + 11
