@@ -1,10 +1,12 @@
 //! Look-ups in a signature, and tests of what they found.
 
 ghost use Rattle.std.specs.Prelude.{◌≡◌, map};
+ghost use Rattle.serde_json.specs.Data.{null};
 ghost use Rattle.canvas_sig.specs.Datum.{view, value_at};
-ghost use Rattle.canvas_values.specs.Fields.{kwarg, option, is_null, is_list, is_true, is_flag, is_list_or_null, is_object_or_null, is_link, is_empty, listed};
+ghost use Rattle.canvas_values.specs.Fields.{kwarg, option, is_null, is_list, is_true, is_flag, is_list_or_null, is_object_or_null, is_link, is_empty, as_list, listed};
 
 use crate::datum::Datum;
+use std::slice;
 
 /// Null, or missing.
 pub fn is_null(field: Option<&Datum<'_>>) -> bool
@@ -95,6 +97,37 @@ pub fn listed<'a>(field: Option<&Datum<'a>>) -> &'a [Datum<'a>]
     match field {
         Some(value) => items(value),
         None => &[],
+    }
+}
+
+fn items_or_one<'a>(value: &'a Datum<'a>) -> &'a [Datum<'a>]
+    ensures { map view result.now ≡ as_list (view value.now) }
+{
+    match value {
+        Datum::Null => &[],
+        Datum::List(values) => values,
+        _ => slice::from_ref(value),
+    }
+}
+
+/// The items of a list, one value alone, or nothing.
+pub fn as_list<'a>(field: Option<&'a Datum<'a>>) -> &'a [Datum<'a>]
+    ensures { map view result.now ≡ as_list (value_at field.entry) }
+{
+    match field {
+        Some(value) => items_or_one(value),
+        None => &[],
+    }
+}
+
+/// A value, or the null that the caller lends where it is missing.
+pub fn or_null<'a>(field: Option<&'a Datum<'a>>, lent: &'a Datum<'a>) -> &'a Datum<'a>
+    requires { view lent.now ≡ null }
+    ensures { view result.now ≡ value_at field.entry }
+{
+    match field {
+        Some(value) => value,
+        None => lent,
     }
 }
 

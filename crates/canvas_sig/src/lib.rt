@@ -28,7 +28,8 @@ pub mod parts {
     pub use crate::canvas_text::MOST_LEVELS;
     pub use crate::datum::Datum;
     pub use crate::fields::{
-        is_list, is_list_or_null, is_null, is_object_or_null, is_true, kwarg_of, listed, option_of,
+        as_list, is_list, is_list_or_null, is_null, is_object_or_null, is_true, kwarg_of, listed,
+        option_of, or_null,
     };
     pub use crate::own_fault::{is_name, is_text, own_fault};
     pub use crate::parsing::parse;

@@ -4,7 +4,7 @@ ghost use Rattle.std.specs.Prelude.{◌≡◌, map, string_bytes, IfOk, Some};
 ghost use Rattle.canvas_sig.specs.Datum.{view, value_at};
 ghost use Rattle.canvas_sig.specs.steps.Members.{AreFound};
 ghost use Rattle.canvas_values.specs.declared.primitive.Primitive.TheVariants.{Chain, Group, Chord};
-ghost use Rattle.canvas_values.specs.Fields.{as_list, text_of};
+ghost use Rattle.canvas_values.specs.Fields.{text_of};
 ghost use Rattle.canvas_values.specs.Answers.{Gives, in_turn};
 ghost use Rattle.canvas_values.specs.steps.Reading.{task_with, linked_with, task_reading, header_reading, tree_as, tree_with, tree_reading};
 ghost use Rattle.canvas_values.specs.Grammar.{members_in};
@@ -12,7 +12,7 @@ ghost use Rattle.canvas_values.specs.SignatureView.{task_view, trees_of, view as
 
 use crate::arguments::{read_args, read_kwargs};
 use crate::datum::Datum;
-use crate::fields::{is_list, is_true, listed};
+use crate::fields::{as_list, is_list, is_true, listed, or_null};
 use crate::members::Members;
 use crate::own_fault::first_fault;
 use crate::primitive::primitive_of;
@@ -68,8 +68,8 @@ fn read_task(alloc: Global, members: &Members<'_>, left: u32) -> Result<TaskSig,
 {
     let args = read_args(alloc, listed(members.args))?;
     let kwargs = read_kwargs(alloc, members.kwargs)?;
-    let links = read_link(alloc, members.link, left)?;
-    let errbacks = read_link(alloc, members.link_error, left)?;
+    let links = read_all_linked(alloc, as_list(members.link), left)?;
+    let errbacks = read_all_linked(alloc, as_list(members.link_error), left)?;
     let name = text_of(alloc, members.task)?;
     Ok(TaskSig {
         name: TextOf::of(name),
@@ -79,34 +79,6 @@ fn read_task(alloc: Global, members: &Members<'_>, left: u32) -> Result<TaskSig,
         links: ListOf::of(links),
         errbacks: ListOf::of(errbacks),
     })
-}
-
-/// The signatures in a list, one signature, or none.
-#[cycle(read_task)]
-fn read_link(alloc: Global, field: Option<&Datum<'_>>, left: u32) -> Result<Vec<TaskSig>, SigFault>
-    ensures { Gives (λ v. map task_view v.items) result
-        (in_turn (task_reading left) (as_list (value_at field.entry))) }
-{
-    match field {
-        None => Ok(Vec::new(alloc)),
-        Some(value) => read_one_or_more(alloc, value, left),
-    }
-}
-
-#[cycle(read_task)]
-fn read_one_or_more(alloc: Global, value: &Datum<'_>, left: u32) -> Result<Vec<TaskSig>, SigFault>
-    ensures { Gives (λ v. map task_view v.items) result
-        (in_turn (task_reading left) (as_list (view value.now))) }
-{
-    match value {
-        Datum::Null => Ok(Vec::new(alloc)),
-        Datum::List(values) => read_all_linked(alloc, values, left),
-        _ => {
-            let mut tasks = Vec::new(alloc);
-            tasks.push(read_linked(alloc, value, left)?)?;
-            Ok(tasks)
-        }
-    }
 }
 
 #[cycle(read_task)]
@@ -204,22 +176,11 @@ fn read_chord(alloc: Global, members: &Members<'_>, left: u32) -> Result<Node, S
         (Some Chord) (view members.now.value.now)) }
 {
     let header = read_header(alloc, members.kwarg("header"), left)?;
-    let body = read_member(alloc, members.kwarg("body"), left)?;
+    let body = read_node(alloc, or_null(members.kwarg("body"), &Datum::Null), left)?;
     Ok(Node::Chord {
         header: ListOf::of(header),
         body: Box::new(alloc, body)?,
     })
-}
-
-/// The canvas that a member stands for; one that is missing is null.
-#[cycle(read_node)]
-fn read_member(alloc: Global, field: Option<&Datum<'_>>, left: u32) -> Result<Node, SigFault>
-    ensures { Gives tree_view result (tree_reading left (value_at field.entry)) }
-{
-    match field {
-        Some(value) => read_node(alloc, value, left),
-        None => read_node(alloc, &Datum::Null, left),
-    }
 }
 
 /// The members of a header, which is a list, or one group signature.
@@ -231,7 +192,7 @@ fn read_header(alloc: Global, field: Option<&Datum<'_>>, left: u32) -> Result<Ve
     if is_list(field) {
         return read_all(alloc, listed(field), left);
     }
-    let group = read_member(alloc, field, left)?;
+    let group = read_node(alloc, or_null(field, &Datum::Null), left)?;
     Ok(members_in(alloc, group))
 }
 

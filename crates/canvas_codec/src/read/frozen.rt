@@ -1,9 +1,8 @@
 //! Reading frozen signatures, with the signatures in them, out of JSON values.
 
 ghost use Rattle.std.specs.Prelude.{◌≡◌, false, true, map, OnOk, IfErr, MatchOption, Some, None};
-ghost use Rattle.serde_json.specs.Data.{null};
 ghost use Rattle.canvas_sig.specs.Datum.{view, value_at};
-ghost use Rattle.canvas_values.specs.Fields.{as_list, is_null, listed, tasks, subtype};
+ghost use Rattle.canvas_values.specs.Fields.{is_null, listed, tasks, subtype};
 ghost use Rattle.canvas_values.specs.Answers.{Gives, ◌or_else◌, unless, in_turn};
 ghost use Rattle.canvas_values.specs.Grammar.{own_fault, primitive_of};
 ghost use Rattle.canvas_rewrite.specs.FrozenView.{p_task_view, p_line_view, p_end_view};
@@ -17,13 +16,12 @@ use super::made::{Element, line_of};
 use canvas_rewrite::{Carried, FrozenEnd, FrozenLine, FrozenTask, Place};
 use canvas_sig::SigFault;
 use canvas_sig::parts::{
-    Datum, is_list, is_null, is_text, is_true, kwarg_of, listed, option_of, own_fault,
-    primitive_of, read_args, read_kwargs, text_of,
+    Datum, as_list, is_list, is_null, is_text, is_true, kwarg_of, listed, option_of, or_null,
+    own_fault, primitive_of, read_args, read_kwargs, text_of,
 };
 use canvas_task::{ListOf, MapOf, TextOf};
 use canvas_values::Primitive;
 use std::alloc::Global;
-use std::slice;
 use std::sync::Arc;
 
 /// A place isn't a fault of a task.
@@ -47,26 +45,6 @@ fn refuse(fault: Option<SigFault>) -> Result<(), SigFault>
     }
 }
 
-fn items_or_one<'a>(value: &'a Datum<'a>) -> &'a [Datum<'a>]
-    ensures { map view result.now ≡ as_list (view value.now) }
-{
-    match value {
-        Datum::Null => &[],
-        Datum::List(values) => values,
-        _ => slice::from_ref(value),
-    }
-}
-
-/// The items of a list, one value alone, or nothing.
-fn as_list<'a>(field: Option<&'a Datum<'a>>) -> &'a [Datum<'a>]
-    ensures { map view result.now ≡ as_list (value_at field.entry) }
-{
-    match field {
-        Some(value) => items_or_one(value),
-        None => &[],
-    }
-}
-
 /// A value other than null.
 fn given<'a>(field: Option<&'a Datum<'a>>) -> Option<&'a Datum<'a>>
     ensures { MatchOption result (is_null (value_at field.entry) ≡ true)
@@ -76,17 +54,6 @@ fn given<'a>(field: Option<&'a Datum<'a>>) -> Option<&'a Datum<'a>>
     match field {
         None | Some(Datum::Null) => None,
         other => other,
-    }
-}
-
-/// A value, or the null that the caller lends where it is missing.
-fn or_null<'a>(field: Option<&'a Datum<'a>>, lent: &'a Datum<'a>) -> &'a Datum<'a>
-    requires { view lent.now ≡ null }
-    ensures { view result.now ≡ value_at field.entry }
-{
-    match field {
-        Some(value) => value,
-        None => lent,
     }
 }
 

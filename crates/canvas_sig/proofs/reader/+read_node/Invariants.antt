@@ -17,9 +17,6 @@ decreases-read_node l = 9 * l.left
 abbrev pub decreases-read_all : goal.decreases-read_all
 decreases-read_all l = 9 * l.left + 1
 
-abbrev pub decreases-read_member : goal.decreases-read_member
-decreases-read_member l = 9 * l.left + 2
-
 abbrev pub decreases-read_header : goal.decreases-read_header
 decreases-read_header l = 9 * l.left + 3
 

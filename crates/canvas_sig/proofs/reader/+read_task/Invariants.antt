@@ -17,12 +17,6 @@ decreases-read_linked l = 6 * l.left
 abbrev pub decreases-read_all_linked : goal.decreases-read_all_linked
 decreases-read_all_linked l = 6 * l.left + 1
 
-abbrev pub decreases-read_one_or_more : goal.decreases-read_one_or_more
-decreases-read_one_or_more l = 6 * l.left + 2
-
-abbrev pub decreases-read_link : goal.decreases-read_link
-decreases-read_link l = 6 * l.left + 3
-
 abbrev pub decreases-read_task : goal.decreases-read_task
 decreases-read_task l = 6 * l.left + 4
 
