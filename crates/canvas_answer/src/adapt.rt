@@ -12,30 +12,27 @@ use clap::ArgMatches;
 use std::alloc::Global;
 
 /// The other names that the words ask for.
-pub(crate) fn asked_renames<'w>(
-    alloc: Global,
-    given: &ArgMatches<'w>,
-) -> Result<Vec<Rename>, Refusal<'w>> {
+pub(crate) fn asked_renames(alloc: Global, given: &ArgMatches<'_>) -> Result<Vec<Rename>, Refusal> {
     let texts = given.get_strs("rename").unwrap_or(&[]);
     match read_renames(alloc, texts) {
         Ok(renames) => Ok(renames),
-        Err(bad) => Err(bad_word(texts, &bad)),
+        Err(bad) => Err(bad_word(alloc, texts, &bad)),
     }
 }
 
 /// The refusal of one of the words.
-fn bad_word<'w>(texts: &[&'w str], bad: &BadRename) -> Refusal<'w> {
+fn bad_word(alloc: Global, texts: &[&str], bad: &BadRename) -> Refusal {
     match bad.fault {
         RenameFault::Memory => Refusal::Memory,
-        fault => Refusal::BadRename {
-            text: texts.get(bad.before).copied().unwrap_or(""),
-            fault,
-        },
+        fault => {
+            let text = texts.get(bad.before).copied().unwrap_or("");
+            Refusal::of_rename(alloc, text, fault)
+        }
     }
 }
 
 /// The first name for a task that a canvas of so many doesn't have.
-fn check_numbers<'w>(renames: &[Rename], tasks: u32) -> Result<(), Refusal<'w>> {
+fn check_numbers(renames: &[Rename], tasks: u32) -> Result<(), Refusal> {
     for rename in renames {
         if rename.task.get() > tasks {
             return Err(Refusal::NoTask(rename.task));
@@ -45,7 +42,7 @@ fn check_numbers<'w>(renames: &[Rename], tasks: u32) -> Result<(), Refusal<'w>> 
 }
 
 /// The canvas with these other names.
-fn renamed<'w>(alloc: Global, text: Vec<u8>, renames: &[Rename]) -> Result<Vec<u8>, Refusal<'w>>
+fn renamed(alloc: Global, text: Vec<u8>, renames: &[Rename]) -> Result<Vec<u8>, Refusal>
     ensures { (c : Tree) → text_reading text.items ≡ Ok c
         → IfOk result (λ renamed. (d : Tree) × (text_reading renamed.items ≡ Ok d)) }
 {
@@ -58,11 +55,7 @@ fn renamed<'w>(alloc: Global, text: Vec<u8>, renames: &[Rename]) -> Result<Vec<u
 }
 
 /// A canvas that can be run, as JSON, and what was changed for it.
-pub fn answer_adapt<'w>(
-    alloc: Global,
-    renames: &[Rename],
-    text: &[u8],
-) -> Result<Answer<'w>, Refusal<'w>>
+pub fn answer_adapt(alloc: Global, renames: &[Rename], text: &[u8]) -> Result<Answer, Refusal>
     ensures { IfOk result (λ a. (text : Text) × (c : Tree) × (text_reading text ≡ Ok c)
         × AnswersAll text 0 a) }
 {

@@ -62,10 +62,7 @@ fn has_names(list: &str) -> bool {
 }
 
 /// What the words ask for.
-pub(crate) fn asked_again<'w>(
-    alloc: Global,
-    given: &ArgMatches<'w>,
-) -> Result<Again<'w>, Refusal<'w>> {
+pub(crate) fn asked_again<'w>(alloc: Global, given: &ArgMatches<'w>) -> Result<Again<'w>, Refusal> {
     let Some(list) = given.get_str("again") else {
         return Ok(Again::Nothing);
     };
@@ -113,7 +110,7 @@ fn push_named(out: &mut String, plan: &Plan, name: &str, when: &str) -> Result<(
 }
 
 /// The entry of a number as it is, and those of a name. That of a name that no task has is refused.
-fn push_said<'w>(out: &mut String, plan: &Plan, entry: &str) -> Result<(), Refusal<'w>> {
+fn push_said(out: &mut String, plan: &Plan, entry: &str) -> Result<(), Refusal> {
     let (who, when) = entry.rsplit_once(':').unwrap_or((entry, ""));
     if !is_name(who) {
         return Ok(push_text(out, entry)?);
@@ -126,7 +123,7 @@ fn push_said<'w>(out: &mut String, plan: &Plan, entry: &str) -> Result<(), Refus
     Ok(())
 }
 
-fn push_list<'w>(out: &mut String, plan: &Plan, list: &str) -> Result<(), Refusal<'w>> {
+fn push_list(out: &mut String, plan: &Plan, list: &str) -> Result<(), Refusal> {
     if list == "all" {
         return Ok(push_all(out, plan)?);
     }
@@ -137,18 +134,18 @@ fn push_list<'w>(out: &mut String, plan: &Plan, list: &str) -> Result<(), Refusa
 }
 
 /// A list with numbers in place of names.
-fn numbered<'w>(alloc: Global, plan: &Plan, list: &str) -> Result<String, Refusal<'w>> {
+fn numbered(alloc: Global, plan: &Plan, list: &str) -> Result<String, Refusal> {
     let mut out = String::new(alloc);
     push_list(&mut out, plan, list)?;
     Ok(out)
 }
 
 /// The entries of a list of numbers and names of tasks.
-pub fn named_entries<'w>(
+pub fn named_entries(
     alloc: Global,
     plan: &Plan,
     list: &str,
-) -> Result<Vec<(TaskNo, When)>, Refusal<'w>> {
+) -> Result<Vec<(TaskNo, When)>, Refusal> {
     let numbered = numbered(alloc, plan, list)?;
     Ok(read_again(alloc, &numbered)?)
 }

@@ -34,20 +34,20 @@ impl Display for Remark {
 
 /// What the program answers. Nothing of it is printed yet.
 #[derive(Drop)]
-pub struct Answer<'w> {
+pub struct Answer {
     /// What goes to standard output.
     out: Vec<u8>,
     /// What standard error says beside it.
     remark: Option<Remark>,
     /// Why that isn't all that was asked for.
-    refusal: Option<Refusal<'w>>,
+    refusal: Option<Refusal>,
     /// The status where it is.
     status: u8,
 }
 
-impl<'w> Answer<'w> {
+impl Answer {
     /// All that was asked for.
-    pub fn whole(out: Vec<u8>) -> Answer<'w>
+    pub fn whole(out: Vec<u8>) -> Answer
         ensures { AnswersAll out.items 0 result }
     {
         Answer {
@@ -59,15 +59,15 @@ impl<'w> Answer<'w> {
     }
 
     /// Nothing, and why.
-    pub fn refused(alloc: Global, refusal: Refusal<'w>) -> Answer<'w>
-        ensures { AnswersPart [] refusal.entry result }
+    pub fn refused(alloc: Global, refusal: Refusal) -> Answer
+        ensures { AnswersPart [] refusal result }
     {
         Answer::in_part(alloc, None, refusal)
     }
 
     /// What there is of a report, and why that isn't all.
-    pub fn in_part(alloc: Global, text: Option<String>, refusal: Refusal<'w>) -> Answer<'w>
-        ensures { AnswersPart (bytes_of text) refusal.entry result }
+    pub fn in_part(alloc: Global, text: Option<String>, refusal: Refusal) -> Answer
+        ensures { AnswersPart (bytes_of text) refusal result }
     {
         let out = match text {
             Some(text) => text.into_bytes(),
@@ -82,32 +82,32 @@ impl<'w> Answer<'w> {
     }
 
     /// The same with this status, where it isn't refused.
-    pub fn with_status(self, status: u8) -> Answer<'w>
-        ensures { (result.out ≡ self.entry.out) × (result.remark ≡ self.entry.remark)
-            × (result.refusal ≡ self.entry.refusal) × (result.status ≡ status) }
+    pub fn with_status(self, status: u8) -> Answer
+        ensures { (result.out ≡ self.out) × (result.remark ≡ self.remark)
+            × (result.refusal ≡ self.refusal) × (result.status ≡ status) }
     {
         Answer { status, ..self }
     }
 
     /// The same with this beside it on standard error.
-    pub fn with_remark(self, remark: Option<Remark>) -> Answer<'w>
-        ensures { (result.out ≡ self.entry.out) × (result.remark ≡ remark)
-            × (result.refusal ≡ self.entry.refusal) × (result.status ≡ self.entry.status) }
+    pub fn with_remark(self, remark: Option<Remark>) -> Answer
+        ensures { (result.out ≡ self.out) × (result.remark ≡ remark)
+            × (result.refusal ≡ self.refusal) × (result.status ≡ self.status) }
     {
         Answer { remark, ..self }
     }
 
-    pub(crate) fn with_changes(self, changes: Changes) -> Answer<'w>
-        ensures { (result.out ≡ self.entry.out) × (result.remark ≡ Some (remark.Changes changes))
-            × (result.refusal ≡ self.entry.refusal) × (result.status ≡ self.entry.status) }
+    pub(crate) fn with_changes(self, changes: Changes) -> Answer
+        ensures { (result.out ≡ self.out) × (result.remark ≡ Some (remark.Changes changes))
+            × (result.refusal ≡ self.refusal) × (result.status ≡ self.status) }
     {
         self.with_remark(Some(Remark::Changes(changes)))
     }
 
     /// The same with its refusal, if it has one, as it is printed where JSON is asked for.
-    pub fn in_json(self, alloc: Global) -> Answer<'w>
-        ensures out { result.out ≡ self.entry.out }
-        ensures whole { self.entry.refusal ≡ None → result ≡ self.entry }
+    pub fn in_json(self, alloc: Global) -> Answer
+        ensures out { result.out ≡ self.out }
+        ensures whole { self.refusal ≡ None → result ≡ self }
     {
         let Answer {
             out,
@@ -153,7 +153,7 @@ impl<'w> Answer<'w> {
     }
 }
 
-impl Refusal<'_> {
+impl Refusal {
     /// Prints why there is no answer, piece by piece, since there may be no memory for a text.
     /// Where that can't be printed either, the status is all that is left.
     fn print<E: Write>(&self, err: &mut E) -> u8

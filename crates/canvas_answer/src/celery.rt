@@ -47,13 +47,13 @@ pub struct Collecting {
 }
 
 /// What is asked for of a canvas's run, whose results the input gives.
-pub fn answer_celery<'w, S, R: Read>(
+pub fn answer_celery<S, R: Read>(
     rt: &S,
     run: &Run,
-    asked: OnCelery<'w>,
+    asked: OnCelery<'_>,
     text: &[u8],
     input: &mut R,
-) -> Result<Answer<'w>, Refusal<'w>>
+) -> Result<Answer, Refusal>
 where
     S: Files + AllocGlobal,
     ensures { IfOk result (λ a. (l : Line) × IsTextPlan text.now l
@@ -68,13 +68,13 @@ where
 }
 
 /// The commands for Redis that start a canvas, and what of it they ignore.
-fn answer_export<'w>(
+fn answer_export(
     alloc: Global,
     plan: &Plan,
     run: &Run,
     target: &Target<'_>,
     text: &[u8],
-) -> Result<Answer<'w>, Refusal<'w>>
+) -> Result<Answer, Refusal>
     ensures { IfOk result (AnswersAll (commands_of run.now.digits target.now plan.now) 0) }
 {
     let start = export(alloc, plan, run, target)?;
@@ -83,12 +83,7 @@ fn answer_export<'w>(
 }
 
 /// The keys of a canvas's results, a line each.
-fn answer_keys<'w>(
-    alloc: Global,
-    plan: &Plan,
-    run: &Run,
-    prefix: &str,
-) -> Result<Answer<'w>, Refusal<'w>>
+fn answer_keys(alloc: Global, plan: &Plan, run: &Run, prefix: &str) -> Result<Answer, Refusal>
     ensures { IfOk result
         (AnswersAll (result_keys run.now.digits prefix.now (count_line plan.now)) 0) }
 {
@@ -96,13 +91,13 @@ fn answer_keys<'w>(
 }
 
 /// The report of a canvas from the results that the input gives.
-fn answer_collect<'w, S, R: Read>(
+fn answer_collect<S, R: Read>(
     rt: &S,
     plan: &Plan,
     run: &Run,
     collecting: Collecting,
     input: &mut R,
-) -> Result<Answer<'w>, Refusal<'w>>
+) -> Result<Answer, Refusal>
 where
     S: Files + AllocGlobal,
     ensures { IfOk result (λ a. a.refusal ≡ None) }
@@ -112,13 +107,13 @@ where
 }
 
 /// The report that these results give.
-fn answer_results<'w>(
+fn answer_results(
     alloc: Global,
     plan: &Plan,
     run: &Run,
     collecting: Collecting,
     results: &[u8],
-) -> Result<Answer<'w>, Refusal<'w>>
+) -> Result<Answer, Refusal>
     ensures { IfOk result (λ a. a.refusal ≡ None) }
 {
     match collected(alloc, plan, run, results, collecting.completes)? {
@@ -128,13 +123,13 @@ fn answer_results<'w>(
 }
 
 /// The same where the tasks may have returned or raised anything.
-fn answer_stored<'w>(
+fn answer_stored(
     alloc: Global,
     plan: &Plan,
     run: &Run,
     collecting: Collecting,
     results: &[u8],
-) -> Result<Answer<'w>, Refusal<'w>>
+) -> Result<Answer, Refusal>
     ensures { IfOk result (λ a. a.refusal ≡ None) }
 {
     let rows = stored_rows(alloc, plan, run, results, collecting.completes)?;
@@ -142,12 +137,7 @@ fn answer_stored<'w>(
 }
 
 /// The report of rows of any kind.
-fn answer_rows<'w>(
-    alloc: Global,
-    plan: &Plan,
-    rows: &[Row],
-    form: Form,
-) -> Result<Answer<'w>, Refusal<'w>>
+fn answer_rows(alloc: Global, plan: &Plan, rows: &[Row], form: Form) -> Result<Answer, Refusal>
     ensures { IfOk result (λ a. a.refusal ≡ None) }
 {
     // Celery's workers tell no more.
@@ -163,7 +153,7 @@ fn answer_rows<'w>(
 }
 
 /// The run that the words name.
-pub(crate) fn run_of<'w>(text: &str) -> Result<Run, Refusal<'w>> {
+pub(crate) fn run_of(text: &str) -> Result<Run, Refusal> {
     match Run::of_text(text) {
         Some(run) => Ok(run),
         None => Err(Refusal::Celery(CeleryRefusal::BadRun)),
@@ -203,13 +193,13 @@ fn collected(
 }
 
 /// The rows that stored results give, whatever the tasks returned or raised.
-pub(crate) fn stored_rows<'w>(
+pub(crate) fn stored_rows(
     alloc: Global,
     plan: &Plan,
     run: &Run,
     results: &[u8],
     completes: bool,
-) -> Result<Vec<Row>, Refusal<'w>> {
+) -> Result<Vec<Row>, Refusal> {
     let mut rows = collect_as_stored(alloc, plan, run, results)?;
     if completes {
         complete_as_stored(alloc, plan, &mut rows)?;

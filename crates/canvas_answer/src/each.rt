@@ -28,7 +28,7 @@ fn push_object(out: &mut String, rows: &[&str], canvas: &str) -> Result<(), Allo
     out.push_str("]}\n")
 }
 
-fn object_of_lines<'w>(alloc: Global, text: &str) -> Result<String, Refusal<'w>> {
+fn object_of_lines(alloc: Global, text: &str) -> Result<String, Refusal> {
     let lines: Vec<&str> = text.lines().collect(alloc)?;
     let mut object = String::new(alloc);
     if let Some((canvas, rows)) = lines.split_last() {
@@ -38,12 +38,12 @@ fn object_of_lines<'w>(alloc: Global, text: &str) -> Result<String, Refusal<'w>>
 }
 
 /// The report of a run as an object in a line.
-pub fn object_text<'w, T: Tasks>(
+pub fn object_text<T: Tasks>(
     alloc: Global,
     plans: &Plans,
     report: &Report,
     source: &Source<'_, T>,
-) -> Result<String, Refusal<'w>> {
+) -> Result<String, Refusal> {
     let text = source.json_of(alloc, plans, report)?;
     object_of_lines(alloc, &text)
 }

@@ -75,12 +75,12 @@ impl Figures {
     }
 
     /// What is said of a canvas that is accepted, and the status.
-    pub fn answer<'w>(
+    pub fn answer(
         self,
         alloc: Global,
         manner: Manner,
         warnings: &Warnings,
-    ) -> Result<Answer<'w>, Refusal<'w>> {
+    ) -> Result<Answer, Refusal> {
         let out = check_text(alloc, self, warnings, manner.form)?;
         let status = if manner.fails && !warnings.is_empty() {
             FAILED

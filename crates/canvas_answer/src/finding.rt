@@ -97,7 +97,7 @@ fn found_json(alloc: Global, found: &Option<Finding>, fault: SigFault) -> Result
 }
 
 /// Refuses a text in which something is found, in words for a person.
-pub fn refuse_found<'w>(alloc: Global, text: &[u8]) -> Result<(), Refusal<'w>> {
+pub fn refuse_found(alloc: Global, text: &[u8]) -> Result<(), Refusal> {
     match find(alloc, text)? {
         Some(finding) => Err(Refusal::Found(finding_text(alloc, &finding)?)),
         None => Ok(()),

@@ -46,7 +46,7 @@ pub enum States<'w> {
 }
 
 /// The picture of a plan, with the states of these rows where there are any.
-fn picture<'w>(alloc: Global, plan: &Plan, rows: Option<&[Row]>) -> Result<Answer<'w>, Refusal<'w>>
+fn picture(alloc: Global, plan: &Plan, rows: Option<&[Row]>) -> Result<Answer, Refusal>
     ensures { IfOk result
         (IsPictured [] (option_map (λ rows. rows.now) rows.entry) plan.now) }
 {
@@ -54,22 +54,22 @@ fn picture<'w>(alloc: Global, plan: &Plan, rows: Option<&[Row]>) -> Result<Answe
 }
 
 /// The same with the states of these results.
-fn stored_picture<'w>(
+fn stored_picture(
     alloc: Global,
     plan: &Plan,
-    asked: &Stored<'w>,
+    asked: &Stored<'_>,
     results: &[u8],
-) -> Result<Answer<'w>, Refusal<'w>> {
+) -> Result<Answer, Refusal> {
     let rows = stored_rows(alloc, plan, &asked.run, results, asked.completes)?;
     picture(alloc, plan, Some(&rows))
 }
 
-fn answer_stored<'w, S, R: Read>(
+fn answer_stored<S, R: Read>(
     rt: &S,
     plan: &Plan,
-    asked: &Stored<'w>,
+    asked: &Stored<'_>,
     input: &mut R,
-) -> Result<Answer<'w>, Refusal<'w>>
+) -> Result<Answer, Refusal>
 where
     S: Files + AllocGlobal,
 {
@@ -78,12 +78,12 @@ where
 }
 
 /// The picture of a canvas that isn't run, with what was stored where that is asked for.
-pub fn plan_picture<'w, S, R: Read>(
+pub fn plan_picture<S, R: Read>(
     rt: &S,
-    stored: Option<Stored<'w>>,
+    stored: Option<Stored<'_>>,
     text: &[u8],
     input: &mut R,
-) -> Result<Answer<'w>, Refusal<'w>>
+) -> Result<Answer, Refusal>
 where
     S: Files + AllocGlobal,
     ensures { stored.entry ≡ None → IfOk result
@@ -114,12 +114,12 @@ fn picture_text<T>(
 }
 
 /// The picture of a whole run.
-pub fn report_picture<'w, T>(
+pub fn report_picture<T>(
     alloc: Global,
     plans: &Plans,
     report: &Report,
     source: &Source<'_, T>,
-) -> Result<Answer<'w>, Refusal<'w>>
+) -> Result<Answer, Refusal>
     ensures { (behaviour : Behaviour)
         → report.now.rows ≡ states behaviour (tree_of plans.now.shown)
         → source.now.errors.now ≡ []

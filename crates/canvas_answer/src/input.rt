@@ -52,12 +52,7 @@ fn read_at_most<R: Read>(alloc: Global, reader: &mut R, most: usize) -> io::Resu
 }
 
 /// At most so many bytes of a file, or of the input where it is named `-`.
-fn bytes_of<'w, S, R: Read>(
-    rt: &S,
-    file: &'w str,
-    input: &mut R,
-    most: usize,
-) -> Result<Vec<u8>, Refusal<'w>>
+fn bytes_of<S, R: Read>(rt: &S, file: &str, input: &mut R, most: usize) -> Result<Vec<u8>, Refusal>
 where
     S: Files + AllocGlobal,
 {
@@ -68,7 +63,7 @@ where
     };
     match bytes {
         Ok(bytes) => Ok(bytes),
-        Err(error) => Err(unread(&error, file)),
+        Err(error) => Err(unread(rt.alloc(), &error, file)),
     }
 }
 
@@ -77,12 +72,12 @@ fn read_file<S: Files + AllocGlobal>(rt: &S, file: &str, most: usize) -> io::Res
 }
 
 /// All bytes of a file; none where it has more than so many.
-fn bytes_within<'w, S, R: Read>(
+fn bytes_within<S, R: Read>(
     rt: &S,
-    file: &'w str,
+    file: &str,
     input: &mut R,
     most: usize,
-) -> Result<Option<Vec<u8>>, Refusal<'w>>
+) -> Result<Option<Vec<u8>>, Refusal>
 where
     S: Files + AllocGlobal,
     ensures { IfOk result (λ bytes. IfSome bytes (λ bytes. length bytes.items ≤ most)) }
@@ -92,7 +87,7 @@ where
 }
 
 /// The text of a canvas, with one byte more than the longest has, so that a longer one shows.
-pub fn text_of<'w, S, R: Read>(rt: &S, file: &'w str, input: &mut R) -> Result<Vec<u8>, Refusal<'w>>
+pub fn text_of<S, R: Read>(rt: &S, file: &str, input: &mut R) -> Result<Vec<u8>, Refusal>
 where
     S: Files + AllocGlobal,
 {
@@ -101,11 +96,7 @@ where
 }
 
 /// Lines with a canvas each. More bytes than are taken are refused.
-pub fn lines_of<'w, S, R: Read>(
-    rt: &S,
-    file: &'w str,
-    input: &mut R,
-) -> Result<Vec<u8>, Refusal<'w>>
+pub fn lines_of<S, R: Read>(rt: &S, file: &str, input: &mut R) -> Result<Vec<u8>, Refusal>
 where
     S: Files + AllocGlobal,
     ensures { IfOk result (λ lines. length lines.items ≤ 64 * most_bytes) }
@@ -114,11 +105,7 @@ where
 }
 
 /// The results that Celery's workers stored, a line each.
-pub(crate) fn results_of<'w, S, R: Read>(
-    rt: &S,
-    file: &'w str,
-    input: &mut R,
-) -> Result<Vec<u8>, Refusal<'w>>
+pub(crate) fn results_of<S, R: Read>(rt: &S, file: &str, input: &mut R) -> Result<Vec<u8>, Refusal>
 where
     S: Files + AllocGlobal,
     ensures { IfOk result (λ results. length results.items ≤ 64 * most_bytes) }
@@ -126,12 +113,9 @@ where
     bytes_within(rt, file, input, MOST_RESULTS)?.ok_or(Refusal::Celery(CeleryRefusal::TooLarge))
 }
 
-fn unread<'w>(error: &io::Error, file: &'w str) -> Refusal<'w> {
+fn unread(alloc: Global, error: &io::Error, file: &str) -> Refusal {
     match error.kind() {
         ErrorKind::OutOfMemory => Refusal::Memory,
-        _ => Refusal::CannotRead {
-            file,
-            why: Unread::of(error),
-        },
+        _ => Refusal::of_file(alloc, file, Unread::of(error)),
     }
 }

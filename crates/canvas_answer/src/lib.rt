@@ -15,7 +15,7 @@ mod ignored;
 pub mod input;
 mod named_rows;
 pub mod normal;
-mod numbers;
+pub mod numbers;
 pub mod plan;
 pub mod prepared;
 pub mod refusal;

@@ -42,7 +42,7 @@ fn line_text(alloc: Global, canvas: &Canvas) -> Result<String, Memory>
 }
 
 /// The normal line of a canvas as JSON, with a line feed.
-pub fn answer_normal<'w>(alloc: Global, text: &[u8]) -> Result<Answer<'w>, Refusal<'w>>
+pub fn answer_normal(alloc: Global, text: &[u8]) -> Result<Answer, Refusal>
     ensures ok { IfOk result (λ a. (c : Tree) × (line : Text) × (text_reading text.now ≡ Ok c)
         × IsNormalText c line × AnswersAll line 0 a) }
     ensures err { IfErr result (IsReadRefusal text.now) }

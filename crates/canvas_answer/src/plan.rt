@@ -12,7 +12,7 @@ use std::alloc::Global;
 use std::mem::ManuallyDrop;
 
 /// The canvas that a text spells.
-pub fn canvas_of<'w>(alloc: Global, text: &[u8]) -> Result<Canvas, Refusal<'w>>
+pub fn canvas_of(alloc: Global, text: &[u8]) -> Result<Canvas, Refusal>
     ensures ok { IfOk result (λ canvas. text_reading text.now ≡ Ok canvas) }
     ensures err { IfErr result (IsReadRefusal text.now) }
 {
@@ -24,7 +24,7 @@ pub fn canvas_of<'w>(alloc: Global, text: &[u8]) -> Result<Canvas, Refusal<'w>>
 }
 
 /// The plan of the canvas that a text spells.
-pub fn plan_of<'w>(alloc: Global, text: &[u8]) -> Result<Plan, Refusal<'w>>
+pub fn plan_of(alloc: Global, text: &[u8]) -> Result<Plan, Refusal>
     ensures ok { IfOk result (λ plan. IsTextPlan text.now plan) }
     ensures err { IfErr result (IsReadRefusal text.now) }
 {

@@ -30,11 +30,7 @@ pub struct Prepared {
     renamed: Option<Vec<u8>>,
 }
 
-fn adapted<'w>(
-    alloc: Global,
-    text: &[u8],
-    setting: Setting<'_>,
-) -> Result<Option<Vec<u8>>, Refusal<'w>> {
+fn adapted(alloc: Global, text: &[u8], setting: Setting<'_>) -> Result<Option<Vec<u8>>, Refusal> {
     if setting.adapts {
         Ok(Some(adapt(alloc, text)?.text))
     } else {
@@ -43,7 +39,7 @@ fn adapted<'w>(
 }
 
 /// The first of these numbers that a canvas of so many tasks doesn't have is refused.
-fn check_numbers<'w>(renames: &[Rename], tasks: u32) -> Result<(), Refusal<'w>> {
+fn check_numbers(renames: &[Rename], tasks: u32) -> Result<(), Refusal> {
     for rename in renames {
         if rename.task.get() > tasks {
             return Err(Refusal::NoTaskToAnswer(rename.task));
@@ -52,11 +48,7 @@ fn check_numbers<'w>(renames: &[Rename], tasks: u32) -> Result<(), Refusal<'w>> 
     Ok(())
 }
 
-fn renamed<'w>(
-    alloc: Global,
-    text: &[u8],
-    setting: Setting<'_>,
-) -> Result<Option<Vec<u8>>, Refusal<'w>> {
+fn renamed(alloc: Global, text: &[u8], setting: Setting<'_>) -> Result<Option<Vec<u8>>, Refusal> {
     if setting.renames.is_empty() {
         return Ok(None);
     }
@@ -74,11 +66,7 @@ fn text_or<'a>(made: &'a Option<Vec<u8>>, text: &'a [u8]) -> &'a [u8] {
 
 impl Prepared {
     /// The texts that a setting asks for of a canvas's.
-    pub fn of<'w>(
-        alloc: Global,
-        text: &[u8],
-        setting: Setting<'_>,
-    ) -> Result<Prepared, Refusal<'w>> {
+    pub fn of(alloc: Global, text: &[u8], setting: Setting<'_>) -> Result<Prepared, Refusal> {
         let adapted = adapted(alloc, text, setting)?;
         let renamed = renamed(alloc, text_or(&adapted, text), setting)?;
         Ok(Prepared { adapted, renamed })
@@ -113,7 +101,7 @@ pub struct Plans {
 
 impl Plans {
     /// The plans of a canvas, one where no task has another name.
-    pub fn of<'w, T>(alloc: Global, source: &Source<'_, T>) -> Result<Plans, Refusal<'w>>
+    pub fn of<T>(alloc: Global, source: &Source<'_, T>) -> Result<Plans, Refusal>
         ensures shown { IfOk result (λ plans. IsTextPlan source.now.shown.now plans.shown) }
         ensures one { IfOk result
             (λ plans. source.now.is_renamed ≡ false → plans.renamed ≡ None) }

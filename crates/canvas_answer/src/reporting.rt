@@ -55,13 +55,13 @@ impl Manner {
     }
 
     /// The report of a whole run.
-    fn whole_text<'w, T: Tasks>(
+    fn whole_text<T: Tasks>(
         &self,
         alloc: Global,
         plans: &Plans,
         report: &Report,
         source: &Source<'_, T>,
-    ) -> Result<String, Refusal<'w>>
+    ) -> Result<String, Refusal>
         ensures { (behaviour : Behaviour)
             → report.now.rows ≡ states behaviour (tree_of plans.now.shown)
             → source.now.errors.now ≡ []
@@ -94,13 +94,13 @@ impl Manner {
     }
 
     /// The report of a whole run, and the status that its result has.
-    pub fn whole<'w, T: Tasks>(
+    pub fn whole<T: Tasks>(
         &self,
         alloc: Global,
         plans: &Plans,
         report: &Report,
         source: &Source<'_, T>,
-    ) -> Result<Answer<'w>, Refusal<'w>>
+    ) -> Result<Answer, Refusal>
         ensures { (behaviour : Behaviour)
             → report.now.rows ≡ states behaviour (tree_of plans.now.shown)
             → source.now.errors.now ≡ []
@@ -111,12 +111,12 @@ impl Manner {
     }
 
     /// A report that doesn't tell which tasks were called, and the status that its result has.
-    pub(crate) fn untold<'w>(
+    pub(crate) fn untold(
         &self,
         alloc: Global,
         plan: &Plan,
         report: &Report,
-    ) -> Result<Answer<'w>, Refusal<'w>>
+    ) -> Result<Answer, Refusal>
         ensures { IfOk result (λ a. (text : Text)
             × IsUntoldText self.now.form (tree_of plan.now) report.now.rows text
             × AnswersAll text (report_status self.now.fails
@@ -126,7 +126,7 @@ impl Manner {
         Ok(self.answer(text, plan, report))
     }
 
-    fn answer<'w>(&self, text: String, plan: &Plan, report: &Report) -> Answer<'w>
+    fn answer(&self, text: String, plan: &Plan, report: &Report) -> Answer
         ensures { AnswersAll (string_bytes text) (report_status self.now.fails
             (any_failed (with_states (rows_from 1 report.now.rows) (ends_of plan.now)))) result }
     {
@@ -140,15 +140,15 @@ impl Manner {
 
     /// Why a run has no whole report, and what it stored, where that is known and there is memory
     /// for it. Where stubs raise exceptions of other classes nothing is told of what it stored.
-    pub fn early<'w, T>(
+    pub fn early<T>(
         &self,
         alloc: Global,
         plans: &Plans,
         source: &Source<'_, T>,
         stored: Option<&Report>,
-        refusal: Refusal<'w>,
-    ) -> Answer<'w>
-        ensures { (text : Text) × AnswersPart text refusal.entry result }
+        refusal: Refusal,
+    ) -> Answer
+        ensures { (text : Text) × AnswersPart text refusal result }
     {
         let text = match stored {
             Some(report) if source.errors.is_empty() => {
@@ -160,12 +160,12 @@ impl Manner {
     }
 }
 
-fn plain_text<'w, T>(
+fn plain_text<T>(
     alloc: Global,
     plans: &Plans,
     report: &Report,
     source: &Source<'_, T>,
-) -> Result<String, Refusal<'w>>
+) -> Result<String, Refusal>
     ensures { source.now.errors.now ≡ [] → IfOk result (λ text. string_bytes text
         ≡ report_of (tree_of plans.now.shown) (rows_from 1 report.now.rows)) }
 {
@@ -177,12 +177,12 @@ fn plain_text<'w, T>(
     Ok(stored_text(alloc, &plans.shown, &rows)?)
 }
 
-fn explained<'w, T>(
+fn explained<T>(
     alloc: Global,
     plans: &Plans,
     report: &Report,
     source: &Source<'_, T>,
-) -> Result<String, Refusal<'w>> {
+) -> Result<String, Refusal> {
     let fates = fates(alloc, &plans.shown, report)?;
     let rows = source.named_rows(alloc, plans, report, &fates)?;
     Ok(explained_text(alloc, &plans.shown, &rows, &fates)?)

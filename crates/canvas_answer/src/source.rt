@@ -223,7 +223,7 @@ impl<'a, T: Tasks> Source<'a, T> {
         alloc: Global,
         report: &Report,
         fates: &[(TaskNo, Fate)],
-    ) -> Result<Vec<(TaskNo, Option<String>)>, Refusal<'static>> {
+    ) -> Result<Vec<(TaskNo, Option<String>)>, Refusal> {
         if !any_bad_call(report, fates) {
             return Ok(Vec::new(alloc));
         }
@@ -238,18 +238,18 @@ impl<'a, T: Tasks> Source<'a, T> {
         canvas: &Canvas,
         report: &Report,
         fates: &[(TaskNo, Fate)],
-    ) -> Result<Vec<(TaskNo, Option<String>)>, Refusal<'static>> {
+    ) -> Result<Vec<(TaskNo, Option<String>)>, Refusal> {
         let foreseen = self.all_foreseen(alloc, canvas)?;
         Ok(blamed_of(alloc, &foreseen, report, fates)?)
     }
 
     /// The report of a whole run as JSON lines.
-    pub(crate) fn json_of<'w>(
+    pub(crate) fn json_of(
         &self,
         alloc: Global,
         plans: &Plans,
         report: &Report,
-    ) -> Result<String, Refusal<'w>>
+    ) -> Result<String, Refusal>
         ensures { (behaviour : Behaviour)
             → report.now.rows ≡ states behaviour (tree_of plans.now.shown)
             → self.now.errors.now ≡ []
@@ -265,13 +265,13 @@ impl<'a, T: Tasks> Source<'a, T> {
     }
 
     /// The same where this is told of the run.
-    fn json_told<'w>(
+    fn json_told(
         &self,
         alloc: Global,
         plans: &Plans,
         report: &Report,
         told: Told<'_>,
-    ) -> Result<String, Refusal<'w>>
+    ) -> Result<String, Refusal>
         ensures { self.now.errors.now ≡ [] → IfOk result (λ text. string_bytes text ≡ json_lines
             (report_wire told.entry.fates.now told.entry.blamed.now (tree_of plans.now.shown)
             (rows_from 1 report.now.rows))) }

@@ -46,12 +46,12 @@ fn line_object(alloc: Global, said: &str) -> Result<Option<String>, AllocError> 
     Ok(Some(object(alloc, name, note)?))
 }
 
-fn printed(alloc: Global, refusal: &Refusal<'_>) -> Result<String, AllocError> {
+fn printed(alloc: Global, refusal: &Refusal) -> Result<String, AllocError> {
     format!(in alloc; "{refusal}")
 }
 
 /// The name of a refusal whose line has no more, and what is wanted.
-fn name_and_note(refusal: &Refusal<'_>) -> Option<(&'static str, &'static str)> {
+fn name_and_note(refusal: &Refusal) -> Option<(&'static str, &'static str)> {
     match refusal {
         Refusal::BadTurn => Some(("BadTurn", TURNS)),
         Refusal::BadAgain => Some(("BadAgain", AGAIN)),
@@ -61,7 +61,7 @@ fn name_and_note(refusal: &Refusal<'_>) -> Option<(&'static str, &'static str)> 
 }
 
 /// What is printed of a refusal where JSON is asked for; nothing of one that is printed as ever.
-fn told_object(alloc: Global, refusal: &Refusal<'_>) -> Result<Option<String>, AllocError> {
+fn told_object(alloc: Global, refusal: &Refusal) -> Result<Option<String>, AllocError> {
     if let Some((name, note)) = name_and_note(refusal) {
         return Ok(Some(object(alloc, name, note)?));
     }
@@ -74,7 +74,7 @@ fn told_object(alloc: Global, refusal: &Refusal<'_>) -> Result<Option<String>, A
 }
 
 /// A refusal as it is printed where JSON is asked for.
-pub(crate) fn told_in_json<'w>(alloc: Global, refusal: Refusal<'w>) -> Refusal<'w> {
+pub(crate) fn told_in_json(alloc: Global, refusal: Refusal) -> Refusal {
     match told_object(alloc, &refusal) {
         Ok(Some(text)) => Refusal::Found(text),
         Ok(None) => refusal,
@@ -82,7 +82,7 @@ pub(crate) fn told_in_json<'w>(alloc: Global, refusal: Refusal<'w>) -> Refusal<'
     }
 }
 
-fn found<'w>(told: Result<String, Memory>) -> Refusal<'w> {
+fn found(told: Result<String, Memory>) -> Refusal {
     match told {
         Ok(text) => Refusal::Found(text),
         Err(_) => Refusal::Memory,
@@ -91,7 +91,7 @@ fn found<'w>(told: Result<String, Memory>) -> Refusal<'w> {
 
 /// A refusal as it is printed where JSON is asked for, where it may be that of a canvas with this
 /// text.
-pub fn told_of_text<'w>(alloc: Global, text: &[u8], refusal: Refusal<'w>) -> Refusal<'w> {
+pub fn told_of_text(alloc: Global, text: &[u8], refusal: Refusal) -> Refusal {
     match refusal {
         Refusal::Canvas(fault) => found(refusal_json(alloc, text, fault)),
         other => other,

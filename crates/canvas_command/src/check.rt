@@ -15,11 +15,7 @@ use canvas_task::Tasks;
 use std::alloc::Global;
 
 /// The figures of a canvas.
-fn figures_of<'w, T: Tasks>(
-    alloc: Global,
-    tasks: &T,
-    canvas: Canvas,
-) -> Result<Figures, Refusal<'w>> {
+fn figures_of<T: Tasks>(alloc: Global, tasks: &T, canvas: Canvas) -> Result<Figures, Refusal> {
     let depths = canvas.depths();
     let plan = lasting(Plan::of(alloc, canvas)?);
     let messages = messages_of(alloc, tasks, 1, &[], &plan)?;
@@ -27,11 +23,11 @@ fn figures_of<'w, T: Tasks>(
 }
 
 /// What is said of a canvas that is accepted.
-fn checked<'w, T: Tasks>(
+fn checked<T: Tasks>(
     alloc: Global,
     manner: Manner,
     source: &Source<'_, T>,
-) -> Result<Answer<'w>, Refusal<'w>> {
+) -> Result<Answer, Refusal> {
     let canvas = canvas_of(alloc, source.text)?;
     let warnings = warnings_of(alloc, source, &canvas)?;
     let figures = figures_of(alloc, source.tasks, canvas)?;
@@ -39,11 +35,11 @@ fn checked<'w, T: Tasks>(
 }
 
 /// What is said of a canvas.
-pub(crate) fn answer_check<'w, T: Tasks>(
+pub(crate) fn answer_check<T: Tasks>(
     alloc: Global,
     manner: Manner,
     source: &Source<'_, T>,
-) -> Result<Answer<'w>, Refusal<'w>> {
+) -> Result<Answer, Refusal> {
     if manner.form != Form::Json {
         refuse_found(alloc, source.text)?;
     }

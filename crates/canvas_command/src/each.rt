@@ -15,11 +15,7 @@ use std::sync::Wait;
 use std::thread::Threads;
 
 /// The report of a canvas's run as an object in a line, and whether its result is a failure.
-fn ran<'w, S, T>(
-    rt: &S,
-    workers: u32,
-    source: &Source<'_, T>,
-) -> Result<(String, bool), Refusal<'w>>
+fn ran<S, T>(rt: &S, workers: u32, source: &Source<'_, T>) -> Result<(String, bool), Refusal>
 where
     S: Threads + Wait + RandomSource + AllocGlobal + Sync,
     T: Tasks + Sync,
@@ -29,12 +25,12 @@ where
 }
 
 /// The same of a run by these plans.
-fn ran_by<'w, S, T>(
+fn ran_by<S, T>(
     rt: &S,
     workers: u32,
     plans: &Plans,
     source: &Source<'_, T>,
-) -> Result<(String, bool), Refusal<'w>>
+) -> Result<(String, bool), Refusal>
 where
     S: Threads + Wait + RandomSource + AllocGlobal + Sync,
     T: Tasks + Sync,
@@ -45,13 +41,13 @@ where
 }
 
 /// The same of a canvas that is made ready first.
-fn prepared_and_ran<'w, S, T>(
+fn prepared_and_ran<S, T>(
     rt: &S,
     workers: u32,
     text: &[u8],
     tasks: &T,
     setting: Setting<'_>,
-) -> Result<(String, bool), Refusal<'w>>
+) -> Result<(String, bool), Refusal>
 where
     S: Threads + Wait + RandomSource + AllocGlobal + Sync,
     T: Tasks + Sync,
@@ -61,13 +57,13 @@ where
 }
 
 /// The line that a canvas gives: its report or its refusal; and whether its result is a failure.
-fn line_of<'w, S, T>(
+fn line_of<S, T>(
     rt: &S,
     workers: u32,
     text: &[u8],
     tasks: &T,
     setting: Setting<'_>,
-) -> Result<(String, bool), Refusal<'w>>
+) -> Result<(String, bool), Refusal>
 where
     S: Threads + Wait + RandomSource + AllocGlobal + Sync,
     T: Tasks + Sync,
@@ -88,13 +84,13 @@ fn without_end(text: &[u8], end: u8) -> &[u8] {
 
 /// A line for each canvas of a text, in its order. Where it is asked for, the status is that of a
 /// failure where a canvas's result is one. Where memory is refused, what is whole is there.
-pub(crate) fn answer_each<'w, S, T>(
+pub(crate) fn answer_each<S, T>(
     rt: &S,
     each: Each,
     text: &[u8],
     tasks: &T,
     setting: Setting<'_>,
-) -> Result<Answer<'w>, Refusal<'w>>
+) -> Result<Answer, Refusal>
 where
     S: Threads + Wait + RandomSource + AllocGlobal + Sync,
     T: Tasks + Sync,

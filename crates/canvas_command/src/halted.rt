@@ -12,7 +12,7 @@ use canvas_engine::{Cause, Report, RunFault};
 use std::alloc::Global;
 
 /// Why a run has no whole report, as the program says it.
-pub fn refused<'w>(fault: &RunFault) -> Refusal<'w> {
+pub fn refused(fault: &RunFault) -> Refusal {
     match fault {
         RunFault::BadWorkers => Refusal::BadWorkers,
         RunFault::BadTurn => Refusal::BadTurn,
@@ -35,13 +35,13 @@ fn stored(fault: &RunFault) -> Option<&Report> {
 }
 
 /// The answer to what is asked of a run that ended early.
-pub(crate) fn early<'w, T>(
+pub(crate) fn early<T>(
     alloc: Global,
     manner: Manner,
     plans: &Plans,
     source: &Source<'_, T>,
     fault: &RunFault,
-) -> Answer<'w>
+) -> Answer
     ensures { (text : Text) × (refusal : Refusal) × AnswersPart text refusal result }
 {
     manner.early(alloc, plans, source, stored(fault), refused(fault))

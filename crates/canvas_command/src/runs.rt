@@ -43,12 +43,12 @@ where
 }
 
 /// The same, or why there is none.
-pub(crate) fn whole_report<'w, S, T>(
+pub(crate) fn whole_report<S, T>(
     rt: &S,
     plan: &Plan,
     tasks: &T,
     workers: u32,
-) -> Result<Report, Refusal<'w>>
+) -> Result<Report, Refusal>
 where
     S: Threads + Wait + RandomSource + AllocGlobal + Sync,
     T: Tasks + Sync,
@@ -62,12 +62,12 @@ where
 }
 
 /// The report of a run on threads.
-pub(crate) fn answer_run<'w, S, T>(
+pub(crate) fn answer_run<S, T>(
     rt: &S,
     workers: u32,
     manner: Manner,
     source: &Source<'_, T>,
-) -> Result<Answer<'w>, Refusal<'w>>
+) -> Result<Answer, Refusal>
 where
     S: Threads + Wait + RandomSource + AllocGlobal + Sync,
     T: Tasks + Sync,
@@ -94,7 +94,7 @@ struct ByTurns<'a> {
 }
 
 impl ByTurns<'_> {
-    fn counted<'w>(&self, answer: Answer<'w>, repeats: u64) -> Answer<'w>
+    fn counted(&self, answer: Answer, repeats: u64) -> Answer
         ensures { (result.out ≡ answer.entry.out) × (result.refusal ≡ answer.entry.refusal)
             × (result.status ≡ answer.entry.status) }
     {
@@ -102,11 +102,7 @@ impl ByTurns<'_> {
     }
 
     /// The report, as it is printed where nothing else is asked for.
-    fn plain<'w, T: Tasks>(
-        &self,
-        alloc: Global,
-        source: &Source<'_, T>,
-    ) -> Result<Answer<'w>, Refusal<'w>>
+    fn plain<T: Tasks>(&self, alloc: Global, source: &Source<'_, T>) -> Result<Answer, Refusal>
         ensures { IfOk result
             (IsRunOf (T.behaviour source.now.tasks.now) source.now.text.now Plain false) }
     {
@@ -120,12 +116,12 @@ impl ByTurns<'_> {
     }
 
     /// The report in another manner.
-    fn shown<'w, T: Tasks>(
+    fn shown<T: Tasks>(
         &self,
         alloc: Global,
         plans: &Plans,
         source: &Source<'_, T>,
-    ) -> Result<Answer<'w>, Refusal<'w>>
+    ) -> Result<Answer, Refusal>
         ensures { (bytes : Text) → IsTextPlan bytes plans.now.shown → plans.now.renamed ≡ None
             → source.now.errors.now ≡ [] → IfOk result (IsRunOf (T.behaviour source.now.tasks.now)
             bytes self.now.manner.form self.now.manner.fails) }
@@ -141,13 +137,13 @@ impl ByTurns<'_> {
     }
 
     /// The same, with what is delivered again by names where there is a list of these.
-    fn shown_named<'w, T: Tasks>(
+    fn shown_named<T: Tasks>(
         &self,
         alloc: Global,
         names: Option<&str>,
         plans: &Plans,
         source: &Source<'_, T>,
-    ) -> Result<Answer<'w>, Refusal<'w>>
+    ) -> Result<Answer, Refusal>
         ensures { (bytes : Text) → IsTextPlan bytes plans.now.shown → plans.now.renamed ≡ None
             → source.now.errors.now ≡ [] → IfOk result (IsRunOf (T.behaviour source.now.tasks.now)
             bytes self.now.manner.form self.now.manner.fails) }
@@ -166,12 +162,12 @@ impl ByTurns<'_> {
         by.shown(alloc, plans, source)
     }
 
-    fn answer<'w, T: Tasks>(
+    fn answer<T: Tasks>(
         &self,
         alloc: Global,
         names: Option<&str>,
         source: &Source<'_, T>,
-    ) -> Result<Answer<'w>, Refusal<'w>>
+    ) -> Result<Answer, Refusal>
         ensures { source.now.is_renamed ≡ false → source.now.text.now ≡ source.now.shown.now
             → source.now.errors.now ≡ [] → IfOk result (IsRunOf (T.behaviour source.now.tasks.now)
             source.now.shown.now self.now.manner.form self.now.manner.fails) }
@@ -185,14 +181,14 @@ impl ByTurns<'_> {
 }
 
 /// The report of a run by turns, with what is delivered again, where that is asked for.
-pub(crate) fn answer_turns<'w, T: Tasks>(
+pub(crate) fn answer_turns<T: Tasks>(
     alloc: Global,
     workers: u32,
     turns: &[u32],
     again: &Again<'_>,
     manner: Manner,
     source: &Source<'_, T>,
-) -> Result<Answer<'w>, Refusal<'w>>
+) -> Result<Answer, Refusal>
     ensures { source.now.is_renamed ≡ false → source.now.text.now ≡ source.now.shown.now
         → source.now.errors.now ≡ [] → IfOk result (IsRunOf (T.behaviour source.now.tasks.now)
         source.now.shown.now manner.form manner.fails) }
@@ -219,7 +215,7 @@ pub(crate) fn answer_turns<'w, T: Tasks>(
 }
 
 /// Why a text has no whole report, and what its run stored, where there is memory for it.
-fn early_text<'w>(alloc: Global, fault: TextFault) -> Result<Answer<'w>, Refusal<'w>>
+fn early_text(alloc: Global, fault: TextFault) -> Result<Answer, Refusal>
     ensures { IfOk result
         (λ a. (text : Text) × (refusal : Refusal) × AnswersPart text refusal a) }
 {

@@ -8,7 +8,7 @@ use std::io::{self, ErrorKind};
 use std::test::Fail;
 
 /// Whether a refusal ends with status 2 and this text.
-fn is_told(alloc: Global, refusal: &Refusal<'_>, told: &str) -> bool {
+fn is_told(alloc: Global, refusal: &Refusal, told: &str) -> bool {
     match format!(in alloc; "{refusal}") {
         Ok(text) => refusal.status() == 2 && text.as_str() == told,
         Err(_) => false,

@@ -32,8 +32,8 @@ impl fmt::Display for CeleryRefusal {
     }
 }
 
-impl<'w> From<CollectFault> for Refusal<'w> {
-    fn from(fault: CollectFault) -> Refusal<'w> {
+impl From<CollectFault> for Refusal {
+    fn from(fault: CollectFault) -> Refusal {
         match fault {
             CollectFault::BadCount => Refusal::Celery(CeleryRefusal::BadCount),
             CollectFault::Stored { task, fault } => {
