@@ -20,7 +20,7 @@ use canvas_sig::Canvas;
 use canvas_stubs::{Does, Stub};
 use canvas_task::{Builtin, Fault, Kind, Memory, Outcome, TaskNo, Tasks};
 use canvas_values::TaskSig;
-use canvas_warning::{Blame, Expected, Forecast, Input, blamed, forecasts, tasks_in};
+use canvas_warning::{Blame, Expected, Forecast, Input, Wrong, blamed, forecasts, tasks_in};
 use std::alloc::{AllocError, Global};
 
 /// A canvas's text, and the tasks that its calls are answered by, which have these stubs before
@@ -37,22 +37,39 @@ pub struct Source<'a, T> {
     pub errors: &'a [OtherError],
 }
 
+/// A parameter that is at fault.
+#[derive(Drop)]
+pub(crate) struct AtFault {
+    pub parameter: String,
+    pub wrong: Wrong,
+}
+
+fn at_fault(alloc: Global, blame: Option<Blame<'_>>) -> Result<Option<AtFault>, AllocError> {
+    match blame {
+        Some(Blame { parameter, wrong }) => Ok(Some(AtFault {
+            parameter: String::from_str(alloc, parameter)?,
+            wrong,
+        })),
+        None => Ok(None),
+    }
+}
+
 /// What is foreseen of a signature.
-#[derive(Clone, Copy)]
-pub(crate) struct Foreseen<'a> {
+#[derive(Drop)]
+pub(crate) struct Foreseen {
     pub forecast: Forecast,
     is_task: bool,
     /// Of a call that is a TypeError the parameter that is at fault, if it is one; none where no
     /// built-in task answers it.
-    blame: Option<Option<Blame<'a>>>,
+    blame: Option<Option<AtFault>>,
 }
 
-impl<'a> Foreseen<'a> {
+impl Foreseen {
     /// The parameter that makes its call a TypeError, where that is known.
-    pub(crate) fn blame(&self) -> Option<Blame<'a>> {
-        match self.blame {
-            Some(blame) => blame,
-            None => None,
+    pub(crate) fn blame(&self) -> Option<&AtFault> {
+        match &self.blame {
+            Some(Some(blame)) => Some(blame),
+            _ => None,
         }
     }
 }
@@ -83,9 +100,9 @@ fn any_bad_call(report: &Report, fates: &[(TaskNo, Fate)]) -> bool {
     false
 }
 
-fn parameter_of(alloc: Global, blame: Option<Blame<'_>>) -> Result<Option<String>, AllocError> {
+fn parameter_of(blame: &Option<AtFault>) -> Result<Option<String>, AllocError> {
     match blame {
-        Some(blame) => Ok(Some(String::from_str(alloc, blame.parameter)?)),
+        Some(blame) => Ok(Some(blame.parameter.clone()?)),
         None => Ok(None),
     }
 }
@@ -94,7 +111,7 @@ fn parameter_of(alloc: Global, blame: Option<Blame<'_>>) -> Result<Option<String
 /// the parameter that is at fault, if it is one.
 fn blamed_of(
     alloc: Global,
-    foreseen: &[Foreseen<'_>],
+    foreseen: &[Foreseen],
     report: &Report,
     fates: &[(TaskNo, Fate)],
 ) -> Result<Vec<(TaskNo, Option<String>)>, AllocError> {
@@ -107,10 +124,10 @@ fn blamed_of(
         let Some((task, fate)) = left.next() else {
             break;
         };
-        if let Some(blame) = it.blame
+        if let Some(blame) = &it.blame
             && is_bad_call(report, *task, *fate)
         {
-            let parameter = parameter_of(alloc, blame)?;
+            let parameter = parameter_of(blame)?;
             found.push((*task, parameter))?;
         }
     }
@@ -157,25 +174,25 @@ impl<'a, T: Tasks> Source<'a, T> {
 
     /// The parameter that makes a call a TypeError with this in front of its own arguments, if it
     /// is one. None where no built-in task answers the call.
-    fn blamed_in<'s>(
+    fn blamed_in(
         &self,
         alloc: Global,
-        sig: &'s TaskSig,
+        sig: &TaskSig,
         input: Input,
-    ) -> Result<Option<Option<Blame<'s>>>, AllocError> {
+    ) -> Result<Option<Option<AtFault>>, AllocError> {
         match self.builtin_of(sig.name.get()) {
-            Some(task) => Ok(Some(blamed(alloc, task, sig, input)?)),
+            Some(task) => Ok(Some(at_fault(alloc, blamed(alloc, task, sig, input)?)?)),
             None => Ok(None),
         }
     }
 
     /// What is foreseen of a signature that has this forecast, and is this task if it is one.
-    fn foreseen_of<'s>(
+    fn foreseen_of(
         &self,
         alloc: Global,
         forecast: Forecast,
-        task: Option<&'s TaskSig>,
-    ) -> Result<Foreseen<'s>, AllocError> {
+        task: Option<&TaskSig>,
+    ) -> Result<Foreseen, AllocError> {
         let is_task = task.is_some();
         let blame = match (forecast.expected, task) {
             (Expected::TypeError(input), Some(sig)) => self.blamed_in(alloc, sig, input)?,
@@ -189,23 +206,23 @@ impl<'a, T: Tasks> Source<'a, T> {
     }
 
     /// What is foreseen of each signature of a canvas, in file order.
-    pub(crate) fn all_foreseen<'c>(
+    pub(crate) fn all_foreseen(
         &self,
         alloc: Global,
-        canvas: &'c Canvas,
-    ) -> Result<Vec<Foreseen<'c>>, Memory> {
+        canvas: &Canvas,
+    ) -> Result<Vec<Foreseen>, Memory> {
         let forecasts = forecasts(alloc, canvas, self.tasks)?;
         let tasks = tasks_in(alloc, canvas)?;
         self.foreseen_by(alloc, &forecasts, &tasks)
     }
 
     /// The same where these are the forecasts, and the tasks among the signatures.
-    fn foreseen_by<'c>(
+    fn foreseen_by(
         &self,
         alloc: Global,
         forecasts: &[Forecast],
-        tasks: &[Option<&'c TaskSig>],
-    ) -> Result<Vec<Foreseen<'c>>, Memory> {
+        tasks: &[Option<&TaskSig>],
+    ) -> Result<Vec<Foreseen>, Memory> {
         let mut found = Vec::new(alloc);
         let mut left = tasks.iter();
         for forecast in forecasts {

@@ -1,15 +1,15 @@
 //! What `canvas check` warns of: what may surprise of a canvas that is accepted.
 
-use crate::source::{Foreseen, Source};
+use crate::source::{AtFault, Foreseen, Source};
 use canvas_finding::{Signature, pointer_text, signatures_of};
 use canvas_report::{escaped_json, quoted_json};
 use canvas_sig::Canvas;
 use canvas_task::{Memory, Tasks};
-use canvas_warning::{Blame, Expected, Input, Wrong};
+use canvas_warning::{Expected, Input, Wrong};
 use std::alloc::{AllocError, Global};
 use std::collections::BTreeMap;
 
-/// What is warned of, once a signature at most.
+/// What is warned of, all but ignored options once a signature at most.
 #[derive(Clone, Copy)]
 enum Concern {
     NotRegistered,
@@ -17,6 +17,7 @@ enum Concern {
     LeftPending,
     NestedChord,
     Unrolled,
+    Ignored,
 }
 
 impl Concern {
@@ -28,6 +29,7 @@ impl Concern {
             Concern::LeftPending => "failure-before-group",
             Concern::NestedChord => "failed-nested-chord",
             Concern::Unrolled => "group-of-one",
+            Concern::Ignored => "ignored-options",
         }
     }
 
@@ -49,6 +51,7 @@ impl Concern {
                 "Celery leaves the outer chord's body pending where a member of it fails"
             }
             Concern::Unrolled => "Celery puts its one member in its place",
+            Concern::Ignored => "is ignored",
         }
     }
 }
@@ -66,7 +69,7 @@ fn said_of(wrong: Wrong) -> &'static str {
 /// A warning.
 #[derive(Drop)]
 struct Warning {
-    name: &'static str,
+    concern: Concern,
     note: String,
     /// The pointer to the first signature that has it.
     pointer: String,
@@ -89,7 +92,7 @@ impl Warnings {
     fn push(
         &mut self,
         signature: &Signature,
-        name: &'static str,
+        concern: Concern,
         note: String,
     ) -> Result<(), AllocError> {
         let pointer = pointer_text(self.alloc, &signature.steps)?;
@@ -98,7 +101,7 @@ impl Warnings {
             None => String::new(self.alloc),
         };
         self.found.push(Warning {
-            name,
+            concern,
             note,
             pointer,
             task,
@@ -112,7 +115,7 @@ impl Warnings {
         &mut self,
         signature: &Signature,
         key: String,
-        name: &'static str,
+        concern: Concern,
         note: String,
     ) -> Result<(), AllocError> {
         if let Some(index) = self.counted.get(key.as_str()).copied() {
@@ -121,7 +124,7 @@ impl Warnings {
         }
         let next = self.found.len();
         drop(self.counted.insert(key, next)?);
-        self.push(signature, name, note)
+        self.push(signature, concern, note)
     }
 
     fn count_one(&mut self, index: usize) {
@@ -132,7 +135,7 @@ impl Warnings {
 
     fn push_concern(&mut self, signature: &Signature, concern: Concern) -> Result<(), AllocError> {
         let note = String::from_str(self.alloc, concern.note())?;
-        self.push(signature, concern.name(), note)
+        self.push(signature, concern, note)
     }
 
     /// A name that no task answers to, once for all that have it.
@@ -141,7 +144,7 @@ impl Warnings {
         let key = format!(in self.alloc; "task {task}")?;
         let concern = Concern::NotRegistered;
         let note = String::from_str(self.alloc, concern.note())?;
-        self.push_once(signature, key, concern.name(), note)
+        self.push_once(signature, key, concern, note)
     }
 
     /// A call that is a TypeError, and by which parameter.
@@ -149,23 +152,23 @@ impl Warnings {
         &mut self,
         signature: &Signature,
         input: Input,
-        blame: Option<Blame<'_>>,
+        blame: Option<&AtFault>,
     ) -> Result<(), AllocError> {
         let concern = Concern::TypeError(input);
-        let Some(Blame { parameter, wrong }) = blame else {
+        let Some(blame) = blame else {
             return self.push_concern(signature, concern);
         };
         let what = concern.note();
-        let parameter = escaped_json(self.alloc, parameter)?;
-        let said = said_of(wrong);
+        let parameter = escaped_json(self.alloc, &blame.parameter)?;
+        let said = said_of(blame.wrong);
         let note = format!(in self.alloc; "{what}: {parameter} {said}")?;
-        self.push(signature, concern.name(), note)
+        self.push(signature, concern, note)
     }
 
     fn push_expected(
         &mut self,
         signature: &Signature,
-        foreseen: Foreseen<'_>,
+        foreseen: &Foreseen,
     ) -> Result<(), AllocError> {
         match foreseen.forecast.expected {
             Expected::Answer => Ok(()),
@@ -179,7 +182,7 @@ impl Warnings {
     fn push_foreseen(
         &mut self,
         signature: &Signature,
-        foreseen: Foreseen<'_>,
+        foreseen: &Foreseen,
     ) -> Result<(), AllocError> {
         let forecast = foreseen.forecast;
         self.push_expected(signature, foreseen)?;
@@ -198,9 +201,11 @@ impl Warnings {
     /// The options that are ignored, each once for all that have it.
     fn push_ignored(&mut self, signature: &Signature) -> Result<(), AllocError> {
         for option in &signature.ignored {
-            let note = format!(in self.alloc; "options.{option} is ignored")?;
+            let concern = Concern::Ignored;
+            let said = concern.note();
+            let note = format!(in self.alloc; "options.{option} {said}")?;
             let key = format!(in self.alloc; "option {option}")?;
-            self.push_once(signature, key, "ignored-options", note)?;
+            self.push_once(signature, key, concern, note)?;
         }
         Ok(())
     }
@@ -209,14 +214,14 @@ impl Warnings {
     fn push_all(
         &mut self,
         signatures: &[Signature],
-        foreseen: &[Foreseen<'_>],
+        foreseen: &[Foreseen],
     ) -> Result<(), AllocError> {
         let mut left = foreseen.iter();
         for signature in signatures {
             if !signature.is_header_group
                 && let Some(foreseen) = left.next()
             {
-                self.push_foreseen(signature, *foreseen)?;
+                self.push_foreseen(signature, foreseen)?;
             }
             self.push_ignored(signature)?;
         }
@@ -247,12 +252,13 @@ impl Warnings {
 
 fn push_line(text: &mut String, warning: &Warning) -> Result<(), AllocError> {
     let Warning {
-        name,
+        concern,
         note,
         pointer,
         task,
         count,
     } = warning;
+    let name = concern.name();
     let at = if pointer.is_empty() {
         "the top"
     } else {
@@ -271,7 +277,7 @@ fn push_object(alloc: Global, text: &mut String, warning: &Warning) -> Result<()
     let pointer = quoted_json(alloc, &warning.pointer)?;
     let task = quoted_json(alloc, &warning.task)?;
     let count = warning.count;
-    let name = warning.name;
+    let name = warning.concern.name();
     writeln!(
         text,
         "{{\"count\":{count},\"name\":\"{name}\",\"note\":{note},\"pointer\":{pointer},\"task\":{task}}}"

@@ -30,8 +30,6 @@ pub(crate) const OVERFLOW: Outcome = Outcome::Failure(Fault::Plain(Kind::Overflo
 
 pub(crate) const BAD_CALL: Outcome = Outcome::Failure(Fault::Plain(Kind::BadCall));
 
-const NOT_REGISTERED: Outcome = Outcome::Failure(Fault::Plain(Kind::NotRegistered));
-
 pub(crate) fn list(alloc: Global, numbers: &[i64]) -> Result<Arg, AllocError> {
     Ok(Arg::List(ListOf::of(numbers.to_vec(alloc)?)))
 }
@@ -46,144 +44,170 @@ pub(crate) fn named(
     Ok(kwargs)
 }
 
-/// What a task answers to a number.
-fn of_one(name: &str, number: i64, kwargs: &BTreeMap<String, Arg>) -> Outcome {
-    apply(name, &[Arg::Num(number)], kwargs)
+/// What a task answers to two numbers at most.
+fn answer(name: &str, numbers: &[i64], kwargs: &BTreeMap<String, Arg>) -> Outcome {
+    match numbers {
+        [] => apply(name, &[], kwargs),
+        [x] => apply(name, &[Arg::Num(*x)], kwargs),
+        [x, y, ..] => apply(name, &[Arg::Num(*x), Arg::Num(*y)], kwargs),
+    }
 }
 
-/// What a task answers to two numbers.
-fn of_two(alloc: Global, name: &str, first: i64, second: i64) -> Outcome {
-    apply(
-        name,
-        &[Arg::Num(first), Arg::Num(second)],
-        &BTreeMap::new(alloc),
-    )
+/// The outcome of a call that answers so.
+fn outcome(answer: Result<i64, Kind>) -> Outcome {
+    match answer {
+        Ok(number) => Outcome::Success(number),
+        Err(kind) => Outcome::Failure(Fault::Plain(kind)),
+    }
 }
 
-/// Whether it answers so.
-fn answers_two(alloc: Global, name: &str, first: i64, second: i64, outcome: &Outcome) -> bool {
-    of_two(alloc, name, first, second) == *outcome
+/// A task, numbers, and what it answers to them.
+type Call = (&'static str, &'static [i64], Result<i64, Kind>);
+
+static CALLS: [Call; 22] = [
+    ("tasks.add", &[4, 4], Ok(8)),
+    ("tasks.add", &[1], Err(Kind::BadCall)),
+    ("tasks.mul", &[BOUND, 2], Err(Kind::Overflow)),
+    ("tasks.mul", &[BOUND, 1], Ok(BOUND)),
+    ("tasks.ident", &[1, 1], Err(Kind::BadCall)),
+    ("tasks.ident", &[BOUND], Ok(BOUND)),
+    ("tasks.ident", &[BOUND + 1], Err(Kind::Overflow)),
+    ("tasks.nope", &[], Err(Kind::NotRegistered)),
+    ("tasks.div", &[7, 2], Ok(3)),
+    ("tasks.div", &[-7, 2], Ok(-4)),
+    ("tasks.div", &[7, -2], Ok(-4)),
+    ("tasks.div", &[-7, -2], Ok(3)),
+    ("tasks.div", &[6, 2], Ok(3)),
+    ("tasks.div", &[-6, 2], Ok(-3)),
+    ("tasks.div", &[6, -2], Ok(-3)),
+    ("tasks.div", &[-6, -2], Ok(3)),
+    ("tasks.div", &[0, -5], Ok(0)),
+    ("tasks.div", &[1, 3], Ok(0)),
+    ("tasks.div", &[-1, 3], Ok(-1)),
+    ("tasks.div", &[1, -3], Ok(-1)),
+    ("tasks.div", &[-1, -3], Ok(0)),
+    ("tasks.div", &[1, 0], Err(Kind::ZeroDivision)),
+];
+
+/// The first call that is answered by something else.
+fn first_wrong_call(kwargs: &BTreeMap<String, Arg>) -> Option<(&'static str, &'static [i64])> {
+    for (name, numbers, wanted) in &CALLS {
+        if answer(name, numbers, kwargs) != outcome(*wanted) {
+            return Some((*name, *numbers));
+        }
+    }
+    None
 }
 
-/// Whether a task answers so to nothing.
-fn answers_nothing(alloc: Global, name: &str, outcome: &Outcome) -> bool {
-    apply(name, &[], &BTreeMap::new(alloc)) == *outcome
-}
-
-/// The same of a number.
-fn answers_one(alloc: Global, name: &str, number: i64, outcome: &Outcome) -> bool {
-    of_one(name, number, &BTreeMap::new(alloc)) == *outcome
-}
-
+/// Quotients are rounded down.
 #[test]
 fn calls_of_tasks(rt: HostRuntime) {
-    for (name, first, second, outcome) in &[
-        ("tasks.add", 4, 4, Outcome::Success(8)),
-        ("tasks.mul", BOUND, 2, OVERFLOW),
-        ("tasks.mul", BOUND, 1, Outcome::Success(BOUND)),
-        ("tasks.ident", 1, 1, BAD_CALL),
-    ] {
-        assert!(rt;
-            answers_two(rt.alloc(), name, *first, *second, outcome),
-            "{name}"
-        );
-    }
-    for (name, number, outcome) in &[
-        ("tasks.add", 1, BAD_CALL),
-        ("tasks.ident", BOUND, Outcome::Success(BOUND)),
-        ("tasks.ident", BOUND + 1, OVERFLOW),
-    ] {
-        assert!(rt; answers_one(rt.alloc(), name, *number, outcome), "{name}");
-    }
-    assert!(rt; answers_nothing(rt.alloc(), "tasks.nope", &NOT_REGISTERED));
+    let wrong = first_wrong_call(&BTreeMap::new(rt.alloc()));
+    assert!(rt; wrong.is_none(), "{wrong:?}");
 }
 
 /// What the sum of 1 and a named 2 is.
 fn of_named(alloc: Global, name: &str) -> Option<Outcome> {
     match named(alloc, name, 2) {
-        Ok(kwargs) => Some(of_one("tasks.add", 1, &kwargs)),
+        Ok(kwargs) => Some(answer("tasks.add", &[1], &kwargs)),
         Err(_) => None,
     }
 }
 
-fn answers_named(alloc: Global, name: &str, outcome: &Outcome) -> bool {
-    of_named(alloc, name) == Some(*outcome)
+static NAMED: [(&str, Result<i64, Kind>); 3] = [
+    ("x", Err(Kind::BadCall)),
+    ("y", Ok(3)),
+    ("z", Err(Kind::BadCall)),
+];
+
+/// The first of these names with which the sum is another.
+fn first_wrong_name(alloc: Global) -> Option<&'static str> {
+    for (name, wanted) in &NAMED {
+        if of_named(alloc, name) != Some(outcome(*wanted)) {
+            return Some(*name);
+        }
+    }
+    None
 }
 
 #[test]
 fn named_arguments(rt: HostRuntime) {
-    for (name, outcome) in &[("x", BAD_CALL), ("y", Outcome::Success(3)), ("z", BAD_CALL)] {
-        assert!(rt; answers_named(rt.alloc(), name, outcome), "{name}");
-    }
+    let wrong = first_wrong_name(rt.alloc());
+    assert!(rt; wrong.is_none(), "{wrong:?}");
 }
 
-/// Whether this is the quotient.
-fn divides(alloc: Global, x: i64, y: i64, quotient: i64) -> bool {
-    of_two(alloc, "tasks.div", x, y) == Outcome::Success(quotient)
-}
-
-#[test]
-fn quotients_are_rounded_down(rt: HostRuntime) {
-    for &(x, y, quotient) in &[
-        (7, 2, 3),
-        (-7, 2, -4),
-        (7, -2, -4),
-        (-7, -2, 3),
-        (6, 2, 3),
-        (-6, 2, -3),
-        (6, -2, -3),
-        (-6, -2, 3),
-        (0, -5, 0),
-        (1, 3, 0),
-        (-1, 3, -1),
-        (1, -3, -1),
-        (-1, -3, 0),
-    ] {
-        assert!(rt; divides(rt.alloc(), x, y, quotient), "{x} / {y}");
-    }
-    let by_zero = of_two(rt.alloc(), "tasks.div", 1, 0);
-    assert!(rt; by_zero == Outcome::Failure(Fault::Plain(Kind::ZeroDivision)));
-}
-
-/// What the sum of a list is, alone or in front of a number.
-fn sum_of(alloc: Global, numbers: &[i64], beside: bool) -> Option<Outcome> {
-    let none = BTreeMap::new(alloc);
+/// What the sum of a list is.
+fn sum_of(alloc: Global, numbers: &[i64]) -> Option<Outcome> {
     match list(alloc, numbers) {
-        Ok(list) => Some(if beside {
-            apply("tasks.xsum", &[list, Arg::Num(3)], &none)
-        } else {
-            apply("tasks.xsum", &[list], &none)
-        }),
+        Ok(list) => Some(apply("tasks.xsum", &[list], &BTreeMap::new(alloc))),
         Err(_) => None,
     }
 }
 
-const SUMS: [(&[i64], Outcome); 4] = [
-    (&[], Outcome::Success(0)),
-    (&[BOUND, BOUND, 1, -BOUND], OVERFLOW),
-    (&[BOUND, BOUND, -1, -BOUND], Outcome::Success(BOUND - 1)),
-    (
-        &[i64::MAX, i64::MAX, i64::MIN, i64::MIN, 5],
-        Outcome::Success(3),
-    ),
+/// The same where a number is behind the list.
+fn sum_in_front(alloc: Global, numbers: &[i64]) -> Option<Outcome> {
+    match list(alloc, numbers) {
+        Ok(list) => Some(apply("tasks.xsum", &[list, Arg::Num(3)], &BTreeMap::new(alloc))),
+        Err(_) => None,
+    }
+}
+
+static SUMS: [(&[i64], Result<i64, Kind>); 4] = [
+    (&[], Ok(0)),
+    (&[BOUND, BOUND, 1, -BOUND], Err(Kind::Overflow)),
+    (&[BOUND, BOUND, -1, -BOUND], Ok(BOUND - 1)),
+    (&[i64::MAX, i64::MAX, i64::MIN, i64::MIN, 5], Ok(3)),
 ];
+
+/// The first of these lists whose sum is another.
+fn first_wrong_sum(alloc: Global) -> Option<&'static [i64]> {
+    for (numbers, wanted) in &SUMS {
+        if sum_of(alloc, numbers) != Some(outcome(*wanted)) {
+            return Some(*numbers);
+        }
+    }
+    None
+}
 
 #[test]
 fn only_the_last_sum_counts(rt: HostRuntime) {
-    for (numbers, outcome) in &SUMS {
-        let found = sum_of(rt.alloc(), numbers, false);
-        assert!(rt; found == Some(*outcome), "{numbers:?}");
-    }
-    assert!(rt; sum_of(rt.alloc(), &[1, 2], true) == Some(BAD_CALL));
+    let wrong = first_wrong_sum(rt.alloc());
+    assert!(rt; wrong.is_none(), "{wrong:?}");
+    assert!(rt; sum_in_front(rt.alloc(), &[1, 2]) == Some(BAD_CALL));
 }
 
 const TEN: &str = "00000000-0000-8000-8000-00000000000a";
 
 const GREATEST_GROUP: &str = "00000000-0000-8000-9000-0000ffffffff";
 
-/// Whether a text is this task's identifier, or none's, and no group's.
-fn is_task(text: &str, task: Option<TaskNo>) -> bool {
-    task_of_text(text) == task && group_of_text(text).is_none()
+/// The identifier of task 10 in other forms.
+static TENS: [&str; 5] = [
+    TEN,
+    "00000000-0000-8000-8000-00000000000A",
+    "0000000000008000800000000000000a",
+    "{00000000-0000-8000-8000-00000000000a}",
+    "urn:uuid:00000000-0000-8000-8000-00000000000a",
+];
+
+/// No identifier of a task or group.
+static NO_IDENTIFIERS: [&str; 4] = [
+    "00000000-0000-8000-8000-000000000000",
+    "00000000-0000-4000-8000-00000000000a",
+    "a",
+    "",
+];
+
+/// The first text that isn't this task's identifier, or none's, or is a group's.
+fn first_wrong_identifier(
+    texts: &'static [&'static str],
+    task: Option<TaskNo>,
+) -> Option<&'static str> {
+    for &text in texts {
+        if task_of_text(text) != task || group_of_text(text).is_some() {
+            return Some(text);
+        }
+    }
+    None
 }
 
 fn has_texts(task: TaskNo, group: GroupNo) -> bool {
@@ -191,29 +215,18 @@ fn has_texts(task: TaskNo, group: GroupNo) -> bool {
         && group_text(group).as_slice() == GREATEST_GROUP.as_bytes()
 }
 
+fn is_group(text: &str, group: GroupNo) -> bool {
+    group_of_text(text) == Some(group) && task_of_text(text).is_none()
+}
+
 #[test]
 fn identifiers(rt: HostRuntime) {
-    let (ten, greatest) = (task(10), group(4294967295));
-    assert!(rt; has_texts(ten, greatest));
-    for &text in &[
-        TEN,
-        "00000000-0000-8000-8000-00000000000A",
-        "0000000000008000800000000000000a",
-        "{00000000-0000-8000-8000-00000000000a}",
-        "urn:uuid:00000000-0000-8000-8000-00000000000a",
-    ] {
-        assert!(rt; is_task(text, Some(ten)), "{text}");
-    }
-    for &text in &[
-        "00000000-0000-8000-8000-000000000000",
-        "00000000-0000-4000-8000-00000000000a",
-        "a",
-        "",
-    ] {
-        assert!(rt; is_task(text, None), "{text}");
-    }
-    assert!(rt; group_of_text(GREATEST_GROUP) == Some(greatest));
-    assert!(rt; task_of_text(GREATEST_GROUP).is_none());
+    assert!(rt; has_texts(task(10), group(4294967295)));
+    assert!(rt; is_group(GREATEST_GROUP, group(4294967295)));
+    let wrong = first_wrong_identifier(&TENS, Some(task(10)));
+    assert!(rt; wrong.is_none(), "{wrong:?}");
+    let wrong = first_wrong_identifier(&NO_IDENTIFIERS, None);
+    assert!(rt; wrong.is_none(), "{wrong:?}");
 }
 
 /// Whether an outcome is stored as this word, and read from it.
@@ -221,35 +234,56 @@ fn is_word(outcome: &Outcome, word: u64) -> bool {
     outcome_of(word) == Some(*outcome) && word_of(outcome) == word
 }
 
-fn is_no_word(word: u64) -> bool {
-    outcome_of(word).is_none()
+static WORDS: [(Result<i64, Kind>, u64); 4] = [
+    (Ok(-BOUND), 1),
+    (Ok(0), 1152921504606846977),
+    (Ok(BOUND), 2305843009213693953),
+    (Err(Kind::BadCall), 9223372036854775808),
+];
+
+static NO_WORDS: [u64; 6] = [
+    0,
+    2305843009213693954,
+    9223372036854775807,
+    9223372036854775812,
+    9223372036854775829,
+    u64::MAX,
+];
+
+/// The first of these words that is another outcome's.
+fn first_wrong_word() -> Option<u64> {
+    for (stored, word) in &WORDS {
+        if !is_word(&outcome(*stored), *word) {
+            return Some(*word);
+        }
+    }
+    None
+}
+
+/// The first of these words that is an outcome's.
+fn first_word() -> Option<u64> {
+    for &word in &NO_WORDS {
+        if outcome_of(word).is_some() {
+            return Some(word);
+        }
+    }
+    None
+}
+
+fn raised() -> Outcome {
+    Outcome::Failure(Fault::Chord {
+        dep: task(2),
+        why: Why::Plain(Kind::ZeroDivision),
+    })
 }
 
 #[test]
 fn words(rt: HostRuntime) {
-    let raised = Outcome::Failure(Fault::Chord {
-        dep: task(2),
-        why: Why::Plain(Kind::ZeroDivision),
-    });
-    assert!(rt; is_word(&raised, 9223372036854775841));
-    for (outcome, word) in &[
-        (Outcome::Success(-BOUND), 1),
-        (Outcome::Success(0), 1152921504606846977),
-        (Outcome::Success(BOUND), 2305843009213693953),
-        (BAD_CALL, 9223372036854775808),
-    ] {
-        assert!(rt; is_word(outcome, *word), "{word}");
-    }
-    for &word in &[
-        0,
-        2305843009213693954,
-        9223372036854775807,
-        9223372036854775812,
-        9223372036854775829,
-        u64::MAX,
-    ] {
-        assert!(rt; is_no_word(word), "{word}");
-    }
+    assert!(rt; is_word(&raised(), 9223372036854775841));
+    let wrong = first_wrong_word();
+    assert!(rt; wrong.is_none(), "{wrong:?}");
+    let wrong = first_word();
+    assert!(rt; wrong.is_none(), "{wrong:?}");
 }
 
 fn prints<D: Display>(alloc: Global, said: &D, text: &str) -> bool {
@@ -259,53 +293,86 @@ fn prints<D: Display>(alloc: Global, said: &D, text: &str) -> bool {
     }
 }
 
-#[test]
-fn texts(rt: HostRuntime) {
-    let alloc = rt.alloc();
-    let dep = task(10);
-    for &(why, text) in &[
-        (
-            Why::Plain(Kind::BadCall),
-            "ChordError: Dependency 00000000-0000-8000-8000-00000000000a raised TypeError",
-        ),
-        (
-            Why::Plain(Kind::Overflow),
-            "ChordError: Dependency 00000000-0000-8000-8000-00000000000a raised OverflowError",
-        ),
-        (
-            Why::Chord,
-            "ChordError: Dependency 00000000-0000-8000-8000-00000000000a raised ChordError",
-        ),
-    ] {
-        assert!(rt; prints(alloc, &Fault::Chord { dep, why }, text), "{text}");
+static WHYS: [(Why, &str); 3] = [
+    (
+        Why::Plain(Kind::BadCall),
+        "ChordError: Dependency 00000000-0000-8000-8000-00000000000a raised TypeError",
+    ),
+    (
+        Why::Plain(Kind::Overflow),
+        "ChordError: Dependency 00000000-0000-8000-8000-00000000000a raised OverflowError",
+    ),
+    (
+        Why::Chord,
+        "ChordError: Dependency 00000000-0000-8000-8000-00000000000a raised ChordError",
+    ),
+];
+
+/// The first of these texts that isn't that of what task 10 raised.
+fn first_wrong_chord(alloc: Global) -> Option<&'static str> {
+    for &(why, text) in &WHYS {
+        if !prints(alloc, &Fault::Chord { dep: task(10), why }, text) {
+            return Some(text);
+        }
     }
-    assert!(rt;
-        prints(
-            alloc,
-            &Fault::Plain(Kind::ZeroDivision),
-            "ZeroDivisionError"
-        )
-    );
-    assert!(rt; prints(alloc, &Kind::NotRegistered, "NotRegistered"));
-    assert!(rt; prints(alloc, &Memory, "memory refused"));
-    for (fault, text) in &[
-        (
-            AddFault::BadName,
-            "a task with a name that no task may have",
-        ),
-        (AddFault::Doubled, "a second task of a name"),
-        (AddFault::Memory, "memory refused"),
-    ] {
-        assert!(rt; prints(alloc, fault, text), "{text}");
+    None
+}
+
+static ADD_FAULTS: [(AddFault, &str); 3] = [
+    (
+        AddFault::BadName,
+        "a task with a name that no task may have",
+    ),
+    (AddFault::Doubled, "a second task of a name"),
+    (AddFault::Memory, "memory refused"),
+];
+
+/// The first of these texts that isn't that of its refusal.
+fn first_wrong_refusal(alloc: Global) -> Option<&'static str> {
+    for (fault, text) in &ADD_FAULTS {
+        if !prints(alloc, fault, text) {
+            return Some(*text);
+        }
     }
+    None
+}
+
+fn print_plainly(alloc: Global) -> bool {
+    prints(
+        alloc,
+        &Fault::Plain(Kind::ZeroDivision),
+        "ZeroDivisionError",
+    ) && prints(alloc, &Kind::NotRegistered, "NotRegistered")
+        && prints(alloc, &Memory, "memory refused")
 }
 
 #[test]
+fn texts(rt: HostRuntime) {
+    let wrong = first_wrong_chord(rt.alloc());
+    assert!(rt; wrong.is_none(), "{wrong:?}");
+    let wrong = first_wrong_refusal(rt.alloc());
+    assert!(rt; wrong.is_none(), "{wrong:?}");
+    assert!(rt; print_plainly(rt.alloc()));
+}
+
+/// The first of these names that may be a task's, or may not.
+fn first_name(names: &'static [&'static str], is_ok: bool) -> Option<&'static str> {
+    for &name in names {
+        if name_ok(name) == is_ok {
+            return Some(name);
+        }
+    }
+    None
+}
+
+static NAMES: [&str; 3] = ["tasks.add", "!", "~"];
+
+static NO_NAMES: [&str; 5] = ["", " ", "a b", "tasks.\u{e9}", "\u{7f}"];
+
+#[test]
 fn names(rt: HostRuntime) {
-    for &name in &["tasks.add", "!", "~"] {
-        assert!(rt; name_ok(name), "{name}");
-    }
-    for &name in &["", " ", "a b", "tasks.\u{e9}", "\u{7f}"] {
-        assert!(rt; !name_ok(name), "{name}");
-    }
+    let wrong = first_name(&NAMES, false);
+    assert!(rt; wrong.is_none(), "{wrong:?}");
+    let wrong = first_name(&NO_NAMES, true);
+    assert!(rt; wrong.is_none(), "{wrong:?}");
 }
