@@ -3,8 +3,8 @@ use Rattle.std.proofs.Common.{◌≡◌, ◌∙◌, ℕ, ◌+◌, ◌<◌, ◌==
 use Rattle.std.specs.Prelude.{codes}
 use Rattle.std.proofs.lemmas.Bool.Decides.{nat_tests}
 use Rattle.std.proofs.lemmas.List.{drop_more}
-use Rattle.json.specs.Token.{key, begin_array, begin_object, end_object}
-use Rattle.serde_json.specs.Data.{null}
+use Rattle.json.specs.Token.{Token, key, begin_array, begin_object, end_array, end_object}
+use Rattle.serde_json.specs.Data.{Data, null, no_items}
 use Rattle.canvas_task.specs.declared.arg.Arg.{Arg}
 use Rattle.canvas_semantics.specs.PlacedLine.{PTask, PLine, p_stop}
 use Rattle.canvas_wire.specs.Writing.{args_wire, kwargs_wire, tasks_member, chord_members}
@@ -18,11 +18,11 @@ use Rattle.canvas_rewrite.specs.declared.frozen.Carried.{Carried, out-Carried}
 use Rattle.canvas_message.specs.Content.{call_of, links_of, errbacks_of}
 use Rattle.canvas_message.specs.MessageView.{place_view, place_seen}
 use Rattle.canvas_message.specs.Wire.{list_or_null}
-use Rattle.canvas_writing.specs.steps.Tokens.{named_tokens, links_tokens, list_tokens}
+use Rattle.canvas_writing.specs.steps.Tokens.{named_tokens, links_tokens}
 use Rattle.canvas_message.proofs.Seen.{called, task_seen, chord_place, line_none, line_some, end_none, end_some}
 use Rattle.canvas_export.specs.Signatures.{Naming, task_id, Sig, group_sig, chord_sigs, task_sig, tasks_wire, elements, members_wire, first_wire, carried_wire}
-use Rattle.canvas_export.specs.steps.Elements.{call_front, sig_rest, first_front, first_kwargs, task_sigs, tail_sigs, chord_option, group_options}
-use Rattle.canvas_export.proofs.Sigs.{is_some, options_of, framed}
+use Rattle.canvas_export.specs.steps.Elements.{front_tokens, call_front, sig_rest, first_front, each_tokens, task_sigs, tail_sigs, chord_option, group_options}
+use Rattle.canvas_export.proofs.Sigs.{tasks_items, is_some, options_of, group_framed, chord_framed}
 
 -- ---- lists
 
@@ -49,10 +49,15 @@ module _ (n : Naming) where
   no_link k [] h = refl
   no_link k (t ∷ ts) h = absurd (grind (arith, nat_tests))
 
-  pub some_link : (k : List ℕ) (ts : List FrozenTask) → (length ts == 0) ≡ false
+  some_link : (k : List ℕ) (ts : List FrozenTask) → (length ts == 0) ≡ false
       → member_tokens k (tasks_wire n (p_tasks_of (map p_task_view ts))) ≡ link_tokens k (tasks_wire n (p_tasks_of (map p_task_view ts)))
   some_link k [] h = absurd cc
   some_link k (t ∷ ts) h = refl
+
+  pub link_written : (k : List ℕ) (ts : List FrozenTask) → (length ts == 0) ≡ false
+      → ((key k ∷ begin_array ∷ []) ++ each_tokens (task_sigs n (map p_task_view ts))) ++ end_array ∷ []
+      ≡ link_tokens k (tasks_wire n (p_tasks_of (map p_task_view ts)))
+  link_written k ts h = ap (λ x. key k ∷ begin_array ∷ x) (tasks_items n (map p_task_view ts)) ∙ some_link k ts h
 
   pub no_tasks : (ts : List FrozenTask) → (length ts == 0) ≡ true → data_tokens null
       ≡ data_tokens (list_or_null (tasks_wire n (p_tasks_of (map p_task_view ts))))
@@ -65,7 +70,7 @@ module _ (n : Naming) where
   some_tasks [] h = absurd cc
   some_tasks (t ∷ ts) h = refl
 
-  pub options_written : (t : FrozenTask)
+  options_written : (t : FrozenTask)
       → ((chord_option n (place_seen (out-FrozenTask t).place) ++ group_options n (out-FrozenTask t).no (place_seen (out-FrozenTask t).place))
       ++ links_tokens (tasks_wire n (links_of (p_task_view t))) (tasks_wire n (errbacks_of (p_task_view t))))
       ++ (named_tokens (codes "task_id") (task_id n (out-FrozenTask t).no) ++ end_object ∷ [])
@@ -78,18 +83,34 @@ module _ (n : Naming) where
       subst P (sym (task_seen t)) (options_of n k (called t) (p_tasks_of (map p_task_view (out-FrozenTask t).links))
       (p_tasks_of (map p_task_view (out-FrozenTask t).errbacks)) p)
 
-  pub links_are : (t : FrozenTask) → links_tokens (tasks_wire n (links_of (p_task_view t))) (tasks_wire n (errbacks_of (p_task_view t)))
+  links_are : (t : FrozenTask) → links_tokens (tasks_wire n (links_of (p_task_view t))) (tasks_wire n (errbacks_of (p_task_view t)))
       ≡ links_tokens (tasks_wire n (p_tasks_of (map p_task_view (out-FrozenTask t).links)))
       (tasks_wire n (p_tasks_of (map p_task_view (out-FrozenTask t).errbacks)))
   links_are t = ap (λ x. links_tokens (tasks_wire n (links_of x)) (tasks_wire n (errbacks_of x))) (task_seen t)
 
-  pub rest_written : (t : FrozenTask) (name : List ℕ) → name ≡ (out-FrozenTask t).name
+  rest_written : (t : FrozenTask) (name : List ℕ) → name ≡ (out-FrozenTask t).name
       → rest_members (task_sig n (p_task_view t)).options ++ (kind_tokens null ++ name_tokens name) ≡ sig_rest (task_sig n (p_task_view t))
   rest_written t name same =
       let P : PTask → Type 0 = λ v. rest_members (task_sig n v).options ++ (kind_tokens null ++ name_tokens (call_of v).name) ≡ sig_rest (task_sig n v) in
       ap (λ x. rest_members (task_sig n (p_task_view t)).options ++ (kind_tokens null ++ name_tokens x))
       (same ∙ ap (λ v. (call_of v).name) (sym (task_seen t)))
       ∙ subst P (sym (task_seen t)) refl
+
+  -- from the options on
+  module _ (t : FrozenTask) (links errbacks : List FrozenTask) (name : List ℕ) where
+    pub task_written : links ≡ (out-FrozenTask t).links → errbacks ≡ (out-FrozenTask t).errbacks → name ≡ (out-FrozenTask t).name
+        → (((chord_option n (place_seen (out-FrozenTask t).place) ++ group_options n (out-FrozenTask t).no (place_seen (out-FrozenTask t).place))
+        ++ links_tokens (tasks_wire n (p_tasks_of (map p_task_view links))) (tasks_wire n (p_tasks_of (map p_task_view errbacks))))
+        ++ (named_tokens (codes "task_id") (task_id n (out-FrozenTask t).no) ++ end_object ∷ [])) ++ (kind_tokens null ++ name_tokens name)
+        ≡ sig_rest (task_sig n (p_task_view t))
+    task_written same_links same_errbacks same_name =
+        let place : List Token = chord_option n (place_seen (out-FrozenTask t).place)
+        ++ group_options n (out-FrozenTask t).no (place_seen (out-FrozenTask t).place) in
+        let own : List Token = named_tokens (codes "task_id") (task_id n (out-FrozenTask t).no) ++ end_object ∷ [] in
+        let last : List Token = kind_tokens null ++ name_tokens name in
+        ap₂ (λ xs ys. ((place ++ links_tokens (tasks_wire n (p_tasks_of (map p_task_view xs))) (tasks_wire n (p_tasks_of (map p_task_view ys)))) ++ own)
+        ++ last) same_links same_errbacks
+        ∙ (ap (λ x. ((place ++ x) ++ own) ++ last) (sym (links_are t)) ∙ (ap (λ x. x ++ last) (options_written t) ∙ rest_written t name same_name))
 
   pub a_chord : (p : Place) (c : Carried) → (out-Place p).chord ≡ Some c
       → chord_option n (place_view p) ≡ named_tokens (codes "chord") (carried_wire (elements n (p_line_view (out-Carried c).body.value)))
@@ -166,32 +187,20 @@ module _ (n : Naming) where
   pub end_stands : (t : FrozenEnd) → is_some (elements n (p_end_view t)) ≡ true
   end_stands t = some_by t (out-FrozenEnd t).body refl
 
-  front_by : (t : FrozenEnd) (o : Option FrozenLine) → (out-FrozenEnd t).body ≡ o
-      → ((opening_tokens ++ first_kwargs (elements n (p_end_view t))) ++ key (codes "options") ∷ []) ++ begin_object ∷ []
+  pub group_front : (t : FrozenEnd) (ms : List FrozenLine) → (out-FrozenEnd t).body ≡ None → ms ≡ (out-FrozenEnd t).members
+      → opening_tokens ++ (member_tokens (codes "tasks") (members_wire n (p_lines_of (map p_line_view ms)))
+      ++ end_object ∷ key (codes "options") ∷ begin_object ∷ [])
       ≡ first_front (elements n (p_end_view t))
-  front_by t None e =
-      let P : List Sig → Type 0 = λ ss. ((opening_tokens ++ first_kwargs ss) ++ key (codes "options") ∷ []) ++ begin_object ∷ [] ≡ first_front ss in
-      subst P (sym (a_group t e)) (framed (tasks_member (members_wire n (p_lines_of (map p_line_view (out-FrozenEnd t).members)))))
-  front_by t (Some b) e =
-      let P : List Sig → Type 0 = λ ss. ((opening_tokens ++ first_kwargs ss) ++ key (codes "options") ∷ []) ++ begin_object ∷ [] ≡ first_front ss in
-      subst P (sym (a_header t b e)) (framed (chord_members (first_wire (elements n (p_line_view b)))
-      (members_wire n (p_lines_of (map p_line_view (out-FrozenEnd t).members)))))
+  group_front t ms e same =
+      group_framed (members_wire n (p_lines_of (map p_line_view ms)))
+      ∙ (ap (λ xs. front_tokens no_items false (tasks_member (members_wire n (p_lines_of (map p_line_view xs))))) same ∙ sym (ap first_front (a_group t e)))
 
-  pub end_front : (t : FrozenEnd)
-      → ((opening_tokens ++ first_kwargs (elements n (p_end_view t))) ++ key (codes "options") ∷ []) ++ begin_object ∷ []
+  pub chord_front : (t : FrozenEnd) (b : FrozenLine) (ms : List FrozenLine) → (out-FrozenEnd t).body ≡ Some b → ms ≡ (out-FrozenEnd t).members
+      → ((opening_tokens ++ key (codes "body") ∷ []) ++ data_tokens (first_wire (elements n (p_line_view b))))
+      ++ (member_tokens (codes "header") (members_wire n (p_lines_of (map p_line_view ms))) ++ end_object ∷ key (codes "options") ∷ begin_object ∷ [])
       ≡ first_front (elements n (p_end_view t))
-  end_front t = front_by t (out-FrozenEnd t).body refl
-
-  pub group_kwargs : (t : FrozenEnd) (ms : List FrozenLine) → (out-FrozenEnd t).body ≡ None → ms ≡ (out-FrozenEnd t).members
-      → list_tokens (codes "tasks") (members_wire n (p_lines_of (map p_line_view ms))) ≡ first_kwargs (elements n (p_end_view t))
-  group_kwargs t ms e same = ap (λ xs. list_tokens (codes "tasks") (members_wire n (p_lines_of (map p_line_view xs)))) same
-      ∙ sym (ap first_kwargs (a_group t e))
-
-  pub chord_kwargs : (t : FrozenEnd) (b : FrozenLine) (ms : List FrozenLine) → (out-FrozenEnd t).body ≡ Some b → ms ≡ (out-FrozenEnd t).members
-      → (key (codes "body") ∷ data_tokens (first_wire (elements n (p_line_view b))))
-      ++ list_tokens (codes "header") (members_wire n (p_lines_of (map p_line_view ms)))
-      ≡ first_kwargs (elements n (p_end_view t))
-  chord_kwargs t b ms e same =
-      ap (λ xs. (key (codes "body") ∷ data_tokens (first_wire (elements n (p_line_view b))))
-      ++ list_tokens (codes "header") (members_wire n (p_lines_of (map p_line_view xs)))) same
-      ∙ sym (ap first_kwargs (a_header t b e))
+  chord_front t b ms e same =
+      let body : Data = first_wire (elements n (p_line_view b)) in
+      chord_framed body (members_wire n (p_lines_of (map p_line_view ms)))
+      ∙ (ap (λ xs. front_tokens no_items false (chord_members body (members_wire n (p_lines_of (map p_line_view xs))))) same
+      ∙ sym (ap first_front (a_header t b e)))

@@ -7,6 +7,7 @@ use Rattle.json.specs.Token.{Token, begin_array, end_array}
 use Rattle.serde_json.specs.Data.{null}
 use Rattle.canvas_semantics.specs.PlacedLine.{PLine, p_stop, p_step, p_group_end, p_chord_end}
 use Rattle.canvas_wire.specs.steps.Tokens.{Appends, data_tokens, rest_tokens, link_tokens}
+use Rattle.canvas_wire.proofs.Writers.{Stands}
 use Rattle.canvas_rewrite.specs.FrozenView.{p_lines_of, p_task_view, p_line_view, p_end_view}
 use Rattle.canvas_rewrite.specs.declared.frozen.FrozenTask.{FrozenTask}
 use Rattle.canvas_rewrite.specs.declared.frozen.FrozenLine.{FrozenLine, out-FrozenLine}
@@ -57,12 +58,11 @@ module _ (n : Naming) where
       (rest_tokens (members_wire n (p_lines_of (map p_line_view (drop i ls))))) written
       (ap (λ vs. rest_tokens (members_wire n (p_lines_of vs))) (lines_dropped ls i l lt is)) kept
 
-  pub last_line : {E : Type 0} (r : Result (Unit {0}) E) (ls : List FrozenLine) (i : ℕ) (old out new : Written) (all : List Token) → length ls ≤ i
+  pub last_line : (ls : List FrozenLine) (i : ℕ) (old out new : Written) (all : List Token) → length ls ≤ i
       → (out.tokens ++ rest_tokens (members_wire n (p_lines_of (map p_line_view (drop i ls)))) ≡ old.tokens ++ all) × (out.before ≡ old.before)
-      → Appends r out new (end_array ∷ []) → Appends r old new all
-  last_line (Ok x) ls i old out new all le kept h =
-      (h.0 ∙ (ap (λ xs. out.tokens ++ rest_tokens (members_wire n (p_lines_of (map p_line_view xs)))) (sym (drop_all i ls le)) ∙ kept.0), h.1 ∙ kept.1)
-  last_line (Err x) ls i old out new all le kept h = tt
+      → Stands out new (end_array ∷ []) → Stands old new all
+  last_line ls i old out new all le kept ended =
+      (ended.0 ∙ (ap (λ xs. out.tokens ++ rest_tokens (members_wire n (p_lines_of (map p_line_view xs)))) (sym (drop_all i ls le)) ∙ kept.0), ended.1 ∙ kept.1)
 
   pub task_before : (ts : List FrozenTask) (j i : ℕ) (t : FrozenTask) (out new old : List Token) → i ≡ j + 1 → j < length ts → t ≡ get_or ts j t
       → new ≡ out ++ sig_tokens (task_sig n (p_task_view t))

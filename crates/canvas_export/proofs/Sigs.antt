@@ -2,11 +2,11 @@
 use Rattle.std.proofs.Common.{◌≡◌, ◌∙◌, ℕ, Bool, true, false, List, [], ◌∷◌, ◌++◌, reverse, refl, sym, ap, append_assoc, append-nil}
 use Rattle.std.specs.Prelude.{codes}
 use Rattle.std.proofs.lemmas.List.{reverse-append}
-use Rattle.json.specs.Token.{Token, key, begin_object, end_object, end_array}
-use Rattle.serde_json.specs.Data.{string, array, Items, no_items, item, Members}
+use Rattle.json.specs.Token.{Token, key, begin_array, begin_object, end_object, end_array}
+use Rattle.serde_json.specs.Data.{Data, string, array, Items, no_items, item, Members}
 use Rattle.canvas_semantics.specs.Tree.{Call}
 use Rattle.canvas_semantics.specs.PlacedLine.{PTask, p_task, PTasks, PPlace, p_nowhere, p_group, p_chord, PLine, p_stop, p_step, p_group_end, p_chord_end}
-use Rattle.canvas_wire.specs.Writing.{member_unless_empty}
+use Rattle.canvas_wire.specs.Writing.{tasks_member, chord_members, member_unless_empty}
 use Rattle.canvas_wire.specs.steps.Tokens.{data_tokens, rest_tokens, rest_members, front_tokens, flag_tokens, kwargs_tokens, kind_tokens, name_tokens, link_tokens, member_tokens, opening_tokens, closing_tokens}
 use Rattle.canvas_rewrite.specs.FrozenView.{p_tasks_of}
 use Rattle.canvas_message.specs.Content.{call_of}
@@ -183,11 +183,29 @@ task_carried n (p_task k call links errbacks p) ss = first_carried (task_sig n (
 
 -- ---- chains, and the front of a group or chord
 
-pub chain_written : (ss : List Sig)
-    → (opening_tokens ++ list_tokens (codes "tasks") (each_wire ss)) ++ closing_tokens (string (codes "chain")) (codes "celery.chain")
+pub chain_written : (x : List Token) (ss : List Sig) → x ++ end_array ∷ [] ≡ rest_tokens (each_wire ss)
+    → (((((opening_tokens ++ key (codes "tasks") ∷ []) ++ begin_array ∷ []) ++ x) ++ end_array ∷ []) ++ end_object ∷ [])
+    ++ closing_tokens (string (codes "chain")) (codes "celery.chain")
     ≡ data_tokens (chain_wire ss)
-chain_written ss = refl
+chain_written x ss e = ap (λ y. (((opening_tokens ++ key (codes "tasks") ∷ begin_array ∷ []) ++ y) ++ end_object ∷ [])
+    ++ closing_tokens (string (codes "chain")) (codes "celery.chain")) e
 
-pub framed : (kwargs : Members)
-    → ((opening_tokens ++ rest_members kwargs) ++ key (codes "options") ∷ []) ++ begin_object ∷ [] ≡ part.front_tokens no_items false kwargs
-framed kwargs = ap (λ x. opening_tokens ++ x) (append_assoc (rest_members kwargs) (key (codes "options") ∷ []) (begin_object ∷ []))
+pub members_ended : (k : List ℕ) (ms : Items) → ((member_tokens k ms ++ end_object ∷ []) ++ key (codes "options") ∷ []) ++ begin_object ∷ []
+    ≡ member_tokens k ms ++ end_object ∷ key (codes "options") ∷ begin_object ∷ []
+members_ended k ms = append_assoc (member_tokens k ms ++ end_object ∷ []) (key (codes "options") ∷ []) (begin_object ∷ [])
+    ∙ append_assoc (member_tokens k ms) (end_object ∷ []) (key (codes "options") ∷ begin_object ∷ [])
+
+pub group_framed : (ms : Items) → opening_tokens ++ (member_tokens (codes "tasks") ms ++ end_object ∷ key (codes "options") ∷ begin_object ∷ [])
+    ≡ part.front_tokens no_items false (tasks_member ms)
+group_framed ms = ap (λ x. opening_tokens ++ key (codes "tasks") ∷ begin_array ∷ x)
+    (sym (append_assoc (rest_tokens ms) (end_object ∷ []) (key (codes "options") ∷ begin_object ∷ [])))
+
+pub chord_framed : (b : Data) (ms : Items)
+    → ((opening_tokens ++ key (codes "body") ∷ []) ++ data_tokens b)
+    ++ (member_tokens (codes "header") ms ++ end_object ∷ key (codes "options") ∷ begin_object ∷ [])
+    ≡ part.front_tokens no_items false (chord_members b ms)
+chord_framed b ms =
+    ap (λ x. opening_tokens ++ key (codes "body") ∷ x)
+    (ap (λ x. data_tokens b ++ key (codes "header") ∷ begin_array ∷ x)
+    (sym (append_assoc (rest_tokens ms) (end_object ∷ []) (key (codes "options") ∷ begin_object ∷ [])))
+    ∙ sym (append_assoc (data_tokens b) (list_tokens (codes "header") ms) (key (codes "options") ∷ begin_object ∷ [])))

@@ -1,5 +1,5 @@
 -- Tokens that were written, said otherwise.
-use Rattle.std.proofs.Common.{◌≡◌, ◌∙◌, ℕ, List, [], ◌∷◌, ◌++◌, Option, Some, None, refl, sym, ap, codes}
+use Rattle.std.proofs.Common.{◌≡◌, ◌∙◌, ℕ, append_assoc, List, [], ◌∷◌, ◌++◌, Option, Some, None, refl, sym, ap, codes}
 use Rattle.std.specs.Prelude.{Result, Ok, Err}
 use Rattle.json.specs.Written.{Written}
 use Rattle.json.specs.Token.{Token, begin_object, end_object, key, string}
@@ -45,11 +45,11 @@ options_of_place n k p = options_by n k p (out-Place p).chord refl
 
 -- ---- headers
 
-abbrev headers_tokens : Naming → ℕ → PPlace → Option ℕ → List ℕ → List Token
-headers_tokens n k p parent name =
-    ((begin_object ∷ (header_place n k p ++ named_tokens (codes "id") (task_id n k)))
-    ++ (named_tokens (codes "lang") (json.string (codes "rs")) ++ (named_tokens (codes "parent_id") (parent_id n parent) ++ named_tokens (codes "root_id") (task_id n 1))))
-    ++ (key (codes "task") ∷ string name ∷ []) ++ (end_object ∷ [])
+abbrev pub headers_tokens : Naming → (own root : ℕ) → PPlace → Option ℕ → List ℕ → List Token
+headers_tokens n k r p parent name =
+    ((((((begin_object ∷ header_place n k p) ++ named_tokens (codes "id") (task_id n k)) ++ named_tokens (codes "lang") (json.string (codes "rs")))
+    ++ named_tokens (codes "parent_id") (parent_id n parent)) ++ named_tokens (codes "root_id") (task_id n r)) ++ (key (codes "task") ∷ string name ∷ []))
+    ++ (end_object ∷ [])
 
 abbrev pub headers_of_parts : Naming → ℕ → PPlace → Option ℕ → List ℕ → Data
 headers_of_parts n k p parent name =
@@ -61,10 +61,33 @@ headers_of_parts n k p parent name =
     (member (codes "task") (json.string name) no_members))))))
 
 pub headers_written : (n : Naming) (k : ℕ) (p : PPlace) (parent : Option ℕ) (name : List ℕ)
-    → headers_tokens n k p parent name ≡ data_tokens (headers_of_parts n k p parent name)
+    → headers_tokens n k 1 p parent name ≡ data_tokens (headers_of_parts n k p parent name)
 headers_written n k p_nowhere None name = refl
 headers_written n k p_nowhere (Some m) name = refl
 headers_written n k (p_group g) None name = refl
 headers_written n k (p_group g) (Some m) name = refl
 headers_written n k (p_chord g size body) None name = refl
 headers_written n k (p_chord g size body) (Some m) name = refl
+
+-- ---- the envelope
+
+abbrev pub envelope_of : (body headers properties : Data) → Data
+envelope_of body headers properties =
+    object (member (codes "body") body
+    (member (codes "content-encoding") (json.string (codes "utf-8"))
+    (member (codes "content-type") (json.string (codes "application/json"))
+    (member (codes "headers") headers
+    (member (codes "properties") properties no_members)))))
+
+regroup : (h p e : List Token) → ((h ++ key (codes "properties") ∷ []) ++ p) ++ e ≡ h ++ key (codes "properties") ∷ (p ++ e)
+regroup h p e = ap (λ x. x ++ e) (append_assoc h (key (codes "properties") ∷ []) p) ∙ append_assoc h (key (codes "properties") ∷ p) e
+
+pub envelope_written : (body : List ℕ) (headers properties : Data)
+    → (((((((begin_object ∷ named_tokens (codes "body") (json.string body)) ++ named_tokens (codes "content-encoding") (json.string (codes "utf-8")))
+    ++ named_tokens (codes "content-type") (json.string (codes "application/json"))) ++ key (codes "headers") ∷ []) ++ data_tokens headers)
+    ++ key (codes "properties") ∷ []) ++ data_tokens properties) ++ end_object ∷ []
+    ≡ data_tokens (envelope_of (json.string body) headers properties)
+envelope_written body headers properties =
+    ap (λ x. begin_object ∷ (named_tokens (codes "body") (json.string body) ++ (named_tokens (codes "content-encoding") (json.string (codes "utf-8"))
+    ++ (named_tokens (codes "content-type") (json.string (codes "application/json")) ++ key (codes "headers") ∷ x))))
+    (regroup (data_tokens headers) (data_tokens properties) (end_object ∷ []))

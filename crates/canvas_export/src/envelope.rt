@@ -1,15 +1,11 @@
 //! kombu's envelope: a message as it lies in a list of Redis.
 
-ghost use Rattle.std.specs.Prelude.{◌≡◌, ◌∷◌, ◌++◌, [], IfOk, OnOk, Some, codes, pos, true};
-ghost use Rattle.json.specs.Token.{begin_object};
+ghost use Rattle.std.specs.Prelude.{◌≡◌, IfOk, OnOk, Some, codes, true};
 ghost use Rattle.serde_json.specs.Data.{string};
-ghost use Rattle.canvas_wire.specs.Writing.{number_wire};
 ghost use Rattle.canvas_wire.specs.steps.Tokens.{Appends, data_tokens};
-ghost use Rattle.canvas_message.specs.Content.{number_of};
 ghost use Rattle.canvas_message.specs.Fits.{fits};
 ghost use Rattle.canvas_writing.specs.steps.Tokens.{named_tokens};
-ghost use Rattle.canvas_export.specs.Signatures.{task_id};
-ghost use Rattle.canvas_export.specs.Envelope.{delivery_wire, properties_wire, headers_wire, envelope_wire, message_text};
+ghost use Rattle.canvas_export.specs.Envelope.{delivery_wire, properties_wire, envelope_wire, message_text};
 ghost use Rattle.canvas_export.specs.MessageReading.{IsSound, read_message};
 ghost use Rattle.canvas_export.specs.Sizeless.{sizeless};
 ghost use Rattle.canvas_export.specs.ExportView.{naming};
@@ -32,24 +28,6 @@ fn write_delivery(out: &mut Writer, queue: &str) -> Result<(), AllocError>
     out.end_object()
 }
 
-/// The opening brace, and the members up to `delivery_info`.
-fn write_properties_front(
-    out: &mut Writer,
-    names: &Names<'_>,
-    queue: &str,
-    task: TaskNo,
-) -> Result<(), AllocError>
-    ensures { Appends result out.old out.new (begin_object
-        ∷ (named_tokens (codes "body_encoding") (string (codes "base64"))
-        ++ (named_tokens (codes "correlation_id") (task_id (naming names.now) task)
-        ++ named_tokens (codes "delivery_info") (delivery_wire queue.now)))) }
-{
-    out.begin_object()?;
-    write_text(out, "body_encoding", "base64")?;
-    write_task_member(out, names, "correlation_id", task)?;
-    write_delivery(out, queue)
-}
-
 fn write_properties(
     out: &mut Writer,
     names: &Names<'_>,
@@ -59,45 +37,17 @@ fn write_properties(
     ensures { Appends result out.old out.new
         (data_tokens (properties_wire (naming names.now) queue.now task)) }
 {
-    write_properties_front(out, names, queue, task)?;
+    out.begin_object()?;
+    write_text(out, "body_encoding", "base64")?;
+    write_task_member(out, names, "correlation_id", task)?;
+    write_delivery(out, queue)?;
     write_number(out, "delivery_mode", 2)?;
     write_task_member(out, names, "delivery_tag", task)?;
     write_number(out, "priority", 0)?;
     out.end_object()
 }
 
-/// The opening brace, and the body with how it is written.
-fn write_content(out: &mut Writer, body: &str) -> Result<(), AllocError>
-    ensures { Appends result out.old out.new (begin_object
-        ∷ (named_tokens (codes "body") (string body.now)
-        ++ (named_tokens (codes "content-encoding") (string (codes "utf-8"))
-        ++ named_tokens (codes "content-type") (string (codes "application/json"))))) }
-{
-    out.begin_object()?;
-    write_text(out, "body", body)?;
-    write_text(out, "content-encoding", "utf-8")?;
-    write_text(out, "content-type", "application/json")
-}
-
-/// The members `headers` and `properties` of a message, which fits.
-fn write_both(
-    out: &mut Writer,
-    names: &Names<'_>,
-    queue: &str,
-    message: &Message,
-) -> Result<(), AllocError>
-    ensures tokens { Appends result out.old out.new
-        (named_tokens (codes "headers") (headers_wire (naming names.now) message.now)
-        ++ named_tokens (codes "properties")
-        (properties_wire (naming names.now) queue.now (number_of message.now.own))) }
-    ensures checked { OnOk result (fits message.now ≡ true) }
-{
-    out.key("headers")?;
-    write_headers(out, names, message)?;
-    out.key("properties")?;
-    write_properties(out, names, queue, message.task)
-}
-
+/// The whole envelope of a message, which fits.
 fn write_envelope(
     out: &mut Writer,
     names: &Names<'_>,
@@ -109,8 +59,14 @@ fn write_envelope(
         (envelope_wire (naming names.now) queue.now (string body.now) message.now)) }
     ensures checked { OnOk result (fits message.now ≡ true) }
 {
-    write_content(out, body)?;
-    write_both(out, names, queue, message)?;
+    out.begin_object()?;
+    write_text(out, "body", body)?;
+    write_text(out, "content-encoding", "utf-8")?;
+    write_text(out, "content-type", "application/json")?;
+    out.key("headers")?;
+    write_headers(out, names, message)?;
+    out.key("properties")?;
+    write_properties(out, names, queue, message.task)?;
     out.end_object()
 }
 

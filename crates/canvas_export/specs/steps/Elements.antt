@@ -35,10 +35,6 @@ abbrev pub first_front : List Sig → List Token
 first_front [] = []
 first_front (s ∷ ss) = sig_front s
 
-abbrev pub first_kwargs : List Sig → List Token
-first_kwargs [] = []
-first_kwargs (s ∷ ss) = rest_members s.kwargs
-
 abbrev pub first_rest : List Sig → List Token
 first_rest [] = []
 first_rest (s ∷ ss) = sig_rest s

@@ -2,13 +2,12 @@
 
 ghost use Rattle.std.specs.Prelude.{◌≡◌, ◌∷◌, ◌++◌, IfOk, map, reverse, codes};
 ghost use Rattle.json.specs.Token.{begin_array, begin_object};
-ghost use Rattle.serde_json.specs.Data.{array, object};
+ghost use Rattle.serde_json.specs.Data.{array};
 ghost use Rattle.serde_json.specs.Written.{compact_text};
-ghost use Rattle.canvas_task.specs.Entries.{named};
-ghost use Rattle.canvas_wire.specs.Writing.{args_wire, kwargs_wire};
-ghost use Rattle.canvas_wire.specs.steps.Tokens.{Appends, data_tokens, rest_tokens};
+ghost use Rattle.canvas_wire.specs.Writing.{args_wire};
+ghost use Rattle.canvas_wire.specs.steps.Tokens.{Appends, data_tokens};
 ghost use Rattle.canvas_rewrite.specs.FrozenView.{p_tasks_of, p_task_view, p_line_view};
-ghost use Rattle.canvas_message.specs.MessageView.{place_seen, place_view, rest_seen};
+ghost use Rattle.canvas_message.specs.MessageView.{place_seen, rest_seen};
 ghost use Rattle.canvas_message.specs.Wire.{list_or_null};
 ghost use Rattle.canvas_message.specs.steps.Parts.{is_stop};
 ghost use Rattle.canvas_writing.specs.steps.Tokens.{named_tokens};
@@ -24,15 +23,6 @@ use canvas_task::Arg;
 use canvas_wire::{write_args, write_named};
 use json::Writer;
 use std::alloc::{AllocError, Global};
-use std::collections::BTreeMap;
-
-fn write_some(out: &mut Writer, names: &Names<'_>, tasks: &[FrozenTask]) -> Result<(), AllocError>
-    ensures { Appends result out.old out.new (begin_array ∷ rest_tokens
-        (tasks_wire (naming names.now) (p_tasks_of (map p_task_view tasks.now)))) }
-{
-    out.begin_array()?;
-    write_tasks(out, names, tasks)
-}
 
 /// Links or error callbacks, null where there is none.
 fn write_callbacks(
@@ -46,29 +36,8 @@ fn write_callbacks(
     if tasks.is_empty() {
         return out.null();
     }
-    write_some(out, names, tasks)
-}
-
-/// The rest of a list of a line's elements, the last of them first.
-fn write_backwards(out: &mut Writer, names: &Names<'_>, line: &FrozenLine) -> Result<(), AllocError>
-    ensures { Appends result out.old out.new (rest_tokens
-        (each_wire (reverse (elements (naming names.now) (p_line_view line.now))))) }
-{
-    write_tail_backwards(out, names, line)?;
-    write_reversed(out, names, line.tasks.get())?;
-    out.end_array()
-}
-
-fn write_all_backwards(
-    out: &mut Writer,
-    names: &Names<'_>,
-    line: &FrozenLine,
-) -> Result<(), AllocError>
-    ensures { Appends result out.old out.new (begin_array ∷ rest_tokens
-        (each_wire (reverse (elements (naming names.now) (p_line_view line.now))))) }
-{
     out.begin_array()?;
-    write_backwards(out, names, line)
+    write_tasks(out, names, tasks)
 }
 
 fn is_stop(line: &FrozenLine) -> bool
@@ -88,7 +57,10 @@ fn write_following(out: &mut Writer, names: &Names<'_>, line: &FrozenLine) -> Re
     if is_stop(line) {
         return out.null();
     }
-    write_all_backwards(out, names, line)
+    out.begin_array()?;
+    write_tail_backwards(out, names, line)?;
+    write_reversed(out, names, line.tasks.get())?;
+    out.end_array()
 }
 
 /// What follows on a message's line, the last first.
@@ -106,23 +78,16 @@ fn write_rest(
     }
 }
 
-fn write_chord_of(out: &mut Writer, names: &Names<'_>, place: &Place) -> Result<(), AllocError>
-    ensures { Appends result out.old out.new
-        (data_tokens (body_at (naming names.now) (place_view place.now))) }
-{
-    match &place.chord {
-        Some(carried) => write_carried(out, names, &carried.body),
-        None => out.null(),
-    }
-}
-
 /// The body that a message's place carries, or null.
 fn write_chord(out: &mut Writer, names: &Names<'_>, place: &Option<Place>) -> Result<(), AllocError>
     ensures { Appends result out.old out.new
         (data_tokens (body_at (naming names.now) (place_seen place.now))) }
 {
     match place {
-        Some(place) => write_chord_of(out, names, place),
+        Some(place) => match &place.chord {
+            Some(carried) => write_carried(out, names, &carried.body),
+            None => out.null(),
+        },
         None => out.null(),
     }
 }
@@ -183,20 +148,13 @@ fn write_arguments(out: &mut Writer, args: &[Arg]) -> Result<(), AllocError>
     write_args(out, args)
 }
 
-fn write_keywords(out: &mut Writer, kwargs: &BTreeMap<String, Arg>) -> Result<(), AllocError>
-    ensures { Appends result out.old out.new
-        (data_tokens (object (kwargs_wire (named kwargs.now.entries)))) }
-{
-    out.begin_object()?;
-    write_named(out, kwargs)
-}
-
 fn write_body(out: &mut Writer, names: &Names<'_>, message: &Message) -> Result<(), AllocError>
     ensures { Appends result out.old out.new
         (data_tokens (body_wire (naming names.now) message.now)) }
 {
     write_arguments(out, message.args.get())?;
-    write_keywords(out, message.kwargs.get())?;
+    out.begin_object()?;
+    write_named(out, message.kwargs.get())?;
     write_embed(out, names, message)?;
     out.end_array()
 }

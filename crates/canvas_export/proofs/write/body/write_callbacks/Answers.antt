@@ -1,5 +1,6 @@
 use Rattle.std.proofs.Common.{[], ◌∷◌, ◌∙◌, sym}
-use Rattle.json.specs.Token.{null}
+use Rattle.json.specs.Token.{null, begin_array}
+use Rattle.canvas_wire.proofs.Writers.{after_ok}
 use Rattle.canvas_export.specs.ExportView.{naming}
 use Rattle.canvas_export.proofs.Tokens.{appends_as}
 use Rattle.canvas_export.proofs.Lines.{appended}
@@ -14,5 +15,6 @@ returns-then-is_empty c =
 
 pub returns : goal.returns
 returns c =
-    appends_as c.write_some.result c.args.out.now c.write_some.new.out _ _
-    (some_tasks (naming c.args.names.now) c.args.tasks.now (sym c.is_empty.ensures ∙ c.if-is_empty.false)) c.write_some.ensures
+    let begun = c.in_ok-begin_array.ensures in
+    after_ok c.write_tasks.result c.args.out.now c.begin_array.new.self c.write_tasks.new.out (begin_array ∷ []) _ _ (begun.ok, begun.room.0)
+    c.write_tasks.ensures (some_tasks (naming c.args.names.now) c.args.tasks.now (sym c.is_empty.ensures ∙ c.if-is_empty.false))

@@ -1,19 +1,19 @@
-use Rattle.std.proofs.Common.{◌≡◌, ◌-◌, [], ◌∷◌, ◌++◌, ◌∙◌, map, reverse, length, drop, codes, refl, sym, ap, ap₂, arith, append-nil}
+use Rattle.std.proofs.Common.{◌≡◌, ◌-◌, [], ◌∷◌, ◌++◌, ◌∙◌, map, reverse, length, drop, codes, refl, sym, ap, arith, append-nil}
 use Rattle.std.proofs.lemmas.List.{drop_all}
 use Rattle.json.specs.Token.{null, key, begin_array, begin_object, end_array, end_object}
-use Rattle.canvas_wire.specs.steps.Tokens.{data_tokens, link_tokens}
+use Rattle.canvas_wire.specs.steps.Tokens.{data_tokens}
 use Rattle.canvas_wire.proofs.Writers.{after_ok, then_tokens}
-use Rattle.canvas_rewrite.specs.FrozenView.{p_tasks_of, p_task_view, p_line_view, p_end_view}
+use Rattle.canvas_rewrite.specs.FrozenView.{p_task_view, p_line_view, p_end_view}
 use Rattle.canvas_message.specs.MessageView.{place_seen}
 use Rattle.canvas_writing.specs.steps.Tokens.{named_tokens}
 use Rattle.canvas_message.proofs.Seen.{group_place}
-use Rattle.canvas_export.specs.Signatures.{tasks_wire, elements, behind, carried_wire, first_wire}
+use Rattle.canvas_export.specs.Signatures.{elements, behind, carried_wire, first_wire}
 use Rattle.canvas_export.specs.ExportView.{naming}
 use Rattle.canvas_export.specs.steps.Elements.{chord_option, each_tokens, task_sigs}
 use Rattle.canvas_export.proofs.Tokens.{appends_as}
-use Rattle.canvas_export.proofs.Sigs.{tasks_items, task_whole, each_items, two_elements, linked_behind, none_behind, chain_member, lone_member, chain_written, first_whole}
-use Rattle.canvas_export.proofs.Elements.{no_link, some_link, options_written, links_are, rest_written, a_chord, no_tail, no_element, a_group, end_stands, end_front, group_kwargs, chord_kwargs}
-use Rattle.canvas_export.proofs.Lines.{nothing, appended, next_task, last_task, next_line, last_line, task_before, elements_written, task_first, carried_task, others_written, others_turned, end_first, carried_end, end_behind, end_turned, tail_written, tail_turned, body_behind}
+use Rattle.canvas_export.proofs.Sigs.{task_whole, each_items, two_elements, linked_behind, none_behind, chain_member, lone_member, chain_written, members_ended, first_whole}
+use Rattle.canvas_export.proofs.Elements.{no_link, a_chord, no_tail, no_element, a_group, end_stands, link_written, task_written, group_front, chord_front}
+use Rattle.canvas_export.proofs.Lines.{nothing, appended, next_task, last_task, next_line, last_line, task_before, elements_written, others_written, end_behind, task_first, carried_task, others_turned, end_first, carried_end, end_turned, tail_written, tail_turned, body_behind}
 use Rattle.canvas_export.proofs.write.frozen.+celery.Goals as goal
 
 -- ---- tasks
@@ -24,22 +24,14 @@ write_link-returns-then-is_empty t c = nothing c.args.out.now _ (no_link (naming
 
 pub write_link-returns : goal.write_link-returns
 write_link-returns t c =
-    appends_as c.write_linked.result c.args.out.now c.write_linked.new.out _ _
-    (some_link (naming c.args.names.now) c.args.name.now c.args.tasks.now (sym c.is_empty.ensures ∙ c.if-is_empty.false)) c.write_linked.ensures
-
-pub write_linked-returns : goal.write_linked-returns
-write_linked-returns t c =
     let named = c.in_ok-key.ensures in
     let begun = c.in_ok-begin_array.ensures in
     let first = then_tokens c.args.out.now c.key.new.self c.begin_array.new.self (key c.args.name.now ∷ []) (begin_array ∷ []) (named.ok, named.room.0)
     (begun.ok, begun.room.0) in
-    after_ok c.write_tasks.result c.args.out.now c.begin_array.new.self c.write_tasks.new.out _ _ _ first c.write_tasks.ensures refl
-
-pub write_tasks-returns : goal.write_tasks-returns
-write_tasks-returns t c =
-    after_ok c.end_array.result c.args.out.now c.write_each.new.out c.end_array.new.self _ (end_array ∷ []) _ c.in_ok-write_each.ensures
+    let second = then_tokens c.args.out.now c.begin_array.new.self c.write_each.new.out _ _ first c.in_ok-write_each.ensures in
+    after_ok c.end_array.result c.args.out.now c.write_each.new.out c.end_array.new.self _ (end_array ∷ []) _ second
     (appended c.end_array.result c.write_each.new.out c.end_array.new.self end_array c.end_array.ensures)
-    (tasks_items (naming c.args.names.now) (map p_task_view c.args.tasks.now))
+    (link_written (naming c.args.names.now) c.args.name.now c.args.tasks.now (sym c.is_empty.ensures ∙ c.if-is_empty.false))
 
 pub write_each-loop-task-init : goal.write_each-loop-task-init
 write_each-loop-task-init t c = (refl, refl)
@@ -59,46 +51,38 @@ write_each-returns t c = (
   c.loop-task.invariant.1,
 )
 
-pub write_links-returns : goal.write_links-returns
-write_links-returns t c =
+pub write_chord_option-returns-in_ok-key-in-Some-chord : goal.write_chord_option-returns-in_ok-key-in-Some-chord
+write_chord_option-returns-in_ok-key-in-Some-chord t c =
     let n = naming c.args.names.now in
-    after_ok c.write_link-2.result c.args.out.now c.write_link.new.out c.write_link-2.new.out _ _ _ c.in_ok-write_link.ensures c.write_link-2.ensures
-    (ap₂ (λ xs ys. link_tokens (codes "link") (tasks_wire n (p_tasks_of (map p_task_view xs)))
-    ++ link_tokens (codes "link_error") (tasks_wire n (p_tasks_of (map p_task_view ys))))
-    (c.deref.ensures.value ∙ c.get.ensures) (c.deref-2.ensures.value ∙ c.get-2.ensures) ∙ sym (links_are n c.args.task.now))
-
-pub write_chord_of-returns-in_ok-key-in-Some : goal.write_chord_of-returns-in_ok-key-in-Some
-write_chord_of-returns-in_ok-key-in-Some t c =
-    let n = naming c.args.names.now in
-    let named = c.in_ok-key-in-Some.ensures in
+    let named = c.in_ok-key-in-Some-chord.ensures in
     after_ok c.write_carried.result c.args.out.now c.key.new.self c.write_carried.new.out (key (codes "chord") ∷ []) _ _ (named.ok, named.room.0)
     c.write_carried.ensures
     (ap (λ l. named_tokens (codes "chord") (carried_wire (elements n (p_line_view l)))) c.deref.ensures
-    ∙ sym (a_chord n c.args.place.now c.in-Some.carried c.in-Some.is))
+    ∙ (sym (a_chord n c.in-Some.place c.in-Some-chord.carried c.in-Some-chord.is) ∙ ap (λ p. chord_option n (place_seen p)) (sym c.in-Some.is)))
 
-pub write_chord_of-returns-in-None : goal.write_chord_of-returns-in-None
-write_chord_of-returns-in-None t c = nothing c.args.out.now _ (ap (chord_option (naming c.args.names.now)) (group_place c.args.place.now c.in-None.is))
-
-pub write_chord_option-returns-in-Some : goal.write_chord_option-returns-in-Some
-write_chord_option-returns-in-Some t c =
-    appends_as c.write_chord_of.result c.args.out.now c.write_chord_of.new.out _ _
-    (ap (λ p. chord_option (naming c.args.names.now) (place_seen p)) (sym c.in-Some.is)) c.write_chord_of.ensures
+pub write_chord_option-returns-in-None-chord : goal.write_chord_option-returns-in-None-chord
+write_chord_option-returns-in-None-chord t c =
+    let n = naming c.args.names.now in
+    nothing c.args.out.now _
+    (ap (λ p. chord_option n (place_seen p)) c.in-Some.is ∙ ap (chord_option n) (group_place c.in-Some.place c.in-None-chord.is))
 
 pub write_chord_option-returns-in-None : goal.write_chord_option-returns-in-None
 write_chord_option-returns-in-None t c = nothing c.args.out.now _ (ap (λ p. chord_option (naming c.args.names.now) (place_seen p)) c.in-None.is)
 
-pub write_options-returns : goal.write_options-returns
-write_options-returns t c =
-    let first = then_tokens c.args.out.now c.write_chord_option.new.out c.write_group_options.new.out _ _ c.in_ok-write_chord_option.ensures
-    c.in_ok-write_group_options.ensures in
-    let second = then_tokens c.args.out.now c.write_group_options.new.out c.write_links.new.out _ _ first c.in_ok-write_links.ensures in
-    after_ok c.write_own_id.result c.args.out.now c.write_links.new.out c.write_own_id.new.out _ _ _ second c.write_own_id.ensures
-    (options_written (naming c.args.names.now) c.args.task.now)
-
 pub write_task_rest-returns : goal.write_task_rest-returns
 write_task_rest-returns t c =
-    after_ok c.write_end.result c.args.out.now c.write_options.new.out c.write_end.new.out _ _ _ c.in_ok-write_options.ensures c.write_end.ensures
-    (rest_written (naming c.args.names.now) c.args.task.now _ (c.deref.ensures ∙ c.get.ensures))
+    let place = then_tokens c.args.out.now c.write_chord_option.new.out c.write_group_options.new.out _ _ c.in_ok-write_chord_option.ensures
+    c.in_ok-write_group_options.ensures in
+    let links = then_tokens c.write_group_options.new.out c.write_link.new.out c.write_link-2.new.out _ _ c.in_ok-write_link.ensures
+    c.in_ok-write_link-2.ensures in
+    let both = then_tokens c.args.out.now c.write_group_options.new.out c.write_link-2.new.out _ _ place links in
+    let closed = c.in_ok-end_object.ensures in
+    let id = then_tokens c.write_link-2.new.out c.write_task_member.new.out c.end_object.new.self _ (end_object ∷ []) c.in_ok-write_task_member.ensures
+    (closed.ok, closed.room.0) in
+    let own = then_tokens c.args.out.now c.write_link-2.new.out c.end_object.new.self _ _ both id in
+    after_ok c.write_end.result c.args.out.now c.end_object.new.self c.write_end.new.out _ _ _ own c.write_end.ensures
+    (task_written (naming c.args.names.now) c.args.task.now _ _ _ (c.deref.ensures.value ∙ c.get.ensures) (c.deref-2.ensures.value ∙ c.get-2.ensures)
+    (c.deref-3.ensures ∙ c.get-3.ensures))
 
 pub write_task-returns : goal.write_task-returns
 write_task-returns t c =
@@ -138,17 +122,6 @@ pub write_chain_option-returns-then-has_more : goal.write_chain_option-returns-t
 write_chain_option-returns-then-has_more t c =
     let n = naming c.args.names.now in
     let l = p_line_view c.args.line.now in
-    appends_as c.write_chain_member.result c.args.out.now c.write_chain_member.new.out _ _
-    (linked_behind (codes "chain") (elements n l) (two_elements n l ∙ (sym c.has_more.ensures ∙ c.if-has_more.true))) c.write_chain_member.ensures
-
-pub write_chain_option-returns : goal.write_chain_option-returns
-write_chain_option-returns t c =
-    let n = naming c.args.names.now in
-    let l = p_line_view c.args.line.now in
-    nothing c.args.out.now _ (none_behind (codes "chain") (elements n l) (two_elements n l ∙ (sym c.has_more.ensures ∙ c.if-has_more.false)))
-
-pub write_chain_member-returns : goal.write_chain_member-returns
-write_chain_member-returns t c =
     let named = c.in_ok-key.ensures in
     let begun = c.in_ok-begin_array.ensures in
     let first = then_tokens c.args.out.now c.key.new.self c.begin_array.new.self (key (codes "chain") ∷ []) (begin_array ∷ []) (named.ok, named.room.0)
@@ -156,7 +129,14 @@ write_chain_member-returns t c =
     let second = then_tokens c.args.out.now c.begin_array.new.self c.write_further_backwards.new.out _ _ first c.in_ok-write_further_backwards.ensures in
     after_ok c.end_array.result c.args.out.now c.write_further_backwards.new.out c.end_array.new.self _ (end_array ∷ []) _ second
     (appended c.end_array.result c.write_further_backwards.new.out c.end_array.new.self end_array c.end_array.ensures)
-    (ap (λ x. key (codes "chain") ∷ begin_array ∷ x) (each_items (reverse (behind (elements (naming c.args.names.now) (p_line_view c.args.line.now))))))
+    (ap (λ x. key (codes "chain") ∷ begin_array ∷ x) (each_items (reverse (behind (elements n l))))
+    ∙ linked_behind (codes "chain") (elements n l) (two_elements n l ∙ (sym c.has_more.ensures ∙ c.if-has_more.true)))
+
+pub write_chain_option-returns : goal.write_chain_option-returns
+write_chain_option-returns t c =
+    let n = naming c.args.names.now in
+    let l = p_line_view c.args.line.now in
+    nothing c.args.out.now _ (none_behind (codes "chain") (elements n l) (two_elements n l ∙ (sym c.has_more.ensures ∙ c.if-has_more.false)))
 
 -- ---- groups and chords
 
@@ -167,30 +147,31 @@ write_last-returns t c =
     c.write_end_rest.ensures
     (first_whole (elements n (p_end_view c.args.end.now)) (end_stands n c.args.end.now))
 
-pub write_end_front-returns : goal.write_end_front-returns
-write_end_front-returns t c =
-    let named = c.in_ok-key.ensures in
-    let first = then_tokens c.args.out.now c.write_opening.new.out c.write_end_kwargs.new.out _ _ c.in_ok-write_opening.ensures
-    c.in_ok-write_end_kwargs.ensures in
-    let second = then_tokens c.args.out.now c.write_end_kwargs.new.out c.key.new.self _ (key (codes "options") ∷ []) first (named.ok, named.room.0) in
-    after_ok c.begin_object.result c.args.out.now c.key.new.self c.begin_object.new.self _ (begin_object ∷ []) _ second
-    (appended c.begin_object.result c.key.new.self c.begin_object.new.self begin_object c.begin_object.ensures)
-    (end_front (naming c.args.names.now) c.args.end.now)
-
-pub write_end_kwargs-returns-in_ok-write_first-in-Some : goal.write_end_kwargs-returns-in_ok-write_first-in-Some
-write_end_kwargs-returns-in_ok-write_first-in-Some t c =
-    let n = naming c.args.names.now in
+pub write_end_front-returns-in_ok-write_first-in-Some : goal.write_end_front-returns-in_ok-write_first-in-Some
+write_end_front-returns-in_ok-write_first-in-Some t c =
     let named = c.in_ok-key-in-Some.ensures in
-    let first = then_tokens c.args.out.now c.key.new.self c.write_first.new.out (key (codes "body") ∷ []) _ (named.ok, named.room.0)
-    c.in_ok-write_first-in-Some.ensures in
-    after_ok c.write_members.result c.args.out.now c.write_first.new.out c.write_members.new.out _ _ _ first c.write_members.ensures
-    (chord_kwargs n c.args.end.now c.in-Some.body c.deref.result.now c.in-Some.is (c.deref.ensures.value ∙ c.get.ensures))
+    let first = then_tokens c.args.out.now c.write_opening.new.out c.key.new.self _ (key (codes "body") ∷ []) c.in_ok-write_opening.ensures
+    (named.ok, named.room.0) in
+    let second = then_tokens c.args.out.now c.key.new.self c.write_first.new.out _ _ first c.in_ok-write_first-in-Some.ensures in
+    after_ok c.write_members.result c.args.out.now c.write_first.new.out c.write_members.new.out _ _ _ second c.write_members.ensures
+    (chord_front (naming c.args.names.now) c.args.end.now c.in-Some.body c.deref.result.now c.in-Some.is (c.deref.ensures.value ∙ c.get.ensures))
 
-pub write_end_kwargs-returns-in-None : goal.write_end_kwargs-returns-in-None
-write_end_kwargs-returns-in-None t c =
-    appends_as c.write_members-in-None.result c.args.out.now c.write_members-in-None.new.out _ _
-    (group_kwargs (naming c.args.names.now) c.args.end.now c.deref-in-None.result.now c.in-None.is (c.deref-in-None.ensures.value ∙ c.get-in-None.ensures))
+pub write_end_front-returns-in-None : goal.write_end_front-returns-in-None
+write_end_front-returns-in-None t c =
+    after_ok c.write_members-in-None.result c.args.out.now c.write_opening.new.out c.write_members-in-None.new.out _ _ _ c.in_ok-write_opening.ensures
     c.write_members-in-None.ensures
+    (group_front (naming c.args.names.now) c.args.end.now c.deref-in-None.result.now c.in-None.is (c.deref-in-None.ensures.value ∙ c.get-in-None.ensures))
+
+pub write_members-loop-line-init : goal.write_members-loop-line-init
+write_members-loop-line-init t c = (refl, refl)
+
+pub write_members-loop-line-preserved : goal.write_members-loop-line-preserved
+write_members-loop-line-preserved t c =
+    let written = c.in_ok-write_member.ensures in (
+      next_line (naming c.args.names.now) c.args.lines.now c.loop-line.line-index c.line-item.result c.loop-line.out.tokens c.write_member.new.out.tokens _
+          (omega (arith, c.loop-line-test.true)) c.line-item.is written.0 c.loop-line.invariant.0,
+      written.1 ∙ c.loop-line.invariant.1,
+    )
 
 pub write_members-returns : goal.write_members-returns
 write_members-returns t c =
@@ -198,33 +179,36 @@ write_members-returns t c =
     let begun = c.in_ok-begin_array.ensures in
     let first = then_tokens c.args.out.now c.key.new.self c.begin_array.new.self (key c.args.name.now ∷ []) (begin_array ∷ []) (named.ok, named.room.0)
     (begun.ok, begun.room.0) in
-    let second = then_tokens c.args.out.now c.begin_array.new.self c.write_lines.new.out _ _ first c.in_ok-write_lines.ensures in
-    after_ok c.end_object.result c.args.out.now c.write_lines.new.out c.end_object.new.self _ (end_object ∷ []) _ second
-    (appended c.end_object.result c.write_lines.new.out c.end_object.new.self end_object c.end_object.ensures) refl
-
-pub write_lines-loop-line-init : goal.write_lines-loop-line-init
-write_lines-loop-line-init t c = (refl, refl)
-
-pub write_lines-loop-line-preserved : goal.write_lines-loop-line-preserved
-write_lines-loop-line-preserved t c =
-    let written = c.in_ok-write_member.ensures in (
-      next_line (naming c.args.names.now) c.args.lines.now c.loop-line.line-index c.line-item.result c.loop-line.out.tokens c.write_member.new.out.tokens _
-          (omega (arith, c.loop-line-test.true)) c.line-item.is written.0 c.loop-line.invariant.0,
-      written.1 ∙ c.loop-line.invariant.1,
-    )
-
-pub write_lines-returns : goal.write_lines-returns
-write_lines-returns t c =
-    last_line (naming c.args.names.now) c.end_array.result c.args.lines.now c.loop-line.line-index c.args.out.now c.loop-line.out c.end_array.new.self _
-    (omega (arith, c.loop-line-test.false)) c.loop-line.invariant
-    (appended c.end_array.result c.loop-line.out c.end_array.new.self end_array c.end_array.ensures)
+    let listed = c.in_ok-end_array.ensures in
+    let closed = c.in_ok-end_object.ensures in
+    let further = c.in_ok-key-2.ensures in
+    let lines = last_line (naming c.args.names.now) c.args.lines.now c.loop-line.line-index c.begin_array.new.self c.loop-line.out c.end_array.new.self _
+    (omega (arith, c.loop-line-test.false)) c.loop-line.invariant (listed.ok, listed.room.0) in
+    let second = then_tokens c.args.out.now c.begin_array.new.self c.end_array.new.self _ _ first lines in
+    let third = then_tokens c.args.out.now c.end_array.new.self c.end_object.new.self _ (end_object ∷ []) second (closed.ok, closed.room.0) in
+    let fourth = then_tokens c.args.out.now c.end_object.new.self c.key-2.new.self _ (key (codes "options") ∷ []) third (further.ok, further.room.0) in
+    after_ok c.begin_object.result c.args.out.now c.key-2.new.self c.begin_object.new.self _ (begin_object ∷ []) _ fourth
+    (appended c.begin_object.result c.key-2.new.self c.begin_object.new.self begin_object c.begin_object.ensures)
+    (members_ended c.args.name.now _)
 
 pub write_member-returns-then-has_more : goal.write_member-returns-then-has_more
 write_member-returns-then-has_more t c =
     let n = naming c.args.names.now in
     let l = p_line_view c.args.line.now in
-    appends_as c.write_chain.result c.args.out.now c.write_chain.new.out _ _
-    (chain_member (elements n l) (two_elements n l ∙ (sym c.has_more.ensures ∙ c.if-has_more.true))) c.write_chain.ensures
+    let named = c.in_ok-key.ensures in
+    let begun = c.in_ok-begin_array.ensures in
+    let listed = c.in_ok-end_array.ensures in
+    let closed = c.in_ok-end_object.ensures in
+    let first = then_tokens c.args.out.now c.write_opening.new.out c.key.new.self _ (key (codes "tasks") ∷ []) c.in_ok-write_opening.ensures
+    (named.ok, named.room.0) in
+    let second = then_tokens c.args.out.now c.key.new.self c.begin_array.new.self _ (begin_array ∷ []) first (begun.ok, begun.room.0) in
+    let elements_of = then_tokens c.begin_array.new.self c.write_each.new.out c.write_tail.new.out _ _ c.in_ok-write_each.ensures c.in_ok-write_tail.ensures in
+    let third = then_tokens c.args.out.now c.begin_array.new.self c.write_tail.new.out _ _ second elements_of in
+    let fourth = then_tokens c.args.out.now c.write_tail.new.out c.end_array.new.self _ (end_array ∷ []) third (listed.ok, listed.room.0) in
+    let fifth = then_tokens c.args.out.now c.end_array.new.self c.end_object.new.self _ (end_object ∷ []) fourth (closed.ok, closed.room.0) in
+    after_ok c.write_closing.result c.args.out.now c.end_object.new.self c.write_closing.new.out _ _ _ fifth c.write_closing.ensures
+    (chain_written _ (elements n l) (elements_written n c.args.line.now c.deref.result.now (c.deref.ensures.value ∙ c.get.ensures))
+    ∙ chain_member (elements n l) (two_elements n l ∙ (sym c.has_more.ensures ∙ c.if-has_more.true)))
 
 pub write_member-returns : goal.write_member-returns
 write_member-returns t c =
@@ -232,30 +216,6 @@ write_member-returns t c =
     let l = p_line_view c.args.line.now in
     appends_as c.write_first.result c.args.out.now c.write_first.new.out _ _
     (lone_member (elements n l) (two_elements n l ∙ (sym c.has_more.ensures ∙ c.if-has_more.false))) c.write_first.ensures
-
-pub write_chain-returns : goal.write_chain-returns
-write_chain-returns t c =
-    let front = then_tokens c.args.out.now c.write_opening.new.out c.write_list_of_elements.new.out _ _ c.in_ok-write_opening.ensures
-    c.in_ok-write_list_of_elements.ensures in
-    after_ok c.write_closing.result c.args.out.now c.write_list_of_elements.new.out c.write_closing.new.out _ _ _ front c.write_closing.ensures
-    (chain_written (elements (naming c.args.names.now) (p_line_view c.args.line.now)))
-
-pub write_list_of_elements-returns : goal.write_list_of_elements-returns
-write_list_of_elements-returns t c =
-    let named = c.in_ok-key.ensures in
-    let begun = c.in_ok-begin_array.ensures in
-    let first = then_tokens c.args.out.now c.key.new.self c.begin_array.new.self (key (codes "tasks") ∷ []) (begin_array ∷ []) (named.ok, named.room.0)
-    (begun.ok, begun.room.0) in
-    let second = then_tokens c.args.out.now c.begin_array.new.self c.write_elements.new.out _ _ first c.in_ok-write_elements.ensures in
-    after_ok c.end_object.result c.args.out.now c.write_elements.new.out c.end_object.new.self _ (end_object ∷ []) _ second
-    (appended c.end_object.result c.write_elements.new.out c.end_object.new.self end_object c.end_object.ensures) refl
-
-pub write_elements-returns : goal.write_elements-returns
-write_elements-returns t c =
-    let front = then_tokens c.args.out.now c.write_each.new.out c.write_tail.new.out _ _ c.in_ok-write_each.ensures c.in_ok-write_tail.ensures in
-    after_ok c.end_array.result c.args.out.now c.write_tail.new.out c.end_array.new.self _ (end_array ∷ []) _ front
-    (appended c.end_array.result c.write_tail.new.out c.end_array.new.self end_array c.end_array.ensures)
-    (elements_written (naming c.args.names.now) c.args.line.now c.deref.result.now (c.deref.ensures.value ∙ c.get.ensures))
 
 -- ---- the end of a line
 
@@ -269,10 +229,30 @@ write_tail-returns-in_ok-write_last-in-Some t c =
 pub write_tail-returns-in-None : goal.write_tail-returns-in-None
 write_tail-returns-in-None t c = nothing c.args.out.now _ (ap each_tokens (no_tail (naming c.args.names.now) c.args.line.now c.in-None.is))
 
-pub write_behind-returns-in-Some : goal.write_behind-returns-in-Some
-write_behind-returns-in-Some t c =
-    appends_as c.write_further.result c.args.out.now c.write_further.new.out _ _
-    (ap each_tokens (body_behind (naming c.args.names.now) c.args.end.now c.in-Some.body c.in-Some.is)) c.write_further.ensures
+pub write_behind-returns-in_ok-write_each-in-Some-split_first : goal.write_behind-returns-in_ok-write_each-in-Some-split_first
+write_behind-returns-in_ok-write_each-in-Some-split_first t c =
+    let n = naming c.args.names.now in
+    after_ok c.write_tail.result c.args.out.now c.write_each.new.out c.write_tail.new.out _ _ _ c.in_ok-write_each-in-Some-split_first.ensures
+    c.write_tail.ensures
+    (others_written n c.in-Some.body c.deref.result.now c.in-Some-split_first.others.now c.in-Some-split_first._task.now
+    (c.deref.ensures.value ∙ c.get.ensures) c.in-Some-split_first.ensures.cases.0
+    ∙ ap each_tokens (body_behind n c.args.end.now c.in-Some.body c.in-Some.is))
+
+pub write_behind-returns-in-Some-tail : goal.write_behind-returns-in-Some-tail
+write_behind-returns-in-Some-tail t c =
+    let n = naming c.args.names.now in
+    appends_as c.write_behind.result c.args.out.now c.write_behind.new.out _ _
+    (end_behind n c.in-Some.body c.deref.result.now c.in-Some-tail.last (c.deref.ensures.value ∙ c.get.ensures)
+    c.in-None-split_first.ensures.cases c.in-Some-tail.is c.deref-in-Some-tail.result.now c.deref-in-Some-tail.ensures
+    ∙ ap each_tokens (body_behind n c.args.end.now c.in-Some.body c.in-Some.is)) c.write_behind.ensures
+
+pub write_behind-returns-in-None-tail : goal.write_behind-returns-in-None-tail
+write_behind-returns-in-None-tail t c =
+    let n = naming c.args.names.now in
+    nothing c.args.out.now _
+    (ap each_tokens (sym (body_behind n c.args.end.now c.in-Some.body c.in-Some.is))
+    ∙ ap (λ ss. each_tokens (behind ss)) (no_element n c.in-Some.body c.deref.result.now
+    (c.deref.ensures.value ∙ c.get.ensures) c.in-None-split_first.ensures.cases c.in-None-tail.is))
 
 pub write_behind-returns-in-None : goal.write_behind-returns-in-None
 write_behind-returns-in-None t c = nothing c.args.out.now _ (ap (λ ss. each_tokens (behind ss))
@@ -343,23 +323,6 @@ write_first-returns-in-None-tail t c =
     (ap (λ ss. data_tokens (first_wire ss)) (sym (no_element (naming c.args.names.now) c.args.line.now c.deref.result.now
     (c.deref.ensures.value ∙ c.get.ensures) c.in-None.ensures.cases c.in-None-tail.is)))
     (appended c.null.result c.args.out.now c.null.new.self null c.null.ensures)
-
-pub write_further-returns-in_ok-write_each-in-Some : goal.write_further-returns-in_ok-write_each-in-Some
-write_further-returns-in_ok-write_each-in-Some t c =
-    after_ok c.write_tail.result c.args.out.now c.write_each.new.out c.write_tail.new.out _ _ _ c.in_ok-write_each-in-Some.ensures c.write_tail.ensures
-    (others_written (naming c.args.names.now) c.args.line.now c.deref.result.now c.in-Some.others.now c.in-Some._task.now
-    (c.deref.ensures.value ∙ c.get.ensures) c.in-Some.ensures.cases.0)
-
-pub write_further-returns-in-Some-tail : goal.write_further-returns-in-Some-tail
-write_further-returns-in-Some-tail t c =
-    appends_as c.write_behind.result c.args.out.now c.write_behind.new.out _ _
-    (end_behind (naming c.args.names.now) c.args.line.now c.deref.result.now c.in-Some-tail.end (c.deref.ensures.value ∙ c.get.ensures)
-    c.in-None.ensures.cases c.in-Some-tail.is c.deref-in-Some-tail.result.now c.deref-in-Some-tail.ensures) c.write_behind.ensures
-
-pub write_further-returns-in-None-tail : goal.write_further-returns-in-None-tail
-write_further-returns-in-None-tail t c =
-    nothing c.args.out.now _ (ap (λ ss. each_tokens (behind ss)) (no_element (naming c.args.names.now) c.args.line.now c.deref.result.now
-    (c.deref.ensures.value ∙ c.get.ensures) c.in-None.ensures.cases c.in-None-tail.is))
 
 pub write_further_backwards-returns-in_ok-write_tail_backwards-in-Some : goal.write_further_backwards-returns-in_ok-write_tail_backwards-in-Some
 write_further_backwards-returns-in_ok-write_tail_backwards-in-Some t c =
