@@ -95,8 +95,8 @@ struct ByTurns<'a> {
 
 impl ByTurns<'_> {
     fn counted(&self, answer: Answer, repeats: u64) -> Answer
-        ensures { (result.out ≡ answer.entry.out) × (result.refusal ≡ answer.entry.refusal)
-            × (result.status ≡ answer.entry.status) }
+        ensures { (result.out ≡ answer.out) × (result.refusal ≡ answer.refusal)
+            × (result.status ≡ answer.status) }
     {
         answer.with_remark(self.counts.then_some(Remark::Repeats(repeats)))
     }
