@@ -49,11 +49,16 @@ where
     Ok(report)
 }
 
+fn plan_of_sums(alloc: Global) -> Result<Plan> {
+    let canvas = Canvas::of(alloc, sums(alloc)?)?;
+    Ok(Plan::of(alloc, canvas)?)
+}
+
 fn report_of_sums<R>(rt: &R, alloc: Global) -> Result<String>
 where
     R: Threads + Wait + RandomSource + AllocGlobal + Sync,
 {
-    let plan = Plan::of(alloc, Canvas::of(alloc, sums(alloc)?)?)?;
+    let plan = plan_of_sums(alloc)?;
     let report = report_of(rt, alloc, &plan)?;
     Ok(report_text(alloc, &plan, &report)?)
 }
