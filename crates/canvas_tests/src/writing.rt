@@ -1,83 +1,19 @@
 //! Canvases and arguments that were composed, with their texts.
 
 use crate::reading::text_of;
-use crate::tasks::{list, named};
+use crate::tasks::list;
 use canvas_samples::composed::calls;
-use canvas_samples::notation::{is_text, is_written};
+use canvas_samples::notation::is_written;
 use canvas_sig::{Canvas, Node, SigFault, TaskSig, write_arg, write_canvas};
-use canvas_task::{Arg, ListOf, MapOf};
+use canvas_task::{Arg, ListOf};
 use serde_json::Value;
 use std::alloc::{AllocError, Global};
 
 const CHAIN: &str =
     r#"{"args":[],"immutable":false,"kwargs":{"tasks":[{"args":[1,1],"immutable":false,"kwargs":{},"options":{},"subtask_type":null,"task":"tasks.add"},{"args":[2],"immutable":false,"kwargs":{},"options":{},"subtask_type":null,"task":"tasks.mul"}]},"options":{},"subtask_type":"chain","task":"celery.chain"}"#;
 
-const CHORD: &str =
-    r#"{"args":[],"immutable":false,"kwargs":{"body":{"args":[],"immutable":false,"kwargs":{"tasks":[{"args":[],"immutable":false,"kwargs":{},"options":{},"subtask_type":null,"task":"tasks.xsum"},{"args":[2],"immutable":false,"kwargs":{},"options":{},"subtask_type":null,"task":"tasks.mul"}]},"options":{},"subtask_type":"chain","task":"celery.chain"},"header":[{"args":[1,1],"immutable":false,"kwargs":{},"options":{},"subtask_type":null,"task":"tasks.add"},{"args":[2,2],"immutable":false,"kwargs":{},"options":{},"subtask_type":null,"task":"tasks.add"}]},"options":{},"subtask_type":"chord","task":"celery.chord"}"#;
-
-const GROUP: &str =
-    r#"{"args":[],"immutable":false,"kwargs":{"tasks":[{"args":[[1,-2],"say \"hi\""],"immutable":true,"kwargs":{"by":7},"options":{"link":[{"args":[3],"immutable":false,"kwargs":{},"options":{},"subtask_type":null,"task":"tasks.mul"}],"link_error":[{"args":[],"immutable":false,"kwargs":{},"options":{},"subtask_type":null,"task":"tasks.log_error"}]},"subtask_type":null,"task":"tasks.ident"}]},"options":{},"subtask_type":"group","task":"celery.group"}"#;
-
 fn chain(alloc: Global) -> Result<Node, AllocError> {
     Ok(Node::Chain(calls(alloc, &[("tasks.add", &[1, 1]), ("tasks.mul", &[2])])?))
-}
-
-fn chord(alloc: Global) -> Result<Node, AllocError> {
-    let body = calls(alloc, &[("tasks.xsum", &[]), ("tasks.mul", &[2])])?;
-    let body = Box::new(alloc, Node::Chain(body))?;
-    let header = calls(alloc, &[("tasks.add", &[1, 1]), ("tasks.add", &[2, 2])])?;
-    Ok(Node::Chord { header, body })
-}
-
-/// A call with a list, a text, a named number and both kinds of callbacks.
-fn full_call(alloc: Global) -> Result<TaskSig, AllocError> {
-    let mut sig = TaskSig::new(alloc, "tasks.ident", &[])?;
-    fill(alloc, &mut sig)?;
-    Ok(sig)
-}
-
-fn fill(alloc: Global, sig: &mut TaskSig) -> Result<(), AllocError> {
-    sig.immutable = true;
-    sig.args = arguments(alloc)?;
-    sig.kwargs = MapOf::of(named(alloc, "by", 7)?);
-    sig.links = callback(alloc, "tasks.mul", &[3])?;
-    sig.errbacks = callback(alloc, "tasks.log_error", &[])?;
-    Ok(())
-}
-
-fn arguments(alloc: Global) -> Result<ListOf<Arg>, AllocError> {
-    let mut args = Vec::new(alloc);
-    args.push(list(alloc, &[1, -2])?)?;
-    args.push(text_of(alloc, "say \"hi\"")?)?;
-    Ok(ListOf::of(args))
-}
-
-fn callback(alloc: Global, name: &str, numbers: &[i64]) -> Result<ListOf<TaskSig>, AllocError> {
-    let mut sigs = Vec::new(alloc);
-    sigs.push(TaskSig::new(alloc, name, numbers)?)?;
-    Ok(ListOf::of(sigs))
-}
-
-fn group(alloc: Global) -> Result<Node, AllocError> {
-    let mut nodes = Vec::new(alloc);
-    nodes.push(Node::Task(full_call(alloc)?))?;
-    Ok(Node::Group(ListOf::of(nodes)))
-}
-
-/// Whether a signature, where it could be composed, is written as this text.
-fn writes(alloc: Global, composed: Result<Node, AllocError>, text: &str) -> bool {
-    match composed {
-        Ok(node) => is_text(alloc, &node, text),
-        Err(_) => false,
-    }
-}
-
-#[test]
-fn signatures(rt: HostRuntime) {
-    let alloc = rt.alloc();
-    assert!(rt; writes(alloc, chain(alloc), CHAIN));
-    assert!(rt; writes(alloc, chord(alloc), CHORD));
-    assert!(rt; writes(alloc, group(alloc), GROUP));
 }
 
 /// Whether a canvas is written as this text, and is written so again once it was read.
