@@ -45,7 +45,7 @@ pub fn filled(alloc: Global, frame: &str, part: &str) -> Result<String, AllocErr
 }
 
 /// Whether a signature is written as this text.
-pub fn is_text(alloc: Global, node: &Node, text: &str) -> bool {
+fn is_text(alloc: Global, node: &Node, text: &str) -> bool {
     match write_node(alloc, node) {
         Ok(found) => found.as_str() == text,
         Err(_) => false,

@@ -41,13 +41,6 @@ fn doubled(alloc: Global, count: u32, last: &str) -> Result<String, Memory> {
     Ok(short)
 }
 
-/// A group that doubles the numbers below ten.
-pub fn a_group_of_ten(alloc: Global) -> Result<Worked, Memory> {
-    let frame = repeated(alloc, 'G', ".", 10)?;
-    let report = doubled(alloc, 10, "result [0, 2, 4, 6, 8, 10, 12, 14, 16, 18]\n")?;
-    of_frame(alloc, &frame, &doubles(alloc, 10)?, &report)
-}
-
 /// A group that doubles the numbers below a hundred, and the sum of what it gives.
 pub fn a_hundred_and_their_sum(alloc: Global) -> Result<Worked, Memory> {
     let group = repeated(alloc, 'G', ".", 100)?;
@@ -66,7 +59,7 @@ pub fn a_failed_member(alloc: Global) -> Result<Worked, Memory> {
 }
 
 /// Its report.
-pub const A_FAILED_MEMBER: &str = concat!(
+const A_FAILED_MEMBER: &str = concat!(
     "#1 tasks.add SUCCESS 8\n",
     "#2 tasks.div FAILURE ZeroDivisionError\n",
     "#3 tasks.add SUCCESS 16\n",
@@ -74,8 +67,3 @@ pub const A_FAILED_MEMBER: &str = concat!(
     "#5 tasks.log_error SUCCESS 4\n",
     "result ChordError: Dependency #2 raised ZeroDivisionError\n"
 );
-
-/// A group of no members.
-pub fn nothing(alloc: Global) -> Result<Worked, Memory> {
-    of_frame(alloc, "G()", "", "result []\n")
-}
