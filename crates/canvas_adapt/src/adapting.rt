@@ -55,11 +55,19 @@ fn adapt_bytes(alloc: Global, bytes: &[u8]) -> Result<Adapted, SigFault> {
     adapt_parsed(alloc, &arena, &mut scratch, bytes)
 }
 
+/// Whether a text reads as a canvas.
+pub(crate) fn check_reads(alloc: Global, text: &[u8]) -> Result<(), SigFault>
+    ensures { IfOk result (λ _. (c : Tree) × (text_reading text.now ≡ Ok c)) }
+{
+    let _canvas = read_canvas(alloc, text)?;
+    Ok(())
+}
+
 /// What was made of a text, where it reads as a canvas.
 fn certified(alloc: Global, adapted: Adapted) -> Result<Adapted, SigFault>
     ensures { IfOk result (λ a. (c : Tree) × (text_reading a.text.items ≡ Ok c)) }
 {
-    let _canvas = read_canvas(alloc, &adapted.text)?;
+    check_reads(alloc, &adapted.text)?;
     Ok(adapted)
 }
 

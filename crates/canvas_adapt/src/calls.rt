@@ -3,7 +3,6 @@
 use crate::changes::Change;
 use crate::form::{called_task, takes_items};
 use crate::given::Given;
-use crate::made::Made;
 use crate::member::object_of;
 use crate::work::Work;
 use bumpalo::Bump;
@@ -43,29 +42,34 @@ pub(crate) fn group_of<'a>(
 }
 
 /// The arguments of the call with one item.
-fn arguments_of<'a>(value: &Datum<'a>, item: &'a Datum<'a>) -> Datum<'a> {
+fn arguments_of<'a>(
+    arena: &'a Bump,
+    value: &Datum<'a>,
+    item: &Datum<'a>,
+) -> Result<Datum<'a>, SigFault> {
     if takes_items(value) {
-        return Datum::List(slice::from_ref(item));
+        return Ok(Datum::List(arena.try_alloc_slice_copy(slice::from_ref(item))?));
     }
-    *item
+    Ok(*item)
+}
+
+/// The calls with all items.
+fn calls_of<'a>(arena: &'a Bump, value: &Datum<'a>) -> Result<&'a [Datum<'a>], SigFault> {
+    let items = listed(kwarg_of(value, "it"));
+    let Some(task) = called_task(value) else {
+        return Ok(items);
+    };
+    if items.len() > MOST_CALLS {
+        return Err(SigFault::TooMany);
+    }
+    let calls = arena.try_alloc_slice_copy(items)?;
+    for call in calls.iter_mut() {
+        *call = call_of(arena, task, &arguments_of(arena, value, call)?)?;
+    }
+    Ok(calls)
 }
 
 impl<'a> Work<'a> {
-    /// The call with one item.
-    fn call(
-        &mut self,
-        value: &Datum<'a>,
-        item: &'a Datum<'a>,
-        given: &Given<'a>,
-        left: u32,
-    ) -> Result<Datum<'a>, SigFault> {
-        let Some(task) = called_task(value) else {
-            return Ok(*value);
-        };
-        let call = call_of(self.arena, task, &arguments_of(value, item))?;
-        self.adapt_task(&call, given, left)
-    }
-
     /// The calls with all items, as a group.
     pub(crate) fn adapt_calls(
         &mut self,
@@ -73,16 +77,10 @@ impl<'a> Work<'a> {
         given: &Given<'a>,
         left: u32,
     ) -> Result<Datum<'a>, SigFault> {
-        let items = listed(kwarg_of(value, "it"));
-        if items.len() > MOST_CALLS {
-            return Err(SigFault::TooMany);
-        }
+        let calls = calls_of(self.arena, value)?;
         self.count(Change::Map, 1);
         let given = self.with_own(value, &given.of_group(), left)?;
-        let mut calls = Made::new(self.arena);
-        for item in items {
-            calls.push(self.call(value, item, &given, left)?)?;
-        }
-        group_of(self.arena, calls.done())
+        let calls = self.adapt_tasks(calls, &given, left)?;
+        group_of(self.arena, calls)
     }
 }

@@ -133,3 +133,7 @@ pub(crate) fn form_of(value: &Datum<'_>) -> Form {
         None => Form::Other,
     }
 }
+
+pub(crate) fn is_task(value: &Datum<'_>) -> bool {
+    matches!(form_of(value), Form::Task)
+}

@@ -152,13 +152,23 @@ impl<'a> Work<'a> {
         Ok(false)
     }
 
+    /// Adds a value, where none that was added is like it.
+    fn add_new(
+        &mut self,
+        made: &mut Made<'a, Datum<'a>>,
+        value: &Datum<'a>,
+    ) -> Result<(), SigFault> {
+        if self.has(made.get(), value, weight_of(value, MOST_BYTES))? {
+            return Ok(());
+        }
+        made.push(*value)
+    }
+
     /// Of values that are alike the first.
     pub(crate) fn once(&mut self, values: &'a [Datum<'a>]) -> Result<&'a [Datum<'a>], SigFault> {
         let mut made = Made::new(self.arena);
         for value in values {
-            if !self.has(made.get(), value, weight_of(value, MOST_BYTES))? {
-                made.push(*value)?;
-            }
+            self.add_new(&mut made, value)?;
         }
         Ok(made.done())
     }

@@ -52,24 +52,16 @@ fn add_behind<'a>(
     Ok(())
 }
 
-/// The members, with this one in the place of that name.
+/// The members, with these in the place of the one of that name.
 fn with<'a>(
     arena: &'a Bump,
     members: Members<'a>,
-    name: &'a str,
-    value: Datum<'a>,
+    name: &str,
+    own: &[(&'a str, Datum<'a>)],
 ) -> Result<Members<'a>, SigFault> {
     let mut made = Made::new(arena);
     add_before(&mut made, members, name)?;
-    made.push((name, value))?;
-    add_behind(&mut made, members, name)?;
-    Ok(made.done())
-}
-
-/// The members without the one of that name.
-fn without<'a>(arena: &'a Bump, members: Members<'a>, name: &str) -> Result<Members<'a>, SigFault> {
-    let mut made = Made::new(arena);
-    add_before(&mut made, members, name)?;
+    made.push_all(own)?;
     add_behind(&mut made, members, name)?;
     Ok(made.done())
 }
@@ -81,7 +73,8 @@ pub(crate) fn with_member<'a>(
     name: &'a str,
     member: Datum<'a>,
 ) -> Result<Datum<'a>, SigFault> {
-    Ok(Datum::Object(with(arena, members_of(value), name, member)?))
+    let members = with(arena, members_of(value), name, &[(name, member)])?;
+    Ok(Datum::Object(members))
 }
 
 /// An object of which a member, an object itself, has this member in the place of that name.
@@ -96,7 +89,7 @@ pub(crate) fn with_inner<'a>(
         Some(inner) => members_of(inner),
         None => &[],
     };
-    let inner = with(arena, inner, name, member)?;
+    let inner = with(arena, inner, name, &[(name, member)])?;
     with_member(arena, value, outer, Datum::Object(inner))
 }
 
@@ -107,8 +100,8 @@ pub(crate) fn without_callbacks<'a>(
 ) -> Result<Datum<'a>, SigFault> {
     match value.get("options") {
         Some(Datum::Object(options)) => {
-            let left = without(arena, options, "link")?;
-            let left = without(arena, left, "link_error")?;
+            let left = with(arena, options, "link", &[])?;
+            let left = with(arena, left, "link_error", &[])?;
             with_member(arena, value, "options", Datum::Object(left))
         }
         _ => Ok(*value),

@@ -6,9 +6,9 @@ use crate::given::Given;
 use crate::made::Made;
 use crate::member::{with_inner, without_callbacks};
 use crate::work::Work;
-use bumpalo::Bump;
 use canvas_sig::SigFault;
-use canvas_sig::parts::{Datum, MOST_LEVELS, kwarg_of, listed, own_fault};
+use canvas_sig::parts::{Datum, MOST_LEVELS, is_list, kwarg_of, listed, own_fault};
+use std::slice;
 
 /// The members that a member of a group gives the group: those of a group, and of a chain of one.
 /// One with a fault of its own stays as it is, and is refused.
@@ -40,26 +40,41 @@ fn add_turned<'a>(made: &mut Made<'a, Datum<'a>>, values: &'a [Datum<'a>]) -> Re
     Ok(())
 }
 
-/// A chain or group of these members, without callbacks of its own.
-fn with_members<'a>(
-    arena: &'a Bump,
-    value: &Datum<'a>,
-    members: Datum<'a>,
-) -> Result<Datum<'a>, SigFault> {
-    let bare = without_callbacks(arena, value)?;
-    with_inner(arena, &bare, "kwargs", "tasks", members)
+/// How signatures stand under a name in a chain, group or chord.
+#[derive(Clone, Copy)]
+enum Place {
+    /// The elements of a chain.
+    Elements,
+    /// The members of a group, or of a header that is a list.
+    Members,
+    /// One signature: a body, or a header that is no list.
+    Alone,
 }
 
-/// A chord of these parts, without callbacks of its own.
-fn with_parts<'a>(
-    arena: &'a Bump,
-    value: &Datum<'a>,
-    header: Datum<'a>,
-    body: Datum<'a>,
-) -> Result<Datum<'a>, SigFault> {
-    let bare = without_callbacks(arena, value)?;
-    let half = with_inner(arena, &bare, "kwargs", "header", header)?;
-    with_inner(arena, &half, "kwargs", "body", body)
+/// The signatures that stand there.
+fn values_at<'a>(value: &Datum<'a>, name: &str, place: Place) -> &'a [Datum<'a>] {
+    match (place, kwarg_of(value, name)) {
+        (Place::Alone, Some(one)) => slice::from_ref(one),
+        (Place::Alone, None) => &[],
+        (_, field) => listed(field),
+    }
+}
+
+/// What the signatures that stand there are given of what is given for them.
+fn given_at<'a>(given: &Given<'a>, place: Place, is_last: bool) -> Given<'a> {
+    match place {
+        Place::Elements => given.of_element(is_last),
+        Place::Members => given.of_part(false),
+        Place::Alone => given.of_part(true),
+    }
+}
+
+/// How a chord's header stands in it.
+fn place_of_header(value: &Datum<'_>) -> Place {
+    if is_list(kwarg_of(value, "header")) {
+        return Place::Members;
+    }
+    Place::Alone
 }
 
 impl<'a> Work<'a> {
@@ -88,100 +103,83 @@ impl<'a> Work<'a> {
         }
     }
 
-    /// Members of a group or of a header.
-    #[cycle(node)]
-    fn adapt_members(
+    /// Adds the members of a group.
+    fn add_members(
         &mut self,
-        members: &'a [Datum<'a>],
-        given: &Given<'a>,
-        left: u32,
-    ) -> Result<Datum<'a>, SigFault> {
-        let part = given.of_part(false);
-        let mut made = Made::new(self.arena);
-        for member in members {
-            let adapted = self.adapt_node(member, &part, left)?;
-            self.add_member(&mut made, member, &adapted, given.is_frozen)?;
+        made: &mut Made<'a, Datum<'a>>,
+        written: &[Datum<'a>],
+        adapted: &[Datum<'a>],
+        is_frozen: bool,
+    ) -> Result<(), SigFault> {
+        for (written, adapted) in written.iter().zip(adapted) {
+            self.add_member(made, written, adapted, is_frozen)?;
         }
-        Ok(Datum::List(made.done()))
+        Ok(())
     }
 
-    #[cycle(node)]
-    fn adapt_elements(
+    /// What stands there in place of what was written, once that is adapted.
+    fn made_of(
         &mut self,
-        chain: &Datum<'a>,
+        place: Place,
+        is_frozen: bool,
+        written: &[Datum<'a>],
+        adapted: &'a [Datum<'a>],
+    ) -> Result<Datum<'a>, SigFault> {
+        match (place, adapted) {
+            (Place::Alone, [one]) => Ok(*one),
+            (Place::Members, _) => {
+                let mut made = Made::new(self.arena);
+                self.add_members(&mut made, written, adapted, is_frozen)?;
+                Ok(Datum::List(made.done()))
+            }
+            _ => Ok(Datum::List(adapted)),
+        }
+    }
+
+    /// A chain, group or chord with what stands in it under a name adapted, and without callbacks of
+    /// its own.
+    #[cycle(node)]
+    fn adapt_inner(
+        &mut self,
+        value: &Datum<'a>,
+        name: &'a str,
+        place: Place,
         given: &Given<'a>,
         left: u32,
     ) -> Result<Datum<'a>, SigFault> {
-        let elements = listed(kwarg_of(chain, "tasks"));
-        let made = self.arena.try_alloc_slice_copy(elements)?;
-        let mut behind = made.len();
-        for element in made.iter_mut() {
+        let written = values_at(value, name, place);
+        let adapted = self.arena.try_alloc_slice_copy(written)?;
+        let mut behind = adapted.len();
+        for inner in adapted.iter_mut() {
             behind = behind.saturating_sub(1);
-            let given = given.of_element(behind == 0);
-            *element = self.adapt_node(element, &given, left)?;
+            let given = given_at(given, place, behind == 0);
+            *inner = self.adapt_node(inner, &given, left)?;
         }
-        Ok(Datum::List(made))
+        let made = self.made_of(place, given.is_frozen, written, adapted)?;
+        let bare = without_callbacks(self.arena, value)?;
+        with_inner(self.arena, &bare, "kwargs", name, made)
     }
 
+    /// A chain, group or chord, with what its parts are given.
     #[cycle(node)]
-    fn adapt_chain(
+    fn adapt_parts(
         &mut self,
         value: &Datum<'a>,
+        form: Form,
         given: &Given<'a>,
         left: u32,
     ) -> Result<Datum<'a>, SigFault> {
         let given = self.with_own(value, given, left)?;
-        let elements = self.adapt_elements(value, &given, left)?;
-        with_members(self.arena, value, elements)
-    }
-
-    #[cycle(node)]
-    fn adapt_group(
-        &mut self,
-        value: &Datum<'a>,
-        given: &Given<'a>,
-        left: u32,
-    ) -> Result<Datum<'a>, SigFault> {
-        let given = self.with_own(value, &given.of_group(), left)?;
-        let members = self.adapt_members(listed(kwarg_of(value, "tasks")), &given, left)?;
-        with_members(self.arena, value, members)
-    }
-
-    /// A header, which is a list or a signature.
-    #[cycle(node)]
-    fn adapt_header(&mut self, value: &Datum<'a>, left: u32) -> Result<Datum<'a>, SigFault> {
-        let given = Given::none().of_part(true);
-        match kwarg_of(value, "header") {
-            Some(Datum::List(members)) => self.adapt_members(members, &given, left),
-            Some(header) => self.adapt_node(header, &given, left),
-            None => Ok(Datum::Null),
+        match form {
+            Form::Chain => self.adapt_inner(value, "tasks", Place::Elements, &given, left),
+            Form::Group => self.adapt_inner(value, "tasks", Place::Members, &given, left),
+            _ => {
+                let place = place_of_header(value);
+                let alone = Given::none().of_part(true);
+                let half = self.adapt_inner(value, "header", place, &alone, left)?;
+                self.adapt_inner(&half, "body", Place::Alone, &given, left)
+            }
         }
-    }
-
-    #[cycle(node)]
-    fn adapt_body(
-        &mut self,
-        value: &Datum<'a>,
-        given: &Given<'a>,
-        left: u32,
-    ) -> Result<Datum<'a>, SigFault> {
-        match kwarg_of(value, "body") {
-            Some(body) => self.adapt_node(body, given, left),
-            None => Ok(Datum::Null),
-        }
-    }
-
-    #[cycle(node)]
-    fn adapt_chord(
-        &mut self,
-        value: &Datum<'a>,
-        given: &Given<'a>,
-        left: u32,
-    ) -> Result<Datum<'a>, SigFault> {
-        let given = self.with_own(value, given, left)?;
-        let header = self.adapt_header(value, left)?;
-        let body = self.adapt_body(value, &given.of_part(true), left)?;
-        with_parts(self.arena, value, header, body)
     }
 
     /// A signature, with what it is given. Signatures in it nest at most `left` deep.
@@ -197,11 +195,10 @@ impl<'a> Work<'a> {
         }
         match form_of(value) {
             Form::Task => self.adapt_task(value, given, left - 1),
-            Form::Chain => self.adapt_chain(value, given, left - 1),
-            Form::Group => self.adapt_group(value, given, left - 1),
-            Form::Chord => self.adapt_chord(value, given, left - 1),
             Form::Calls => self.adapt_calls(value, given, left - 1),
+            Form::Group => self.adapt_parts(value, Form::Group, &given.of_group(), left - 1),
             Form::Other => Ok(*value),
+            form => self.adapt_parts(value, form, given, left - 1),
         }
     }
 }

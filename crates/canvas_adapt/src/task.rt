@@ -1,5 +1,6 @@
 //! Tasks.
 
+use crate::form::is_task;
 use crate::given::{Callback, Given, values_in};
 use crate::member::{with_inner, with_member};
 use crate::work::Work;
@@ -18,24 +19,40 @@ impl<'a> Work<'a> {
         }
     }
 
-    /// A task that has these callbacks behind its own of that name.
-    #[cycle(task)]
+    /// A task whose callbacks of that name are its own, and behind them those that it is given.
     fn with_callbacks(
         &mut self,
         task: &Datum<'a>,
         name: &'a str,
+        own: &'a [Datum<'a>],
         given: &'a [Callback<'a>],
-        left: u32,
     ) -> Result<Datum<'a>, SigFault> {
-        let own = values_in(option_of(task, name));
         if own.is_empty() && given.is_empty() {
             return Ok(*task);
         }
-        let callbacks = self.adapt_callbacks(own, given, left)?;
-        with_inner(self.arena, task, "options", name, callbacks)
+        let callbacks = self.with_given(own, given)?;
+        with_inner(self.arena, task, "options", name, Datum::List(callbacks))
     }
 
-    /// A task, with what it is given.
+    /// Tasks, each with what it is given. What is no task stays as it is, and is refused.
+    #[cycle(task)]
+    pub(crate) fn adapt_tasks(
+        &mut self,
+        values: &'a [Datum<'a>],
+        given: &Given<'a>,
+        left: u32,
+    ) -> Result<&'a [Datum<'a>], SigFault> {
+        if left == 0 {
+            return Ok(values);
+        }
+        let made = self.arena.try_alloc_slice_copy(values)?;
+        for value in made.iter_mut() {
+            *value = self.adapt_task(value, given, left - 1)?;
+        }
+        Ok(made)
+    }
+
+    /// A task, with what it is given. What is no task stays as it is.
     #[cycle(task)]
     pub(crate) fn adapt_task(
         &mut self,
@@ -43,11 +60,17 @@ impl<'a> Work<'a> {
         given: &Given<'a>,
         left: u32,
     ) -> Result<Datum<'a>, SigFault> {
-        let written = values_in(option_of(task, "link_error"));
-        let errbacks = self.not_among(given.errbacks, written)?;
+        if !is_task(task) {
+            return Ok(*task);
+        }
         let made = self.with_arguments(task, "args")?;
         let made = self.with_arguments(&made, "kwargs")?;
-        let made = self.with_callbacks(&made, "link", given.links, left)?;
-        self.with_callbacks(&made, "link_error", errbacks, left)
+        let own = values_in(option_of(task, "link"));
+        let links = self.adapt_tasks(own, &Given::none(), left)?;
+        let made = self.with_callbacks(&made, "link", links, given.links)?;
+        let own = values_in(option_of(task, "link_error"));
+        let others = self.not_among(given.errbacks, own)?;
+        let errbacks = self.adapt_tasks(own, &Given::none(), left)?;
+        self.with_callbacks(&made, "link_error", errbacks, others)
     }
 }
