@@ -139,14 +139,17 @@ fn whole(fault: SigFault, note: String) -> Finding
 }
 
 /// What serde_json says of a text, without the place, which a finding has apart.
+fn reason_of(said: &str) -> &str {
+    match said.split_once(" at line ") {
+        Some((reason, _place)) => reason,
+        None => said,
+    }
+}
+
 fn json_note(alloc: Global, error: &serde_json::Error) -> Result<String, AllocError> {
     let said = error.to_string(alloc)?;
-    match said.split_once(" at line ") {
-        Some((reason, _place)) => {
-            format!(in alloc; "found no JSON ({reason}), wanted one JSON text in UTF-8")
-        }
-        None => format!(in alloc; "found no JSON ({said}), wanted one JSON text in UTF-8"),
-    }
+    let reason = reason_of(&said);
+    format!(in alloc; "found no JSON ({reason}), wanted one JSON text in UTF-8")
 }
 
 /// Where a text is no JSON, as serde_json says it.
