@@ -39,9 +39,9 @@ fn adapt_parsed<'a>(
     scratch: &'a mut Scratch,
     bytes: &'a [u8],
 ) -> Result<Adapted, SigFault> {
-    let value = parse(alloc, arena, scratch, bytes)?;
+    let mut value = parse(alloc, arena, scratch, bytes)?;
     let mut work = Work::new(alloc, arena);
-    let value = work.adapt_node(&value, &Given::none(), MOST_LEVELS)?;
+    work.adapt_node(&mut value, &Given::none(), MOST_LEVELS)?;
     let text = line_of(alloc, &value)?;
     Ok(Adapted {
         text,

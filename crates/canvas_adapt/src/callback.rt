@@ -1,11 +1,11 @@
 //! Links and error callbacks.
 
 use crate::changes::Change;
-use crate::given::{Callback, Given, values_in};
+use crate::given::{Callback, Given, callbacks_of};
 use crate::made::Made;
 use crate::work::Work;
 use canvas_sig::SigFault;
-use canvas_sig::parts::{Datum, option_of};
+use canvas_sig::parts::Datum;
 
 impl<'a> Work<'a> {
     /// Callbacks, and behind them those that are given.
@@ -18,7 +18,7 @@ impl<'a> Work<'a> {
         let mut made = Made::new(self.arena);
         made.push_all(own)?;
         for callback in given {
-            made.push(callback.adapted)?;
+            made.push(*callback.adapted)?;
         }
         Ok(made.done())
     }
@@ -30,7 +30,7 @@ impl<'a> Work<'a> {
         left: u32,
     ) -> Result<&'a [Callback<'a>], SigFault> {
         self.count(Change::Callback, written.len());
-        let adapted = self.adapt_tasks(written, &Given::none(), left)?;
+        let adapted = self.adapted_tasks(written, &Given::none(), left)?;
         let mut made = Made::new(self.arena);
         for (value, adapted) in written.iter().zip(adapted) {
             made.push(Callback::new(value, adapted))?;
@@ -45,7 +45,7 @@ impl<'a> Work<'a> {
         given: &'a [Callback<'a>],
         left: u32,
     ) -> Result<&'a [Callback<'a>], SigFault> {
-        let links = self.taken(values_in(option_of(value, "link")), left)?;
+        let links = self.taken(callbacks_of(value, "link"), left)?;
         self.joined(links, given)
     }
 
@@ -56,7 +56,7 @@ impl<'a> Work<'a> {
         given: &'a [Callback<'a>],
         left: u32,
     ) -> Result<&'a [Callback<'a>], SigFault> {
-        let written = self.once(values_in(option_of(value, "link_error")))?;
+        let written = self.once(callbacks_of(value, "link_error"))?;
         let errbacks = self.taken(written, left)?;
         let others = self.not_among(given, written)?;
         self.joined(errbacks, others)

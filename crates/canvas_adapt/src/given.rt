@@ -3,7 +3,7 @@
 use crate::made::Made;
 use crate::text::{MOST_WRITTEN, room_behind};
 use crate::work::Work;
-use canvas_sig::parts::Datum;
+use canvas_sig::parts::{Datum, option_of};
 use canvas_sig::{MOST_BYTES, SigFault};
 use std::slice;
 
@@ -11,17 +11,17 @@ use std::slice;
 #[derive(Clone, Copy, Drop)]
 pub(crate) struct Callback<'a> {
     /// As it was written, by which callbacks are told apart.
-    written: Datum<'a>,
-    pub(crate) adapted: Datum<'a>,
+    written: &'a Datum<'a>,
+    pub(crate) adapted: &'a Datum<'a>,
     /// How many steps comparing it takes at most.
     weight: usize,
 }
 
 impl<'a> Callback<'a> {
-    pub(crate) fn new(written: &Datum<'a>, adapted: &Datum<'a>) -> Callback<'a> {
+    pub(crate) fn new(written: &'a Datum<'a>, adapted: &'a Datum<'a>) -> Callback<'a> {
         Callback {
-            written: *written,
-            adapted: *adapted,
+            written,
+            adapted,
             weight: weight_of(written, MOST_BYTES),
         }
     }
@@ -83,6 +83,11 @@ pub(crate) fn values_in<'a>(field: Option<&'a Datum<'a>>) -> &'a [Datum<'a>] {
         Some(one @ Datum::Object(_)) => slice::from_ref(one),
         _ => &[],
     }
+}
+
+/// A signature's own callbacks of that name.
+pub(crate) fn callbacks_of<'a>(value: &Datum<'a>, name: &str) -> &'a [Datum<'a>] {
+    values_in(option_of(value, name))
 }
 
 #[cycle(same)]
@@ -184,7 +189,7 @@ impl<'a> Work<'a> {
         }
         let mut made = Made::new(self.arena);
         for callback in given {
-            if !self.has(values, &callback.written, callback.weight)? {
+            if !self.has(values, callback.written, callback.weight)? {
                 made.push(*callback)?;
             }
         }

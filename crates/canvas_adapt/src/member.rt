@@ -16,14 +16,6 @@ pub(crate) fn members_of<'a>(value: &Datum<'a>) -> Members<'a> {
     }
 }
 
-/// An object of these members, whose names ascend.
-pub(crate) fn object_of<'a>(
-    arena: &'a Bump,
-    members: &[(&'a str, Datum<'a>)],
-) -> Result<Datum<'a>, SigFault> {
-    Ok(Datum::Object(arena.try_alloc_slice_copy(members)?))
-}
-
 /// Adds the members that go before a name.
 fn add_before<'a>(
     made: &mut Made<'a, (&'a str, Datum<'a>)>,
@@ -66,44 +58,42 @@ fn with<'a>(
     Ok(made.done())
 }
 
-/// An object with this member in the place of that name.
-pub(crate) fn with_member<'a>(
+/// Puts a member into an object in the place of that name.
+pub(crate) fn set_member<'a>(
     arena: &'a Bump,
-    value: &Datum<'a>,
+    value: &mut Datum<'a>,
     name: &'a str,
-    member: Datum<'a>,
-) -> Result<Datum<'a>, SigFault> {
-    let members = with(arena, members_of(value), name, &[(name, member)])?;
-    Ok(Datum::Object(members))
+    member: &Datum<'a>,
+) -> Result<(), SigFault> {
+    let members = with(arena, members_of(value), name, &[(name, *member)])?;
+    *value = Datum::Object(members);
+    Ok(())
 }
 
-/// An object of which a member, an object itself, has this member in the place of that name.
-pub(crate) fn with_inner<'a>(
+/// Puts a member into an object that is itself the member of an object.
+pub(crate) fn set_inner<'a>(
     arena: &'a Bump,
-    value: &Datum<'a>,
+    value: &mut Datum<'a>,
     outer: &'a str,
     name: &'a str,
-    member: Datum<'a>,
-) -> Result<Datum<'a>, SigFault> {
-    let inner = match value.get(outer) {
-        Some(inner) => members_of(inner),
-        None => &[],
+    member: &Datum<'a>,
+) -> Result<(), SigFault> {
+    let mut inner = match value.get(outer) {
+        Some(inner) => *inner,
+        None => Datum::Null,
     };
-    let inner = with(arena, inner, name, &[(name, member)])?;
-    with_member(arena, value, outer, Datum::Object(inner))
+    set_member(arena, &mut inner, name, member)?;
+    set_member(arena, value, outer, &inner)
 }
 
-/// A signature without callbacks of its own.
-pub(crate) fn without_callbacks<'a>(
-    arena: &'a Bump,
-    value: &Datum<'a>,
-) -> Result<Datum<'a>, SigFault> {
+/// Takes a signature's own callbacks away.
+pub(crate) fn drop_callbacks<'a>(arena: &'a Bump, value: &mut Datum<'a>) -> Result<(), SigFault> {
     match value.get("options") {
         Some(Datum::Object(options)) => {
             let left = with(arena, options, "link", &[])?;
             let left = with(arena, left, "link_error", &[])?;
-            with_member(arena, value, "options", Datum::Object(left))
+            set_member(arena, value, "options", &Datum::Object(left))
         }
-        _ => Ok(*value),
+        _ => Ok(()),
     }
 }

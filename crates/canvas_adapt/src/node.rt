@@ -4,7 +4,7 @@ use crate::changes::Change;
 use crate::form::{Form, form_of};
 use crate::given::Given;
 use crate::made::Made;
-use crate::member::{with_inner, without_callbacks};
+use crate::member::{drop_callbacks, set_inner};
 use crate::work::Work;
 use canvas_sig::SigFault;
 use canvas_sig::parts::{Datum, MOST_LEVELS, is_list, kwarg_of, listed, own_fault};
@@ -40,23 +40,51 @@ fn add_turned<'a>(made: &mut Made<'a, Datum<'a>>, values: &'a [Datum<'a>]) -> Re
     Ok(())
 }
 
-/// How signatures stand under a name in a chain, group or chord.
+/// Where signatures stand in a chain, group or chord.
 #[derive(Clone, Copy)]
 enum Place {
     /// The elements of a chain.
     Elements,
-    /// The members of a group, or of a header that is a list.
+    /// The members of a group.
     Members,
-    /// One signature: a body, or a header that is no list.
-    Alone,
+    /// The members of a header that is a list.
+    Header,
+    /// A header that is a signature.
+    HeaderGroup,
+    Body,
+}
+
+impl Place {
+    fn name(self) -> &'static str {
+        match self {
+            Place::Elements | Place::Members => "tasks",
+            Place::Header | Place::HeaderGroup => "header",
+            Place::Body => "body",
+        }
+    }
+
+    fn is_alone(self) -> bool {
+        matches!(self, Place::HeaderGroup | Place::Body)
+    }
 }
 
 /// The signatures that stand there.
-fn values_at<'a>(value: &Datum<'a>, name: &str, place: Place) -> &'a [Datum<'a>] {
-    match (place, kwarg_of(value, name)) {
-        (Place::Alone, Some(one)) => slice::from_ref(one),
-        (Place::Alone, None) => &[],
-        (_, field) => listed(field),
+fn values_at<'a>(value: &Datum<'a>, place: Place) -> &'a [Datum<'a>] {
+    let found = kwarg_of(value, place.name());
+    if !place.is_alone() {
+        return listed(found);
+    }
+    match found {
+        Some(one) => slice::from_ref(one),
+        None => &[],
+    }
+}
+
+/// What is put there once it is adapted.
+fn made_of<'a>(place: Place, values: &'a [Datum<'a>]) -> Datum<'a> {
+    match values {
+        [one] if place.is_alone() => *one,
+        _ => Datum::List(values),
     }
 }
 
@@ -64,17 +92,16 @@ fn values_at<'a>(value: &Datum<'a>, name: &str, place: Place) -> &'a [Datum<'a>]
 fn given_at<'a>(given: &Given<'a>, place: Place, is_last: bool) -> Given<'a> {
     match place {
         Place::Elements => given.of_element(is_last),
-        Place::Members => given.of_part(false),
-        Place::Alone => given.of_part(true),
+        _ => given.of_part(place.is_alone()),
     }
 }
 
-/// How a chord's header stands in it.
+/// Where a chord's header stands.
 fn place_of_header(value: &Datum<'_>) -> Place {
     if is_list(kwarg_of(value, "header")) {
-        return Place::Members;
+        return Place::Header;
     }
-    Place::Alone
+    Place::HeaderGroup
 }
 
 impl<'a> Work<'a> {
@@ -117,67 +144,76 @@ impl<'a> Work<'a> {
         Ok(())
     }
 
-    /// What stands there in place of what was written, once that is adapted.
-    fn made_of(
+    /// What stands there of what was adapted: of members what each of them gives the group.
+    fn unrolled_at(
         &mut self,
+        value: &Datum<'a>,
         place: Place,
         is_frozen: bool,
-        written: &[Datum<'a>],
         adapted: &'a [Datum<'a>],
-    ) -> Result<Datum<'a>, SigFault> {
-        match (place, adapted) {
-            (Place::Alone, [one]) => Ok(*one),
-            (Place::Members, _) => {
-                let mut made = Made::new(self.arena);
-                self.add_members(&mut made, written, adapted, is_frozen)?;
-                Ok(Datum::List(made.done()))
-            }
-            _ => Ok(Datum::List(adapted)),
+    ) -> Result<&'a [Datum<'a>], SigFault> {
+        if !matches!(place, Place::Members | Place::Header) {
+            return Ok(adapted);
         }
+        let mut made = Made::new(self.arena);
+        self.add_members(&mut made, values_at(value, place), adapted, is_frozen)?;
+        Ok(made.done())
     }
 
-    /// A chain, group or chord with what stands in it under a name adapted, and without callbacks of
-    /// its own.
+    /// Puts there what was adapted, and takes a signature's own callbacks away.
+    fn set_adapted(
+        &mut self,
+        value: &mut Datum<'a>,
+        place: Place,
+        is_frozen: bool,
+        adapted: &'a [Datum<'a>],
+    ) -> Result<(), SigFault> {
+        let values = self.unrolled_at(value, place, is_frozen, adapted)?;
+        drop_callbacks(self.arena, value)?;
+        set_inner(
+            self.arena,
+            value,
+            "kwargs",
+            place.name(),
+            &made_of(place, values),
+        )
+    }
+
+    /// What stands somewhere in a chain, group or chord.
     #[cycle(node)]
     fn adapt_inner(
         &mut self,
-        value: &Datum<'a>,
-        name: &'a str,
+        value: &mut Datum<'a>,
         place: Place,
         given: &Given<'a>,
         left: u32,
-    ) -> Result<Datum<'a>, SigFault> {
-        let written = values_at(value, name, place);
-        let adapted = self.arena.try_alloc_slice_copy(written)?;
+    ) -> Result<(), SigFault> {
+        let adapted = self.arena.try_alloc_slice_copy(values_at(value, place))?;
         let mut behind = adapted.len();
         for inner in adapted.iter_mut() {
             behind = behind.saturating_sub(1);
-            let given = given_at(given, place, behind == 0);
-            *inner = self.adapt_node(inner, &given, left)?;
+            self.adapt_node(inner, &given_at(given, place, behind == 0), left)?;
         }
-        let made = self.made_of(place, given.is_frozen, written, adapted)?;
-        let bare = without_callbacks(self.arena, value)?;
-        with_inner(self.arena, &bare, "kwargs", name, made)
+        self.set_adapted(value, place, given.is_frozen, adapted)
     }
 
     /// A chain, group or chord, with what its parts are given.
     #[cycle(node)]
     fn adapt_parts(
         &mut self,
-        value: &Datum<'a>,
+        value: &mut Datum<'a>,
         form: Form,
         given: &Given<'a>,
         left: u32,
-    ) -> Result<Datum<'a>, SigFault> {
+    ) -> Result<(), SigFault> {
         let given = self.with_own(value, given, left)?;
         match form {
-            Form::Chain => self.adapt_inner(value, "tasks", Place::Elements, &given, left),
-            Form::Group => self.adapt_inner(value, "tasks", Place::Members, &given, left),
+            Form::Chain => self.adapt_inner(value, Place::Elements, &given, left),
+            Form::Group => self.adapt_inner(value, Place::Members, &given, left),
             _ => {
                 let place = place_of_header(value);
-                let alone = Given::none().of_part(true);
-                let half = self.adapt_inner(value, "header", place, &alone, left)?;
-                self.adapt_inner(&half, "body", Place::Alone, &given, left)
+                self.adapt_inner(value, place, &Given::none().of_part(true), left)?;
+                self.adapt_inner(value, Place::Body, &given, left)
             }
         }
     }
@@ -186,18 +222,18 @@ impl<'a> Work<'a> {
     #[cycle(node)]
     pub(crate) fn adapt_node(
         &mut self,
-        value: &Datum<'a>,
+        value: &mut Datum<'a>,
         given: &Given<'a>,
         left: u32,
-    ) -> Result<Datum<'a>, SigFault> {
+    ) -> Result<(), SigFault> {
         if left == 0 {
-            return Ok(*value);
+            return Ok(());
         }
         match form_of(value) {
             Form::Task => self.adapt_task(value, given, left - 1),
             Form::Calls => self.adapt_calls(value, given, left - 1),
             Form::Group => self.adapt_parts(value, Form::Group, &given.of_group(), left - 1),
-            Form::Other => Ok(*value),
+            Form::Other => Ok(()),
             form => self.adapt_parts(value, form, given, left - 1),
         }
     }

@@ -6,7 +6,7 @@ ghost use Rattle.canvas_values.specs.CanvasText.{text_reading};
 
 use crate::adapting::{check_reads, line_of};
 use crate::given::values_in;
-use crate::member::{with_inner, with_member};
+use crate::member::{set_inner, set_member};
 use crate::renames::{Rename, name_of};
 use bumpalo::Bump;
 use canvas_sig::SigFault;
@@ -73,64 +73,63 @@ fn list_or_one<'a>(written: Option<&Datum<'a>>, values: &'a [Datum<'a>]) -> Datu
     }
 }
 
-/// A signature in which these stand there. Callbacks stand in a list.
-fn with_values<'a>(
+/// Puts these signatures there. Callbacks stand in a list.
+fn set_values<'a>(
     arena: &'a Bump,
-    value: &Datum<'a>,
+    value: &mut Datum<'a>,
     part: Part,
     values: &'a [Datum<'a>],
-) -> Result<Datum<'a>, SigFault> {
+) -> Result<(), SigFault> {
     if values.is_empty() {
-        return Ok(*value);
+        return Ok(());
     }
     match part {
-        Part::Callbacks(name) => with_inner(arena, value, "options", name, Datum::List(values)),
+        Part::Callbacks(name) => set_inner(arena, value, "options", name, &Datum::List(values)),
         Part::Inner(name) => {
             let inner = list_or_one(kwarg_of(value, name), values);
-            with_inner(arena, value, "kwargs", name, inner)
+            set_inner(arena, value, "kwargs", name, &inner)
         }
     }
 }
 
 impl<'a> Walk<'a> {
-    /// The next task, with its other name where it has one.
-    fn named(&mut self, value: &Datum<'a>) -> Result<Datum<'a>, SigFault> {
+    /// Gives the next task its other name, where it has one.
+    fn name_task(&mut self, task: &mut Datum<'a>) -> Result<(), SigFault> {
         self.task = self.task.saturating_add(1);
         match name_of(self.renames, self.task) {
-            Some(name) => with_member(self.arena, value, "task", Datum::Text(name)),
-            None => Ok(*value),
+            Some(name) => set_member(self.arena, task, "task", &Datum::Text(name)),
+            None => Ok(()),
         }
     }
 
     #[cycle(node)]
     fn rename_part(
         &mut self,
-        value: &Datum<'a>,
+        value: &mut Datum<'a>,
         part: Part,
         left: u32,
-    ) -> Result<Datum<'a>, SigFault> {
+    ) -> Result<(), SigFault> {
         let renamed = self.arena.try_alloc_slice_copy(values_at(value, part))?;
         for inner in renamed.iter_mut() {
-            *inner = self.rename_node(inner, left)?;
+            self.rename_node(inner, left)?;
         }
-        with_values(self.arena, value, part, renamed)
+        set_values(self.arena, value, part, renamed)
     }
 
     /// A signature. Signatures in it nest at most `left` deep.
     #[cycle(node)]
-    fn rename_node(&mut self, value: &Datum<'a>, left: u32) -> Result<Datum<'a>, SigFault> {
+    fn rename_node(&mut self, value: &mut Datum<'a>, left: u32) -> Result<(), SigFault> {
         if left == 0 {
-            return Ok(*value);
+            return Ok(());
         }
         let primitive = primitive_of(value.get("subtask_type"));
-        let mut renamed = match primitive {
-            Some(Primitive::Task) => self.named(value)?,
-            _ => *value,
-        };
-        for part in parts_of(primitive) {
-            renamed = self.rename_part(&renamed, *part, left - 1)?;
+        if matches!(primitive, Some(Primitive::Task)) {
+            self.name_task(value)?;
         }
-        Ok(renamed)
+        for part in parts_of(primitive) {
+            self.rename_part(value, *part, left - 1)?;
+        }
+        Ok(())
     }
 }
 
@@ -141,13 +140,13 @@ fn rename_parsed<'a>(
     bytes: &'a [u8],
     renames: &'a [Rename],
 ) -> Result<Renamed, SigFault> {
-    let value = parse(alloc, arena, scratch, bytes)?;
+    let mut value = parse(alloc, arena, scratch, bytes)?;
     let mut walk = Walk {
         arena,
         renames,
         task: 0,
     };
-    let value = walk.rename_node(&value, MOST_LEVELS)?;
+    walk.rename_node(&mut value, MOST_LEVELS)?;
     let text = line_of(alloc, &value)?;
     Ok(Renamed {
         text,
