@@ -4,7 +4,7 @@ ghost use Rattle.std.specs.Prelude.{◌≡◌, ◌≤◌, IfOk};
 ghost use Rattle.std.specs.Option.{option_map};
 ghost use Rattle.serde_json.specs.Data.{depth};
 ghost use Rattle.canvas_sig.specs.Datum.{view};
-ghost use Rattle.canvas_values.specs.declared.fault.SigFault.TheVariants.{TooDeep};
+ghost use Rattle.canvas_values.specs.declared.fault.SigFault.TheVariants.{TooDeep, TooLarge};
 ghost use Rattle.canvas_finding.specs.Places.{shown};
 ghost use Rattle.canvas_finding.specs.Limits.{place_of};
 ghost use Rattle.canvas_finding.specs.declared.finding.Spot.TheVariants.{Text};
@@ -138,6 +138,16 @@ fn whole(fault: SigFault, note: String) -> Finding
     }
 }
 
+fn too_large(alloc: Global) -> Result<Finding, AllocError>
+    ensures { IfOk result (λ f. (f.fault ≡ TooLarge) × (f.spot ≡ Text)) }
+{
+    let note = String::from_str(
+        alloc,
+        "found more than 1,048,576 bytes, wanted at most as many",
+    )?;
+    Ok(whole(SigFault::TooLarge, note))
+}
+
 /// What serde_json says of a text, without the place, which a finding has apart.
 fn reason_of(said: &str) -> &str {
     match said.split_once(" at line ") {
@@ -203,13 +213,7 @@ pub fn find(alloc: Global, bytes: &[u8]) -> Result<Option<Finding>, Memory>
     match read_canvas(alloc, bytes) {
         Ok(_canvas) => Ok(None),
         Err(SigFault::Memory) => Err(Memory),
-        Err(SigFault::TooLarge) => {
-            let note = String::from_str(
-                alloc,
-                "found more than 1,048,576 bytes, wanted at most as many",
-            )?;
-            Ok(Some(whole(SigFault::TooLarge, note)))
-        }
+        Err(SigFault::TooLarge) => Ok(Some(too_large(alloc)?)),
         Err(fault) => Ok(Some(find_at(alloc, bytes, fault)?)),
     }
 }
