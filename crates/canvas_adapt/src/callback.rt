@@ -32,8 +32,10 @@ impl<'a> Work<'a> {
         self.count(Change::Callback, written.len());
         let adapted = self.adapted_tasks(written, &Given::none(), left)?;
         let mut made = Made::new(self.arena);
-        for (value, adapted) in written.iter().zip(adapted) {
-            made.push(Callback::new(value, adapted))?;
+        for (index, value) in adapted.iter().enumerate() {
+            if let Some(written) = written.get(index) {
+                made.push(Callback::new(written, value))?;
+            }
         }
         Ok(made.done())
     }

@@ -111,8 +111,11 @@ fn are_same_items(one: &[Datum<'_>], other: &[Datum<'_>], left: u32) -> bool {
     if one.len() != other.len() {
         return false;
     }
-    for (one, other) in one.iter().zip(other) {
-        if !is_same(one, other, left) {
+    for (index, value) in one.iter().enumerate() {
+        let Some(found) = other.get(index) else {
+            return false;
+        };
+        if !is_same(value, found, left) {
             return false;
         }
     }
@@ -124,8 +127,11 @@ fn are_same_members(one: &[(&str, Datum<'_>)], other: &[(&str, Datum<'_>)], left
     if one.len() != other.len() {
         return false;
     }
-    for (one, other) in one.iter().zip(other) {
-        if one.0 != other.0 || !is_same(&one.1, &other.1, left) {
+    for (index, member) in one.iter().enumerate() {
+        let Some(found) = other.get(index) else {
+            return false;
+        };
+        if member.0 != found.0 || !is_same(&member.1, &found.1, left) {
             return false;
         }
     }

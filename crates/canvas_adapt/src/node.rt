@@ -138,8 +138,10 @@ impl<'a> Work<'a> {
         adapted: &[Datum<'a>],
         is_frozen: bool,
     ) -> Result<(), SigFault> {
-        for (written, adapted) in written.iter().zip(adapted) {
-            self.add_member(made, written, adapted, is_frozen)?;
+        for (index, value) in adapted.iter().enumerate() {
+            if let Some(written) = written.get(index) {
+                self.add_member(made, written, value, is_frozen)?;
+            }
         }
         Ok(())
     }
