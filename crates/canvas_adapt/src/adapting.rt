@@ -39,9 +39,9 @@ fn adapt_parsed<'a>(
     scratch: &'a mut Scratch,
     bytes: &'a [u8],
 ) -> Result<Adapted, SigFault> {
-    let value = parse(alloc, arena, scratch, bytes)?;
+    let mut value = parse(alloc, arena, scratch, bytes)?;
     let mut work = Work::new(alloc, arena);
-    let value = work.adapt_node(&value, &Given::none(), MOST_LEVELS)?;
+    work.adapt_node(&mut value, &Given::none(), MOST_LEVELS)?;
     let text = line_of(alloc, &value)?;
     Ok(Adapted {
         text,
@@ -55,11 +55,19 @@ fn adapt_bytes(alloc: Global, bytes: &[u8]) -> Result<Adapted, SigFault> {
     adapt_parsed(alloc, &arena, &mut scratch, bytes)
 }
 
+/// Whether a text reads as a canvas.
+pub(crate) fn check_reads(alloc: Global, text: &[u8]) -> Result<(), SigFault>
+    ensures { IfOk result (λ _. (c : Tree) × (text_reading text.now ≡ Ok c)) }
+{
+    let _canvas = read_canvas(alloc, text)?;
+    Ok(())
+}
+
 /// What was made of a text, where it reads as a canvas.
 fn certified(alloc: Global, adapted: Adapted) -> Result<Adapted, SigFault>
     ensures { IfOk result (λ a. (c : Tree) × (text_reading a.text.items ≡ Ok c)) }
 {
-    let _canvas = read_canvas(alloc, &adapted.text)?;
+    check_reads(alloc, &adapted.text)?;
     Ok(adapted)
 }
 

@@ -47,37 +47,39 @@ fn shown<'a>(alloc: Global, arena: &'a Bump, value: &Datum<'_>) -> Result<&'a st
 }
 
 impl<'a> Work<'a> {
-    fn adapt_argument(&mut self, value: &Datum<'a>) -> Result<Datum<'a>, SigFault> {
+    fn adapt_argument(&mut self, value: &mut Datum<'a>) -> Result<(), SigFault> {
         if is_fit(value) {
-            return Ok(*value);
+            return Ok(());
         }
         self.count(Change::Argument, 1);
-        Ok(Datum::Text(shown(self.alloc, self.arena, value)?))
+        *value = Datum::Text(shown(self.alloc, self.arena, value)?);
+        Ok(())
     }
 
     /// Arguments in their order.
-    fn adapt_list(&mut self, values: &[Datum<'a>]) -> Result<Datum<'a>, SigFault> {
+    fn adapted_list(&mut self, values: &[Datum<'a>]) -> Result<&'a [Datum<'a>], SigFault> {
         let made = self.arena.try_alloc_slice_copy(values)?;
         for value in made.iter_mut() {
-            *value = self.adapt_argument(value)?;
+            self.adapt_argument(value)?;
         }
-        Ok(Datum::List(made))
+        Ok(made)
     }
 
-    fn adapt_named(&mut self, members: Members<'a>) -> Result<Datum<'a>, SigFault> {
+    fn adapted_named(&mut self, members: Members<'a>) -> Result<Members<'a>, SigFault> {
         let made = self.arena.try_alloc_slice_copy(members)?;
         for member in made.iter_mut() {
-            member.1 = self.adapt_argument(&member.1)?;
+            self.adapt_argument(&mut member.1)?;
         }
-        Ok(Datum::Object(made))
+        Ok(made)
     }
 
     /// Arguments, in a list or by name. What is neither stays as it is.
-    pub(crate) fn adapt_arguments(&mut self, value: &Datum<'a>) -> Result<Datum<'a>, SigFault> {
-        match value {
-            Datum::List(values) => self.adapt_list(values),
-            Datum::Object(members) => self.adapt_named(members),
-            _ => Ok(*value),
+    pub(crate) fn adapt_arguments(&mut self, value: &mut Datum<'a>) -> Result<(), SigFault> {
+        match *value {
+            Datum::List(values) => *value = Datum::List(self.adapted_list(values)?),
+            Datum::Object(members) => *value = Datum::Object(self.adapted_named(members)?),
+            _ => {}
         }
+        Ok(())
     }
 }

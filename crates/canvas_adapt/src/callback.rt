@@ -1,47 +1,26 @@
 //! Links and error callbacks.
 
 use crate::changes::Change;
-use crate::form::{Form, form_of};
-use crate::given::{Callback, Given, values_in};
+use crate::given::{Callback, Given, callbacks_of};
 use crate::made::Made;
 use crate::work::Work;
 use canvas_sig::SigFault;
-use canvas_sig::parts::{Datum, option_of};
+use canvas_sig::parts::Datum;
 
 impl<'a> Work<'a> {
-    /// A callback. One that is no task stays as it is, and is refused.
-    #[cycle(task)]
-    pub(crate) fn adapt_callback(
+    /// Callbacks, and behind them those that are given.
+    pub(crate) fn with_given(
         &mut self,
-        value: &Datum<'a>,
-        left: u32,
-    ) -> Result<Datum<'a>, SigFault> {
-        if left == 0 {
-            return Ok(*value);
-        }
-        match form_of(value) {
-            Form::Task => self.adapt_task(value, &Given::none(), left - 1),
-            _ => Ok(*value),
-        }
-    }
-
-    /// A task's own callbacks, and behind them those that it is given.
-    #[cycle(task)]
-    pub(crate) fn adapt_callbacks(
-        &mut self,
-        own: &'a [Datum<'a>],
+        own: &[Datum<'a>],
         given: &'a [Callback<'a>],
-        left: u32,
-    ) -> Result<Datum<'a>, SigFault> {
+    ) -> Result<&'a [Datum<'a>], SigFault> {
         self.step(given.len())?;
         let mut made = Made::new(self.arena);
-        for value in own {
-            made.push(self.adapt_callback(value, left)?)?;
-        }
+        made.push_all(own)?;
         for callback in given {
-            made.push(callback.adapted)?;
+            made.push(*callback.adapted)?;
         }
-        Ok(Datum::List(made.done()))
+        Ok(made.done())
     }
 
     /// The callbacks of a chain, group or chord.
@@ -51,10 +30,12 @@ impl<'a> Work<'a> {
         left: u32,
     ) -> Result<&'a [Callback<'a>], SigFault> {
         self.count(Change::Callback, written.len());
+        let adapted = self.adapted_tasks(written, &Given::none(), left)?;
         let mut made = Made::new(self.arena);
-        for value in written {
-            let adapted = self.adapt_callback(value, left)?;
-            made.push(Callback::new(value, &adapted))?;
+        for (index, value) in adapted.iter().enumerate() {
+            if let Some(written) = written.get(index) {
+                made.push(Callback::new(written, value))?;
+            }
         }
         Ok(made.done())
     }
@@ -66,7 +47,7 @@ impl<'a> Work<'a> {
         given: &'a [Callback<'a>],
         left: u32,
     ) -> Result<&'a [Callback<'a>], SigFault> {
-        let links = self.taken(values_in(option_of(value, "link")), left)?;
+        let links = self.taken(callbacks_of(value, "link"), left)?;
         self.joined(links, given)
     }
 
@@ -77,7 +58,7 @@ impl<'a> Work<'a> {
         given: &'a [Callback<'a>],
         left: u32,
     ) -> Result<&'a [Callback<'a>], SigFault> {
-        let written = self.once(values_in(option_of(value, "link_error")))?;
+        let written = self.once(callbacks_of(value, "link_error"))?;
         let errbacks = self.taken(written, left)?;
         let others = self.not_among(given, written)?;
         self.joined(errbacks, others)

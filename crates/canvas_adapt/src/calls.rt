@@ -3,8 +3,6 @@
 use crate::changes::Change;
 use crate::form::{called_task, takes_items};
 use crate::given::Given;
-use crate::made::Made;
-use crate::member::object_of;
 use crate::work::Work;
 use bumpalo::Bump;
 use canvas_semantics::MOST_TASKS;
@@ -14,75 +12,69 @@ use std::slice;
 
 const MOST_CALLS: usize = MOST_TASKS as usize;
 
-/// The call of a task with some arguments, which takes no input.
-fn call_of<'a>(
+/// Makes an item the call of a task with it, which takes no input.
+fn make_call<'a>(
     arena: &'a Bump,
     task: &Datum<'a>,
-    arguments: &Datum<'a>,
-) -> Result<Datum<'a>, SigFault> {
+    is_argument: bool,
+    item: &mut Datum<'a>,
+) -> Result<(), SigFault> {
+    if is_argument {
+        *item = Datum::List(arena.try_alloc_slice_copy(slice::from_ref(item))?);
+    }
     let members = [
-        ("args", *arguments),
+        ("args", *item),
         ("immutable", Datum::Bool(true)),
         ("task", *task),
     ];
-    object_of(arena, &members)
+    *item = Datum::Object(arena.try_alloc_slice_copy(&members)?);
+    Ok(())
 }
 
-/// A group of these members.
-pub(crate) fn group_of<'a>(
+/// Makes it a group of these members.
+fn make_group<'a>(
     arena: &'a Bump,
+    value: &mut Datum<'a>,
     members: &'a [Datum<'a>],
-) -> Result<Datum<'a>, SigFault> {
-    let kwargs = object_of(arena, &[("tasks", Datum::List(members))])?;
+) -> Result<(), SigFault> {
+    let kwargs = arena.try_alloc_slice_copy(&[("tasks", Datum::List(members))])?;
     let members = [
-        ("kwargs", kwargs),
+        ("kwargs", Datum::Object(kwargs)),
         ("subtask_type", Datum::Text("group")),
         ("task", Datum::Text("celery.group")),
     ];
-    object_of(arena, &members)
+    *value = Datum::Object(arena.try_alloc_slice_copy(&members)?);
+    Ok(())
 }
 
-/// The arguments of the call with one item.
-fn arguments_of<'a>(value: &Datum<'a>, item: &'a Datum<'a>) -> Datum<'a> {
-    if takes_items(value) {
-        return Datum::List(slice::from_ref(item));
+/// The calls with all items.
+fn calls_of<'a>(arena: &'a Bump, value: &Datum<'a>) -> Result<&'a [Datum<'a>], SigFault> {
+    let items = listed(kwarg_of(value, "it"));
+    let Some(task) = called_task(value) else {
+        return Ok(items);
+    };
+    if items.len() > MOST_CALLS {
+        return Err(SigFault::TooMany);
     }
-    *item
+    let calls = arena.try_alloc_slice_copy(items)?;
+    for call in calls.iter_mut() {
+        make_call(arena, task, takes_items(value), call)?;
+    }
+    Ok(calls)
 }
 
 impl<'a> Work<'a> {
-    /// The call with one item.
-    fn call(
-        &mut self,
-        value: &Datum<'a>,
-        item: &'a Datum<'a>,
-        given: &Given<'a>,
-        left: u32,
-    ) -> Result<Datum<'a>, SigFault> {
-        let Some(task) = called_task(value) else {
-            return Ok(*value);
-        };
-        let call = call_of(self.arena, task, &arguments_of(value, item))?;
-        self.adapt_task(&call, given, left)
-    }
-
-    /// The calls with all items, as a group.
+    /// Makes it a group of the calls with all items.
     pub(crate) fn adapt_calls(
         &mut self,
-        value: &Datum<'a>,
+        value: &mut Datum<'a>,
         given: &Given<'a>,
         left: u32,
-    ) -> Result<Datum<'a>, SigFault> {
-        let items = listed(kwarg_of(value, "it"));
-        if items.len() > MOST_CALLS {
-            return Err(SigFault::TooMany);
-        }
+    ) -> Result<(), SigFault> {
+        let calls = calls_of(self.arena, value)?;
         self.count(Change::Map, 1);
         let given = self.with_own(value, &given.of_group(), left)?;
-        let mut calls = Made::new(self.arena);
-        for item in items {
-            calls.push(self.call(value, item, &given, left)?)?;
-        }
-        group_of(self.arena, calls.done())
+        let calls = self.adapted_tasks(calls, &given, left)?;
+        make_group(self.arena, value, calls)
     }
 }

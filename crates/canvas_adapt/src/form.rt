@@ -33,16 +33,9 @@ fn has_options(value: &Datum<'_>) -> bool {
         && is_link(option_of(value, "link_error"))
 }
 
-fn is_map(value: &Datum<'_>) -> bool {
-    is_text(value.get("task"), "celery.map")
-}
-
-fn is_starmap(value: &Datum<'_>) -> bool {
-    is_text(value.get("task"), "celery.starmap")
-}
-
-fn is_chunks(value: &Datum<'_>) -> bool {
-    is_text(value.get("task"), "celery.chunks")
+/// Whether it names this task of Celery's own.
+fn names(value: &Datum<'_>, task: &str) -> bool {
+    is_text(value.get("task"), task)
 }
 
 /// Whether a chunk may have so many items.
@@ -67,14 +60,18 @@ pub(crate) fn called_task<'a>(value: &Datum<'a>) -> Option<&'a Datum<'a>> {
 /// Whether it is a task of Celery's own that is given a signature to call.
 fn calls_another(value: &Datum<'_>) -> bool {
     match kwarg_of(value, "task") {
-        Some(Datum::Object(_)) => is_map(value) || is_starmap(value) || is_chunks(value),
+        Some(Datum::Object(_)) => {
+            names(value, "celery.map")
+                || names(value, "celery.starmap")
+                || names(value, "celery.chunks")
+        }
         _ => false,
     }
 }
 
 /// Whether each item is the argument itself.
 pub(crate) fn takes_items(value: &Datum<'_>) -> bool {
-    is_map(value)
+    names(value, "celery.map")
 }
 
 fn are_lists(values: &[Datum<'_>]) -> bool {
@@ -94,8 +91,8 @@ fn has_calls(value: &Datum<'_>) -> bool {
         && listed(option_of(value, "link")).is_empty()
         && !matches!(option_of(value, "link"), Some(Datum::Object(_)))
         && is_null(option_of(value, "chord"))
-        && (is_map(value) || are_lists(listed(kwarg_of(value, "it"))))
-        && (!is_chunks(value) || is_size(kwarg_of(value, "n")))
+        && (takes_items(value) || are_lists(listed(kwarg_of(value, "it"))))
+        && (!names(value, "celery.chunks") || is_size(kwarg_of(value, "n")))
 }
 
 fn task_form(value: &Datum<'_>) -> Form {
@@ -132,4 +129,8 @@ pub(crate) fn form_of(value: &Datum<'_>) -> Form {
         Some(Primitive::Chord) => chord_form(value),
         None => Form::Other,
     }
+}
+
+pub(crate) fn is_task(value: &Datum<'_>) -> bool {
+    matches!(form_of(value), Form::Task)
 }

@@ -3,7 +3,7 @@
 use crate::made::Made;
 use crate::text::{MOST_WRITTEN, room_behind};
 use crate::work::Work;
-use canvas_sig::parts::Datum;
+use canvas_sig::parts::{Datum, option_of};
 use canvas_sig::{MOST_BYTES, SigFault};
 use std::slice;
 
@@ -11,17 +11,17 @@ use std::slice;
 #[derive(Clone, Copy, Drop)]
 pub(crate) struct Callback<'a> {
     /// As it was written, by which callbacks are told apart.
-    written: Datum<'a>,
-    pub(crate) adapted: Datum<'a>,
+    written: &'a Datum<'a>,
+    pub(crate) adapted: &'a Datum<'a>,
     /// How many steps comparing it takes at most.
     weight: usize,
 }
 
 impl<'a> Callback<'a> {
-    pub(crate) fn new(written: &Datum<'a>, adapted: &Datum<'a>) -> Callback<'a> {
+    pub(crate) fn new(written: &'a Datum<'a>, adapted: &'a Datum<'a>) -> Callback<'a> {
         Callback {
-            written: *written,
-            adapted: *adapted,
+            written,
+            adapted,
             weight: weight_of(written, MOST_BYTES),
         }
     }
@@ -85,6 +85,11 @@ pub(crate) fn values_in<'a>(field: Option<&'a Datum<'a>>) -> &'a [Datum<'a>] {
     }
 }
 
+/// A signature's own callbacks of that name.
+pub(crate) fn callbacks_of<'a>(value: &Datum<'a>, name: &str) -> &'a [Datum<'a>] {
+    values_in(option_of(value, name))
+}
+
 #[cycle(same)]
 fn is_same(one: &Datum<'_>, other: &Datum<'_>, left: u32) -> bool {
     if left == 0 {
@@ -106,8 +111,11 @@ fn are_same_items(one: &[Datum<'_>], other: &[Datum<'_>], left: u32) -> bool {
     if one.len() != other.len() {
         return false;
     }
-    for (one, other) in one.iter().zip(other) {
-        if !is_same(one, other, left) {
+    for (index, value) in one.iter().enumerate() {
+        let Some(found) = other.get(index) else {
+            return false;
+        };
+        if !is_same(value, found, left) {
             return false;
         }
     }
@@ -119,8 +127,11 @@ fn are_same_members(one: &[(&str, Datum<'_>)], other: &[(&str, Datum<'_>)], left
     if one.len() != other.len() {
         return false;
     }
-    for (one, other) in one.iter().zip(other) {
-        if one.0 != other.0 || !is_same(&one.1, &other.1, left) {
+    for (index, member) in one.iter().enumerate() {
+        let Some(found) = other.get(index) else {
+            return false;
+        };
+        if member.0 != found.0 || !is_same(&member.1, &found.1, left) {
             return false;
         }
     }
@@ -152,13 +163,23 @@ impl<'a> Work<'a> {
         Ok(false)
     }
 
+    /// Adds a value, where none that was added is like it.
+    fn add_new(
+        &mut self,
+        made: &mut Made<'a, Datum<'a>>,
+        value: &Datum<'a>,
+    ) -> Result<(), SigFault> {
+        if self.has(made.get(), value, weight_of(value, MOST_BYTES))? {
+            return Ok(());
+        }
+        made.push(*value)
+    }
+
     /// Of values that are alike the first.
     pub(crate) fn once(&mut self, values: &'a [Datum<'a>]) -> Result<&'a [Datum<'a>], SigFault> {
         let mut made = Made::new(self.arena);
         for value in values {
-            if !self.has(made.get(), value, weight_of(value, MOST_BYTES))? {
-                made.push(*value)?;
-            }
+            self.add_new(&mut made, value)?;
         }
         Ok(made.done())
     }
@@ -174,7 +195,7 @@ impl<'a> Work<'a> {
         }
         let mut made = Made::new(self.arena);
         for callback in given {
-            if !self.has(values, &callback.written, callback.weight)? {
+            if !self.has(values, callback.written, callback.weight)? {
                 made.push(*callback)?;
             }
         }

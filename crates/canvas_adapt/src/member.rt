@@ -16,14 +16,6 @@ pub(crate) fn members_of<'a>(value: &Datum<'a>) -> Members<'a> {
     }
 }
 
-/// An object of these members, whose names ascend.
-pub(crate) fn object_of<'a>(
-    arena: &'a Bump,
-    members: &[(&'a str, Datum<'a>)],
-) -> Result<Datum<'a>, SigFault> {
-    Ok(Datum::Object(arena.try_alloc_slice_copy(members)?))
-}
-
 /// Adds the members that go before a name.
 fn add_before<'a>(
     made: &mut Made<'a, (&'a str, Datum<'a>)>,
@@ -52,65 +44,56 @@ fn add_behind<'a>(
     Ok(())
 }
 
-/// The members, with this one in the place of that name.
+/// The members, with these in the place of the one of that name.
 fn with<'a>(
     arena: &'a Bump,
     members: Members<'a>,
-    name: &'a str,
-    value: Datum<'a>,
+    name: &str,
+    own: &[(&'a str, Datum<'a>)],
 ) -> Result<Members<'a>, SigFault> {
     let mut made = Made::new(arena);
     add_before(&mut made, members, name)?;
-    made.push((name, value))?;
+    made.push_all(own)?;
     add_behind(&mut made, members, name)?;
     Ok(made.done())
 }
 
-/// The members without the one of that name.
-fn without<'a>(arena: &'a Bump, members: Members<'a>, name: &str) -> Result<Members<'a>, SigFault> {
-    let mut made = Made::new(arena);
-    add_before(&mut made, members, name)?;
-    add_behind(&mut made, members, name)?;
-    Ok(made.done())
-}
-
-/// An object with this member in the place of that name.
-pub(crate) fn with_member<'a>(
+/// Puts a member into an object in the place of that name.
+pub(crate) fn set_member<'a>(
     arena: &'a Bump,
-    value: &Datum<'a>,
+    value: &mut Datum<'a>,
     name: &'a str,
-    member: Datum<'a>,
-) -> Result<Datum<'a>, SigFault> {
-    Ok(Datum::Object(with(arena, members_of(value), name, member)?))
+    member: &Datum<'a>,
+) -> Result<(), SigFault> {
+    let members = with(arena, members_of(value), name, &[(name, *member)])?;
+    *value = Datum::Object(members);
+    Ok(())
 }
 
-/// An object of which a member, an object itself, has this member in the place of that name.
-pub(crate) fn with_inner<'a>(
+/// Puts a member into an object that is itself the member of an object.
+pub(crate) fn set_inner<'a>(
     arena: &'a Bump,
-    value: &Datum<'a>,
+    value: &mut Datum<'a>,
     outer: &'a str,
     name: &'a str,
-    member: Datum<'a>,
-) -> Result<Datum<'a>, SigFault> {
-    let inner = match value.get(outer) {
-        Some(inner) => members_of(inner),
-        None => &[],
+    member: &Datum<'a>,
+) -> Result<(), SigFault> {
+    let mut inner = match value.get(outer) {
+        Some(inner) => *inner,
+        None => Datum::Null,
     };
-    let inner = with(arena, inner, name, member)?;
-    with_member(arena, value, outer, Datum::Object(inner))
+    set_member(arena, &mut inner, name, member)?;
+    set_member(arena, value, outer, &inner)
 }
 
-/// A signature without callbacks of its own.
-pub(crate) fn without_callbacks<'a>(
-    arena: &'a Bump,
-    value: &Datum<'a>,
-) -> Result<Datum<'a>, SigFault> {
+/// Takes a signature's own callbacks away.
+pub(crate) fn drop_callbacks<'a>(arena: &'a Bump, value: &mut Datum<'a>) -> Result<(), SigFault> {
     match value.get("options") {
         Some(Datum::Object(options)) => {
-            let left = without(arena, options, "link")?;
-            let left = without(arena, left, "link_error")?;
-            with_member(arena, value, "options", Datum::Object(left))
+            let left = with(arena, options, "link", &[])?;
+            let left = with(arena, left, "link_error", &[])?;
+            set_member(arena, value, "options", &Datum::Object(left))
         }
-        _ => Ok(*value),
+        _ => Ok(()),
     }
 }

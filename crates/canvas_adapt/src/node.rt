@@ -4,11 +4,11 @@ use crate::changes::Change;
 use crate::form::{Form, form_of};
 use crate::given::Given;
 use crate::made::Made;
-use crate::member::{with_inner, without_callbacks};
+use crate::member::{drop_callbacks, set_inner};
 use crate::work::Work;
-use bumpalo::Bump;
 use canvas_sig::SigFault;
-use canvas_sig::parts::{Datum, MOST_LEVELS, kwarg_of, listed, own_fault};
+use canvas_sig::parts::{Datum, MOST_LEVELS, is_list, kwarg_of, listed, own_fault};
+use std::slice;
 
 /// The members that a member of a group gives the group: those of a group, and of a chain of one.
 /// One with a fault of its own stays as it is, and is refused.
@@ -40,26 +40,68 @@ fn add_turned<'a>(made: &mut Made<'a, Datum<'a>>, values: &'a [Datum<'a>]) -> Re
     Ok(())
 }
 
-/// A chain or group of these members, without callbacks of its own.
-fn with_members<'a>(
-    arena: &'a Bump,
-    value: &Datum<'a>,
-    members: Datum<'a>,
-) -> Result<Datum<'a>, SigFault> {
-    let bare = without_callbacks(arena, value)?;
-    with_inner(arena, &bare, "kwargs", "tasks", members)
+/// Where signatures stand in a chain, group or chord.
+#[derive(Clone, Copy)]
+enum Place {
+    /// The elements of a chain.
+    Elements,
+    /// The members of a group.
+    Members,
+    /// The members of a header that is a list.
+    Header,
+    /// A header that is a signature.
+    HeaderGroup,
+    Body,
 }
 
-/// A chord of these parts, without callbacks of its own.
-fn with_parts<'a>(
-    arena: &'a Bump,
-    value: &Datum<'a>,
-    header: Datum<'a>,
-    body: Datum<'a>,
-) -> Result<Datum<'a>, SigFault> {
-    let bare = without_callbacks(arena, value)?;
-    let half = with_inner(arena, &bare, "kwargs", "header", header)?;
-    with_inner(arena, &half, "kwargs", "body", body)
+impl Place {
+    fn name(self) -> &'static str {
+        match self {
+            Place::Elements | Place::Members => "tasks",
+            Place::Header | Place::HeaderGroup => "header",
+            Place::Body => "body",
+        }
+    }
+
+    fn is_alone(self) -> bool {
+        matches!(self, Place::HeaderGroup | Place::Body)
+    }
+}
+
+/// The signatures that stand there.
+fn values_at<'a>(value: &Datum<'a>, place: Place) -> &'a [Datum<'a>] {
+    let found = kwarg_of(value, place.name());
+    if !place.is_alone() {
+        return listed(found);
+    }
+    match found {
+        Some(one) => slice::from_ref(one),
+        None => &[],
+    }
+}
+
+/// What is put there once it is adapted.
+fn made_of<'a>(place: Place, values: &'a [Datum<'a>]) -> Datum<'a> {
+    match values {
+        [one] if place.is_alone() => *one,
+        _ => Datum::List(values),
+    }
+}
+
+/// What the signatures that stand there are given of what is given for them.
+fn given_at<'a>(given: &Given<'a>, place: Place, is_last: bool) -> Given<'a> {
+    match place {
+        Place::Elements => given.of_element(is_last),
+        _ => given.of_part(place.is_alone()),
+    }
+}
+
+/// Where a chord's header stands.
+fn place_of_header(value: &Datum<'_>) -> Place {
+    if is_list(kwarg_of(value, "header")) {
+        return Place::Header;
+    }
+    Place::HeaderGroup
 }
 
 impl<'a> Work<'a> {
@@ -88,120 +130,113 @@ impl<'a> Work<'a> {
         }
     }
 
-    /// Members of a group or of a header.
-    #[cycle(node)]
-    fn adapt_members(
+    /// Adds the members of a group.
+    fn add_members(
         &mut self,
-        members: &'a [Datum<'a>],
-        given: &Given<'a>,
-        left: u32,
-    ) -> Result<Datum<'a>, SigFault> {
-        let part = given.of_part(false);
+        made: &mut Made<'a, Datum<'a>>,
+        written: &[Datum<'a>],
+        adapted: &[Datum<'a>],
+        is_frozen: bool,
+    ) -> Result<(), SigFault> {
+        for (index, value) in adapted.iter().enumerate() {
+            if let Some(written) = written.get(index) {
+                self.add_member(made, written, value, is_frozen)?;
+            }
+        }
+        Ok(())
+    }
+
+    /// What stands there of what was adapted: of members what each of them gives the group.
+    fn unrolled_at(
+        &mut self,
+        value: &Datum<'a>,
+        place: Place,
+        is_frozen: bool,
+        adapted: &'a [Datum<'a>],
+    ) -> Result<&'a [Datum<'a>], SigFault> {
+        if !matches!(place, Place::Members | Place::Header) {
+            return Ok(adapted);
+        }
         let mut made = Made::new(self.arena);
-        for member in members {
-            let adapted = self.adapt_node(member, &part, left)?;
-            self.add_member(&mut made, member, &adapted, given.is_frozen)?;
-        }
-        Ok(Datum::List(made.done()))
+        self.add_members(&mut made, values_at(value, place), adapted, is_frozen)?;
+        Ok(made.done())
     }
 
-    #[cycle(node)]
-    fn adapt_elements(
+    /// Puts there what was adapted, and takes a signature's own callbacks away.
+    fn set_adapted(
         &mut self,
-        chain: &Datum<'a>,
+        value: &mut Datum<'a>,
+        place: Place,
+        is_frozen: bool,
+        adapted: &'a [Datum<'a>],
+    ) -> Result<(), SigFault> {
+        let values = self.unrolled_at(value, place, is_frozen, adapted)?;
+        drop_callbacks(self.arena, value)?;
+        set_inner(
+            self.arena,
+            value,
+            "kwargs",
+            place.name(),
+            &made_of(place, values),
+        )
+    }
+
+    /// What stands somewhere in a chain, group or chord.
+    #[cycle(node)]
+    fn adapt_inner(
+        &mut self,
+        value: &mut Datum<'a>,
+        place: Place,
         given: &Given<'a>,
         left: u32,
-    ) -> Result<Datum<'a>, SigFault> {
-        let elements = listed(kwarg_of(chain, "tasks"));
-        let made = self.arena.try_alloc_slice_copy(elements)?;
-        let mut behind = made.len();
-        for element in made.iter_mut() {
+    ) -> Result<(), SigFault> {
+        let adapted = self.arena.try_alloc_slice_copy(values_at(value, place))?;
+        let mut behind = adapted.len();
+        for inner in adapted.iter_mut() {
             behind = behind.saturating_sub(1);
-            let given = given.of_element(behind == 0);
-            *element = self.adapt_node(element, &given, left)?;
+            self.adapt_node(inner, &given_at(given, place, behind == 0), left)?;
         }
-        Ok(Datum::List(made))
+        self.set_adapted(value, place, given.is_frozen, adapted)
     }
 
+    /// A chain, group or chord, with what its parts are given.
     #[cycle(node)]
-    fn adapt_chain(
+    fn adapt_parts(
         &mut self,
-        value: &Datum<'a>,
+        value: &mut Datum<'a>,
+        form: Form,
         given: &Given<'a>,
         left: u32,
-    ) -> Result<Datum<'a>, SigFault> {
+    ) -> Result<(), SigFault> {
         let given = self.with_own(value, given, left)?;
-        let elements = self.adapt_elements(value, &given, left)?;
-        with_members(self.arena, value, elements)
-    }
-
-    #[cycle(node)]
-    fn adapt_group(
-        &mut self,
-        value: &Datum<'a>,
-        given: &Given<'a>,
-        left: u32,
-    ) -> Result<Datum<'a>, SigFault> {
-        let given = self.with_own(value, &given.of_group(), left)?;
-        let members = self.adapt_members(listed(kwarg_of(value, "tasks")), &given, left)?;
-        with_members(self.arena, value, members)
-    }
-
-    /// A header, which is a list or a signature.
-    #[cycle(node)]
-    fn adapt_header(&mut self, value: &Datum<'a>, left: u32) -> Result<Datum<'a>, SigFault> {
-        let given = Given::none().of_part(true);
-        match kwarg_of(value, "header") {
-            Some(Datum::List(members)) => self.adapt_members(members, &given, left),
-            Some(header) => self.adapt_node(header, &given, left),
-            None => Ok(Datum::Null),
+        match form {
+            Form::Chain => self.adapt_inner(value, Place::Elements, &given, left),
+            Form::Group => self.adapt_inner(value, Place::Members, &given, left),
+            _ => {
+                let place = place_of_header(value);
+                self.adapt_inner(value, place, &Given::none().of_part(true), left)?;
+                self.adapt_inner(value, Place::Body, &given, left)
+            }
         }
-    }
-
-    #[cycle(node)]
-    fn adapt_body(
-        &mut self,
-        value: &Datum<'a>,
-        given: &Given<'a>,
-        left: u32,
-    ) -> Result<Datum<'a>, SigFault> {
-        match kwarg_of(value, "body") {
-            Some(body) => self.adapt_node(body, given, left),
-            None => Ok(Datum::Null),
-        }
-    }
-
-    #[cycle(node)]
-    fn adapt_chord(
-        &mut self,
-        value: &Datum<'a>,
-        given: &Given<'a>,
-        left: u32,
-    ) -> Result<Datum<'a>, SigFault> {
-        let given = self.with_own(value, given, left)?;
-        let header = self.adapt_header(value, left)?;
-        let body = self.adapt_body(value, &given.of_part(true), left)?;
-        with_parts(self.arena, value, header, body)
     }
 
     /// A signature, with what it is given. Signatures in it nest at most `left` deep.
     #[cycle(node)]
     pub(crate) fn adapt_node(
         &mut self,
-        value: &Datum<'a>,
+        value: &mut Datum<'a>,
         given: &Given<'a>,
         left: u32,
-    ) -> Result<Datum<'a>, SigFault> {
+    ) -> Result<(), SigFault> {
         if left == 0 {
-            return Ok(*value);
+            return Ok(());
         }
         match form_of(value) {
             Form::Task => self.adapt_task(value, given, left - 1),
-            Form::Chain => self.adapt_chain(value, given, left - 1),
-            Form::Group => self.adapt_group(value, given, left - 1),
-            Form::Chord => self.adapt_chord(value, given, left - 1),
             Form::Calls => self.adapt_calls(value, given, left - 1),
-            Form::Other => Ok(*value),
+            Form::Group => self.adapt_parts(value, Form::Group, &given.of_group(), left - 1),
+            Form::Other => Ok(()),
+            form => self.adapt_parts(value, form, given, left - 1),
         }
     }
 }

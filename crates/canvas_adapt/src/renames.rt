@@ -11,13 +11,16 @@ pub struct Rename {
     pub name: String,
 }
 
-/// The number that a text says, as `#3`.
+/// The number that a text says, as `#3`. It has no sign.
 fn number_of(text: &str) -> Option<TaskNo> {
     let digits = text.strip_prefix("#")?;
-    if !digits.as_bytes().iter().all(|byte| byte.is_ascii_digit()) {
+    if digits.starts_with('+') {
         return None;
     }
-    TaskNo::new(digits.parse().ok()?)
+    match digits.parse() {
+        Ok(number) => TaskNo::new(number),
+        Err(_) => None,
+    }
 }
 
 /// Reads a name for a task, as `#3=shop.ship`. The number ends before the first `=`.

@@ -4,13 +4,13 @@ ghost use Rattle.std.specs.Prelude.{◌≡◌, Ok, IfOk};
 ghost use Rattle.canvas_semantics.specs.Tree.{Tree};
 ghost use Rattle.canvas_values.specs.CanvasText.{text_reading};
 
-use crate::adapting::line_of;
+use crate::adapting::{check_reads, line_of};
 use crate::given::values_in;
-use crate::member::{with_inner, with_member};
+use crate::member::{set_inner, set_member};
 use crate::renames::{Rename, name_of};
 use bumpalo::Bump;
-use canvas_sig::parts::{Datum, MOST_LEVELS, kwarg_of, option_of, parse, primitive_of};
-use canvas_sig::{SigFault, read_canvas};
+use canvas_sig::SigFault;
+use canvas_sig::parts::{Datum, MOST_LEVELS, is_list, kwarg_of, option_of, parse, primitive_of};
 use canvas_values::Primitive;
 use json::Scratch;
 use std::alloc::Global;
@@ -32,85 +32,104 @@ struct Walk<'a> {
     task: u32,
 }
 
+/// Where signatures stand in one.
+#[derive(Clone, Copy)]
+enum Part {
+    /// Callbacks of a task, under this name in its options.
+    Callbacks(&'static str),
+    /// What a chain, group or chord has under this name in its keyword arguments.
+    Inner(&'static str),
+}
+
+static OF_TASK: [Part; 2] = [Part::Callbacks("link"), Part::Callbacks("link_error")];
+
+static OF_LIST: [Part; 1] = [Part::Inner("tasks")];
+
+static OF_CHORD: [Part; 2] = [Part::Inner("header"), Part::Inner("body")];
+
+/// Where signatures stand in one, in the order of their tasks' numbers.
+fn parts_of(primitive: Option<Primitive>) -> &'static [Part] {
+    match primitive {
+        Some(Primitive::Task) => &OF_TASK,
+        Some(Primitive::Chain | Primitive::Group) => &OF_LIST,
+        Some(Primitive::Chord) => &OF_CHORD,
+        None => &[],
+    }
+}
+
+/// The signatures that stand there: a list of them, one, or none.
+fn values_at<'a>(value: &Datum<'a>, part: Part) -> &'a [Datum<'a>] {
+    match part {
+        Part::Callbacks(name) => values_in(option_of(value, name)),
+        Part::Inner(name) => values_in(kwarg_of(value, name)),
+    }
+}
+
+/// A list of signatures, or the one that stands where no list stood.
+fn list_or_one<'a>(written: Option<&Datum<'a>>, values: &'a [Datum<'a>]) -> Datum<'a> {
+    match values {
+        [one] if !is_list(written) => *one,
+        _ => Datum::List(values),
+    }
+}
+
+/// Puts these signatures there. Callbacks stand in a list.
+fn set_values<'a>(
+    arena: &'a Bump,
+    value: &mut Datum<'a>,
+    part: Part,
+    values: &'a [Datum<'a>],
+) -> Result<(), SigFault> {
+    if values.is_empty() {
+        return Ok(());
+    }
+    match part {
+        Part::Callbacks(name) => set_inner(arena, value, "options", name, &Datum::List(values)),
+        Part::Inner(name) => {
+            let inner = list_or_one(kwarg_of(value, name), values);
+            set_inner(arena, value, "kwargs", name, &inner)
+        }
+    }
+}
+
 impl<'a> Walk<'a> {
-    /// A task, with its links and its error callbacks.
-    #[cycle(task)]
-    fn rename_task(&mut self, value: &Datum<'a>, left: u32) -> Result<Datum<'a>, SigFault> {
-        if left == 0 {
-            return Ok(*value);
-        }
+    /// Gives the next task its other name, where it has one.
+    fn name_task(&mut self, task: &mut Datum<'a>) -> Result<(), SigFault> {
         self.task = self.task.saturating_add(1);
-        let named = match name_of(self.renames, self.task) {
-            Some(name) => with_member(self.arena, value, "task", Datum::Text(name))?,
-            None => *value,
-        };
-        let named = self.rename_callbacks(&named, "link", left - 1)?;
-        self.rename_callbacks(&named, "link_error", left - 1)
+        match name_of(self.renames, self.task) {
+            Some(name) => set_member(self.arena, task, "task", &Datum::Text(name)),
+            None => Ok(()),
+        }
     }
 
-    #[cycle(task)]
-    fn rename_callbacks(
-        &mut self,
-        task: &Datum<'a>,
-        name: &'a str,
-        left: u32,
-    ) -> Result<Datum<'a>, SigFault> {
-        let callbacks = values_in(option_of(task, name));
-        if callbacks.is_empty() {
-            return Ok(*task);
-        }
-        let renamed = self.arena.try_alloc_slice_copy(callbacks)?;
-        for callback in renamed.iter_mut() {
-            *callback = self.rename_task(callback, left)?;
-        }
-        with_inner(self.arena, task, "options", name, Datum::List(renamed))
-    }
-
-    /// What stands in a chain, group or chord under a name.
     #[cycle(node)]
-    fn rename_inner(
+    fn rename_part(
         &mut self,
-        value: &Datum<'a>,
-        name: &'a str,
+        value: &mut Datum<'a>,
+        part: Part,
         left: u32,
-    ) -> Result<Datum<'a>, SigFault> {
-        let Some(inner) = kwarg_of(value, name) else {
-            return Ok(*value);
-        };
-        let inner = self.rename_one_or_more(inner, left)?;
-        with_inner(self.arena, value, "kwargs", name, inner)
-    }
-
-    /// Signatures in a list, or one.
-    #[cycle(node)]
-    fn rename_one_or_more(&mut self, value: &Datum<'a>, left: u32) -> Result<Datum<'a>, SigFault> {
-        let Datum::List(values) = value else {
-            return self.rename_node(value, left);
-        };
-        let renamed = self.arena.try_alloc_slice_copy(values)?;
-        for value in renamed.iter_mut() {
-            *value = self.rename_node(value, left)?;
+    ) -> Result<(), SigFault> {
+        let renamed = self.arena.try_alloc_slice_copy(values_at(value, part))?;
+        for inner in renamed.iter_mut() {
+            self.rename_node(inner, left)?;
         }
-        Ok(Datum::List(renamed))
+        set_values(self.arena, value, part, renamed)
     }
 
     /// A signature. Signatures in it nest at most `left` deep.
     #[cycle(node)]
-    fn rename_node(&mut self, value: &Datum<'a>, left: u32) -> Result<Datum<'a>, SigFault> {
+    fn rename_node(&mut self, value: &mut Datum<'a>, left: u32) -> Result<(), SigFault> {
         if left == 0 {
-            return Ok(*value);
+            return Ok(());
         }
-        match primitive_of(value.get("subtask_type")) {
-            Some(Primitive::Task) => self.rename_task(value, MOST_LEVELS),
-            Some(Primitive::Chain | Primitive::Group) => {
-                self.rename_inner(value, "tasks", left - 1)
-            }
-            Some(Primitive::Chord) => {
-                let half = self.rename_inner(value, "header", left - 1)?;
-                self.rename_inner(&half, "body", left - 1)
-            }
-            None => Ok(*value),
+        let primitive = primitive_of(value.get("subtask_type"));
+        if matches!(primitive, Some(Primitive::Task)) {
+            self.name_task(value)?;
         }
+        for part in parts_of(primitive) {
+            self.rename_part(value, *part, left - 1)?;
+        }
+        Ok(())
     }
 }
 
@@ -121,13 +140,13 @@ fn rename_parsed<'a>(
     bytes: &'a [u8],
     renames: &'a [Rename],
 ) -> Result<Renamed, SigFault> {
-    let value = parse(alloc, arena, scratch, bytes)?;
+    let mut value = parse(alloc, arena, scratch, bytes)?;
     let mut walk = Walk {
         arena,
         renames,
         task: 0,
     };
-    let value = walk.rename_node(&value, MOST_LEVELS)?;
+    walk.rename_node(&mut value, MOST_LEVELS)?;
     let text = line_of(alloc, &value)?;
     Ok(Renamed {
         text,
@@ -148,6 +167,6 @@ pub fn rename(alloc: Global, bytes: &[u8], renames: &[Rename]) -> Result<Renamed
     ensures reads { IfOk result (λ r. (c : Tree) × (text_reading r.text.items ≡ Ok c)) }
 {
     let renamed = rename_bytes(alloc, bytes, renames)?;
-    let _canvas = read_canvas(alloc, &renamed.text)?;
+    check_reads(alloc, &renamed.text)?;
     Ok(renamed)
 }

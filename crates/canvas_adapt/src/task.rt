@@ -1,53 +1,87 @@
 //! Tasks.
 
-use crate::given::{Callback, Given, values_in};
-use crate::member::{with_inner, with_member};
+use crate::form::is_task;
+use crate::given::{Callback, Given, callbacks_of};
+use crate::member::{set_inner, set_member};
 use crate::work::Work;
 use canvas_sig::SigFault;
-use canvas_sig::parts::{Datum, option_of};
+use canvas_sig::parts::Datum;
 
 impl<'a> Work<'a> {
-    /// A task whose arguments are of the profile.
-    fn with_arguments(&mut self, task: &Datum<'a>, name: &'a str) -> Result<Datum<'a>, SigFault> {
+    /// Makes the arguments of that name ones of the profile.
+    fn set_arguments(&mut self, task: &mut Datum<'a>, name: &'a str) -> Result<(), SigFault> {
         match task.get(name) {
             Some(arguments) => {
-                let arguments = self.adapt_arguments(arguments)?;
-                with_member(self.arena, task, name, arguments)
+                let mut arguments = *arguments;
+                self.adapt_arguments(&mut arguments)?;
+                set_member(self.arena, task, name, &arguments)
             }
-            None => Ok(*task),
+            None => Ok(()),
         }
     }
 
-    /// A task that has these callbacks behind its own of that name.
-    #[cycle(task)]
-    fn with_callbacks(
+    /// Gives a task its own callbacks of that name, and behind them those that it is given.
+    fn set_callbacks(
         &mut self,
-        task: &Datum<'a>,
+        task: &mut Datum<'a>,
         name: &'a str,
+        own: &'a [Datum<'a>],
         given: &'a [Callback<'a>],
-        left: u32,
-    ) -> Result<Datum<'a>, SigFault> {
-        let own = values_in(option_of(task, name));
+    ) -> Result<(), SigFault> {
         if own.is_empty() && given.is_empty() {
-            return Ok(*task);
+            return Ok(());
         }
-        let callbacks = self.adapt_callbacks(own, given, left)?;
-        with_inner(self.arena, task, "options", name, callbacks)
+        let callbacks = self.with_given(own, given)?;
+        set_inner(self.arena, task, "options", name, &Datum::List(callbacks))
     }
 
-    /// A task, with what it is given.
+    /// Gives a task its own links and error callbacks, and what it is given.
+    fn give(
+        &mut self,
+        task: &mut Datum<'a>,
+        links: &'a [Datum<'a>],
+        errbacks: &'a [Datum<'a>],
+        given: &Given<'a>,
+    ) -> Result<(), SigFault> {
+        let others = self.not_among(given.errbacks, callbacks_of(task, "link_error"))?;
+        self.set_callbacks(task, "link", links, given.links)?;
+        self.set_callbacks(task, "link_error", errbacks, others)
+    }
+
+    /// Tasks, each with what it is given. What is no task stays as it is, and is refused.
+    #[cycle(task)]
+    pub(crate) fn adapted_tasks(
+        &mut self,
+        values: &'a [Datum<'a>],
+        given: &Given<'a>,
+        left: u32,
+    ) -> Result<&'a [Datum<'a>], SigFault> {
+        if left == 0 {
+            return Ok(values);
+        }
+        let made = self.arena.try_alloc_slice_copy(values)?;
+        for value in made.iter_mut() {
+            self.adapt_task(value, given, left - 1)?;
+        }
+        Ok(made)
+    }
+
+    /// A task, with what it is given. What is no task stays as it is.
     #[cycle(task)]
     pub(crate) fn adapt_task(
         &mut self,
-        task: &Datum<'a>,
+        task: &mut Datum<'a>,
         given: &Given<'a>,
         left: u32,
-    ) -> Result<Datum<'a>, SigFault> {
-        let written = values_in(option_of(task, "link_error"));
-        let errbacks = self.not_among(given.errbacks, written)?;
-        let made = self.with_arguments(task, "args")?;
-        let made = self.with_arguments(&made, "kwargs")?;
-        let made = self.with_callbacks(&made, "link", given.links, left)?;
-        self.with_callbacks(&made, "link_error", errbacks, left)
+    ) -> Result<(), SigFault> {
+        if !is_task(task) {
+            return Ok(());
+        }
+        self.set_arguments(task, "args")?;
+        self.set_arguments(task, "kwargs")?;
+        let none = Given::none();
+        let links = self.adapted_tasks(callbacks_of(task, "link"), &none, left)?;
+        let errbacks = self.adapted_tasks(callbacks_of(task, "link_error"), &none, left)?;
+        self.give(task, links, errbacks, given)
     }
 }

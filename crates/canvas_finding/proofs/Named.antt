@@ -1,10 +1,29 @@
 -- Names that are added, one list of them after the other.
-use Rattle.std.proofs.Common.{◌≡◌, List, ◌++◌, map}
+use Rattle.std.proofs.Common.{◌≡◌, ◌<◌, ◌≤◌, ◌+◌, ℕ, List, ◌∷◌, ◌++◌, map, length, get_or, drop, ap, sym, ◌∙◌, append_assoc, append-nil}
+use Rattle.std.proofs.lemmas.List.{drop_more, drop_all}
 use Rattle.std.specs.Prelude.{String, string_bytes}
 use Rattle.std.specs.Global.{Global}
 use Rattle.std.specs.List.{flat_map}
 use Rattle.canvas_task.specs.Text.{Text}
+use Rattle.canvas_finding.specs.Naming.{Adds}
 
 -- those of the rest are left to add
 abbrev pub Left : {X : Type 0} → (X → List Text) → (old now : List (String Global)) → (all rest : List X) → Type 0
 Left f old now all rest = map string_bytes now ++ flat_map f rest ≡ map string_bytes old ++ flat_map f all
+
+-- those of one more were added
+pub one_more : {X Y : Type 0} (look : X → Y) (f : Y → List Text) (xs : List X) (i : ℕ) (x d : X) (old now next : List (String Global))
+    → i < length xs → get_or xs i d ≡ x → Adds (f (look x)) now next
+    → Left f old now (map look xs) (map look (drop i xs)) → Left f old next (map look xs) (map look (drop (i + 1) xs))
+one_more look f xs i x d old now next inside is added kept =
+    let cut : drop i xs ≡ x ∷ drop (i + 1) xs = drop_more xs i d inside ∙ ap (λ y. y ∷ drop (i + 1) xs) is in
+    let more : List Text = flat_map f (map look (drop (i + 1) xs)) in
+    ap (λ ys. ys ++ more) added
+    ∙ (append_assoc (map string_bytes now) (f (look x)) more
+    ∙ (ap (λ ys. map string_bytes now ++ flat_map f (map look ys)) (sym cut) ∙ kept))
+
+-- those of all were added
+pub all_added : {X Y : Type 0} (look : X → Y) (f : Y → List Text) (xs : List X) (i : ℕ) (old now : List (String Global))
+    → length xs ≤ i → Left f old now (map look xs) (map look (drop i xs)) → Adds (flat_map f (map look xs)) old now
+all_added look f xs i old now past kept =
+    sym (append-nil (map string_bytes now)) ∙ (ap (λ ys. map string_bytes now ++ flat_map f (map look ys)) (sym (drop_all i xs past)) ∙ kept)

@@ -1,6 +1,7 @@
 //! The note on a task's first argument that is of no allowed kind, or holds a bad number.
 
-use crate::shown::{quoted, shown_value};
+use crate::notes::found;
+use crate::shown::quoted;
 use canvas_sig::parts::{Datum, listed};
 use canvas_task::in_range;
 use std::alloc::{AllocError, Global};
@@ -33,41 +34,56 @@ fn is_number(value: &Datum<'_>) -> bool {
     matches!(value, Datum::Number(_))
 }
 
-fn is_bad(value: &Datum<'_>, bad: Bad) -> bool {
+fn is_bad_item(value: &Datum<'_>, bad: Bad) -> bool {
     match bad {
-        Bad::Kind => match value {
-            Datum::Number(_) | Datum::Text(_) => false,
-            Datum::List(values) => values.iter().any(|value| !is_number(value)),
-            _ => true,
-        },
-        Bad::Number => match value {
-            Datum::Number(_) => !is_whole(value),
-            Datum::List(values) => values.iter().any(|value| !is_whole(value)),
-            _ => false,
-        },
+        Bad::Kind => !is_number(value),
+        Bad::Number => !is_whole(value),
+    }
+}
+
+/// The first item of a list that is bad, and its place.
+fn bad_item<'v>(values: &'v [Datum<'v>], bad: Bad) -> Option<(usize, &'v Datum<'v>)> {
+    for (index, value) in values.iter().enumerate() {
+        if is_bad_item(value, bad) {
+            return Some((index, value));
+        }
+    }
+    None
+}
+
+fn is_bad(value: &Datum<'_>, bad: Bad) -> bool {
+    match value {
+        Datum::Number(_) => is_bad_item(value, bad),
+        Datum::Text(_) => false,
+        Datum::List(values) => bad_item(values, bad).is_some(),
+        _ => matches!(bad, Bad::Kind),
     }
 }
 
 /// What is bad in an argument, which may be an item of it, where it stands, and what is wanted.
 fn of_argument(alloc: Global, at: &str, value: &Datum<'_>, bad: Bad) -> Result<String, AllocError> {
-    if let Datum::List(values) = value {
-        for (index, value) in values.iter().enumerate() {
-            let (is_item_bad, wanted) = match bad {
-                Bad::Kind => (!is_number(value), ITEM),
-                Bad::Number => (!is_whole(value), NUMBER),
-            };
-            if is_item_bad {
-                let shown = shown_value(alloc, value)?;
-                return format!(in alloc; "found {at}[{index}] {shown}, wanted {wanted}");
-            }
+    let (wanted, of_item) = match bad {
+        Bad::Kind => (ARGUMENT, ITEM),
+        Bad::Number => (NUMBER, NUMBER),
+    };
+    match bad_item(listed(Some(value)), bad) {
+        Some((index, item)) => {
+            let at = format!(in alloc; "{at}[{index}]")?;
+            found(alloc, &at, Some(item), of_item)
+        }
+        None => found(alloc, at, Some(value), wanted),
+    }
+}
+
+fn of_named(alloc: Global, members: &[(&str, Datum<'_>)], bad: Bad) -> Result<String, AllocError> {
+    for member in members {
+        if is_bad(&member.1, bad) {
+            let name = quoted(alloc, member.0)?;
+            let at = format!(in alloc; "kwargs[{name}]")?;
+            return of_argument(alloc, &at, &member.1, bad);
         }
     }
-    let wanted = match bad {
-        Bad::Kind => ARGUMENT,
-        Bad::Number => NUMBER,
-    };
-    let shown = shown_value(alloc, value)?;
-    format!(in alloc; "found {at} {shown}, wanted {wanted}")
+    Ok(String::new(alloc))
 }
 
 /// The note on the first argument that is bad.
@@ -82,14 +98,8 @@ pub(crate) fn of_bad_argument(
             return of_argument(alloc, &at, value, bad);
         }
     }
-    if let Some(Datum::Object(members)) = signature.get("kwargs") {
-        for (name, value) in members.iter() {
-            if is_bad(value, bad) {
-                let name = quoted(alloc, name)?;
-                let at = format!(in alloc; "kwargs[{name}]")?;
-                return of_argument(alloc, &at, value, bad);
-            }
-        }
+    match signature.get("kwargs") {
+        Some(Datum::Object(members)) => of_named(alloc, members, bad),
+        _ => Ok(String::new(alloc)),
     }
-    Ok(String::new(alloc))
 }

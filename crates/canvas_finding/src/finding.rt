@@ -4,7 +4,7 @@ ghost use Rattle.std.specs.Prelude.{◌≡◌, ◌≤◌, IfOk};
 ghost use Rattle.std.specs.Option.{option_map};
 ghost use Rattle.serde_json.specs.Data.{depth};
 ghost use Rattle.canvas_sig.specs.Datum.{view};
-ghost use Rattle.canvas_values.specs.declared.fault.SigFault.TheVariants.{TooDeep};
+ghost use Rattle.canvas_values.specs.declared.fault.SigFault.TheVariants.{TooDeep, TooLarge};
 ghost use Rattle.canvas_finding.specs.Places.{shown};
 ghost use Rattle.canvas_finding.specs.Limits.{place_of};
 ghost use Rattle.canvas_finding.specs.declared.finding.Spot.TheVariants.{Text};
@@ -138,15 +138,28 @@ fn whole(fault: SigFault, note: String) -> Finding
     }
 }
 
+fn too_large(alloc: Global) -> Result<Finding, AllocError>
+    ensures { IfOk result (λ f. (f.fault ≡ TooLarge) × (f.spot ≡ Text)) }
+{
+    let note = String::from_str(
+        alloc,
+        "found more than 1,048,576 bytes, wanted at most as many",
+    )?;
+    Ok(whole(SigFault::TooLarge, note))
+}
+
 /// What serde_json says of a text, without the place, which a finding has apart.
+fn reason_of(said: &str) -> &str {
+    match said.split_once(" at line ") {
+        Some((reason, _place)) => reason,
+        None => said,
+    }
+}
+
 fn json_note(alloc: Global, error: &serde_json::Error) -> Result<String, AllocError> {
     let said = error.to_string(alloc)?;
-    match said.split_once(" at line ") {
-        Some((reason, _place)) => {
-            format!(in alloc; "found no JSON ({reason}), wanted one JSON text in UTF-8")
-        }
-        None => format!(in alloc; "found no JSON ({said}), wanted one JSON text in UTF-8"),
-    }
+    let reason = reason_of(&said);
+    format!(in alloc; "found no JSON ({reason}), wanted one JSON text in UTF-8")
 }
 
 /// Where a text is no JSON, as serde_json says it.
@@ -200,13 +213,7 @@ pub fn find(alloc: Global, bytes: &[u8]) -> Result<Option<Finding>, Memory>
     match read_canvas(alloc, bytes) {
         Ok(_canvas) => Ok(None),
         Err(SigFault::Memory) => Err(Memory),
-        Err(SigFault::TooLarge) => {
-            let note = String::from_str(
-                alloc,
-                "found more than 1,048,576 bytes, wanted at most as many",
-            )?;
-            Ok(Some(whole(SigFault::TooLarge, note)))
-        }
+        Err(SigFault::TooLarge) => Ok(Some(too_large(alloc)?)),
         Err(fault) => Ok(Some(find_at(alloc, bytes, fault)?)),
     }
 }

@@ -22,18 +22,16 @@ use std::alloc::{AllocError, Global};
 fn is_callback(name: &str) -> bool
     ensures { result ≡ is_callback name.now }
 {
-    name == "link" || name == "link_error" || name == "chord"
+    matches!(name, "link" | "link_error" | "chord")
 }
 
 fn is_book(name: &str) -> bool
     ensures { result ≡ is_book name.now }
 {
-    name == "chord_size"
-        || name == "group_id"
-        || name == "group_index"
-        || name == "parent_id"
-        || name == "root_id"
-        || name == "reply_to"
+    matches!(
+        name,
+        "chord_size" | "group_id" | "group_index" | "parent_id" | "root_id" | "reply_to"
+    )
 }
 
 fn is_ignored(name: &str, value: &Datum<'_>) -> bool

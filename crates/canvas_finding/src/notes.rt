@@ -14,9 +14,10 @@ use std::alloc::{AllocError, Global};
 const SIGNATURES: &str = "a list of signatures";
 
 /// What Celery calls signatures that apply another one to each of a list.
-const MAPS: [&str; 3] = ["celery.map", "celery.starmap", "celery.chunks"];
+static MAPS: [&str; 3] = ["celery.map", "celery.starmap", "celery.chunks"];
 
-fn found(
+/// The note on what stands somewhere.
+pub(crate) fn found(
     alloc: Global,
     what: &str,
     value: Option<&Datum<'_>>,
@@ -55,13 +56,13 @@ fn of_bad_args(alloc: Global, value: &Datum<'_>) -> Result<String, AllocError> {
     if !is_list_or_null(args) {
         return found(alloc, "args", args, "a list");
     }
-    for name in ["kwargs", "options"] {
+    for &name in &["kwargs", "options"] {
         let member = value.get(name);
         if !is_object_or_null(member) {
             return found(alloc, name, member, "an object");
         }
     }
-    for (name, what) in [
+    for &(name, what) in &[
         ("link", "options.link"),
         ("link_error", "options.link_error"),
     ] {
@@ -110,7 +111,7 @@ fn map_name(value: &Datum<'_>) -> Option<&'static str> {
     if !matches!(kwarg_of(value, "task"), Some(Datum::Object(_))) {
         return None;
     }
-    for name in MAPS {
+    for &name in &MAPS {
         if is_text(value.get("task"), name) {
             return Some(name);
         }
@@ -146,6 +147,20 @@ fn is_given(field: Option<&Datum<'_>>) -> bool {
     }
 }
 
+/// What a chain, group or chord has that only a task may have.
+fn given_on(value: &Datum<'_>) -> &'static str {
+    if is_given(value.get("args")) {
+        return "args";
+    }
+    if is_true(value.get("immutable")) {
+        return "immutable";
+    }
+    if is_given(option_of(value, "link")) {
+        return "options.link";
+    }
+    "options.link_error"
+}
+
 /// What only a task has, or where only a task may stand.
 fn of_canvas(alloc: Global, place: &Place<'_>) -> Result<String, AllocError> {
     let value = place.value;
@@ -153,15 +168,7 @@ fn of_canvas(alloc: Global, place: &Place<'_>) -> Result<String, AllocError> {
     if place.is_linked {
         return format!(in alloc; "found {kind} as a link or error callback, wanted a task");
     }
-    let what = if is_given(value.get("args")) {
-        "args"
-    } else if is_true(value.get("immutable")) {
-        "immutable"
-    } else if is_given(option_of(value, "link")) {
-        "options.link"
-    } else {
-        "options.link_error"
-    };
+    let what = given_on(value);
     format!(in alloc; "found {what} on {kind}, wanted it on tasks alone")
 }
 

@@ -2,10 +2,7 @@ use Rattle.std.proofs.Common.{◌+◌, ◌*◌}
 use Rattle.canvas_adapt.proofs.renaming.Walk.+node.Given as goal
 
 abbrev pub decreases-rename_node : goal.decreases-rename_node
-decreases-rename_node l = 4 * l.left
+decreases-rename_node l = 2 * l.left
 
-abbrev pub decreases-rename_one_or_more : goal.decreases-rename_one_or_more
-decreases-rename_one_or_more l = 4 * l.left + 1
-
-abbrev pub decreases-rename_inner : goal.decreases-rename_inner
-decreases-rename_inner l = 4 * l.left + 2
+abbrev pub decreases-rename_part : goal.decreases-rename_part
+decreases-rename_part l = 2 * l.left + 1
