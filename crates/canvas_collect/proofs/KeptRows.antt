@@ -1,6 +1,6 @@
 -- Rows that stay.
 use Rattle.std.proofs.Common.{◌≡◌, ◌∙◌, ◌⊎◌, ◌<◌, ℕ, Bool, true, false, not, List, length, get_or, set, Option, Some, None}
-use Rattle.std.proofs.Common.{refl, sym, ap, subst, inl, inr, ⊎_elim, rules}
+use Rattle.std.proofs.Common.{refl, sym, ap, subst, inr, ⊎_elim, rules}
 use Rattle.std.specs.Option.{is_some}
 use Rattle.std.proofs.lemmas.Bool.{cases_eq}
 use Rattle.std.proofs.lemmas.List.{length-set, get_or-set_other, get_or_default}
