@@ -1,5 +1,5 @@
 -- What a header's members give, from the first on.
-use Rattle.std.proofs.Common.{◌≡◌, ◌∙◌, ℕ, ℤ, ◌⊎◌, List, [], ◌∷◌, ◌++◌, Some, None, refl, sym, ap, subst, inl, inr, ◌+◌, ◌<◌, ◌==◌, true, false, arith, length}
+use Rattle.std.proofs.Common.{◌≡◌, ◌≢◌, ◌∙◌, ℕ, ℤ, ◌⊎◌, List, [], ◌∷◌, ◌++◌, Some, None, refl, sym, ap, subst, inl, inr, ◌+◌, ◌<◌, ◌==◌, true, false, arith, length}
 use Rattle.std.proofs.Common.{take, get_or, eqb-true}
 use Rattle.std.proofs.lemmas.List.{map-append, take_more}
 use Rattle.canvas_task.specs.declared.outcome.Fault.{Fault}
@@ -113,3 +113,7 @@ over_some x f s (k ∷ ks) h e = of_raise x f (k, state_at s k) (listed s ks) e
 pub is_nil : (ks : List ℕ) → true ≡ (length ks == 0) → ks ≡ []
 is_nil [] h = refl
 is_nil (k ∷ ks) h = absurd (let none : length (k ∷ ks) ≡ 0 = eqb-true (length (k ∷ ks)) 0 (sym h) in omega (arith, none))
+
+pub not_nil : (ks : List ℕ) → false ≡ (length ks == 0) → ks ≢ []
+not_nil [] h e = absurd cc
+not_nil (k ∷ ks) h e = absurd cc

@@ -1,13 +1,16 @@
 -- Rows that stay.
-use Rattle.std.proofs.Common.{◌≡◌, ◌∙◌, ◌<◌, ℕ, List, length, get_or, set, Option, Some, None}
-use Rattle.std.proofs.Common.{refl, sym, ap, subst, ⊎_elim, rules}
+use Rattle.std.proofs.Common.{◌≡◌, ◌∙◌, ◌⊎◌, ◌<◌, ℕ, Bool, true, false, not, List, length, get_or, set, Option, Some, None}
+use Rattle.std.proofs.Common.{refl, sym, ap, subst, inr, ⊎_elim, rules}
+use Rattle.std.specs.Option.{is_some}
 use Rattle.std.proofs.lemmas.Bool.{cases_eq}
-use Rattle.std.proofs.lemmas.List.{length-set, get_or-set_other}
+use Rattle.std.proofs.lemmas.List.{length-set, get_or-set_other, get_or_default}
 use Rattle.std.proofs.lemmas.Grind.{get_or-set_at}
 use Rattle.canvas_task.specs.declared.outcome.Fault.{Fault}
 use Rattle.canvas_task.specs.declared.outcome.Outcome.{Outcome}
 use Rattle.canvas_task.specs.declared.outcome.Outcome.TheVariants.{Failure}
+use Rattle.canvas_semantics.specs.Evaluation.{State}
 use Rattle.canvas_collect.specs.Completed.{IsFailure, Keeps}
+use Rattle.canvas_collect.specs.steps.Flows.{Within}
 
 none_is_some : (row : Option Outcome) (o : Outcome) → row ≡ None → row ≡ Some o → IsFailure o
 none_is_some row o empty there = let bad : None ≡ Some o = sym empty ∙ there in absurd cc
@@ -66,5 +69,34 @@ set_kept rows i f within empty =
       stays = λ k o there. other_row rows i k f o empty there;
       fills = λ k o none there. set_row rows i k f o within none there;
     }
+
+-- ---- what a test of a row says
+
+is_empty : (row : Option Outcome) (empty : Bool) → is_some row ≡ not empty → empty ≡ true → row ≡ None
+is_empty None empty e is = refl
+is_empty (Some o) true e is = absurd cc
+is_empty (Some o) false e is = absurd cc
+
+not_empty : (row : Option Outcome) (empty : Bool) → is_some row ≡ not empty → empty ≡ false → row ≡ None → ⊥
+not_empty None true e isnt none = absurd cc
+not_empty None false e isnt none = absurd cc
+not_empty (Some o) empty e isnt none = absurd cc
+
+pub empty_at : (rows : List (Option Outcome)) (i : ℕ) (row : Option Outcome) (empty : Bool) → i < length rows
+    → is_some (get_or rows i row) ≡ not empty → empty ≡ true → get_or rows i None ≡ None
+empty_at rows i row empty within e is = get_or_default rows i None row within ∙ is_empty (get_or rows i row) empty e is
+
+pub full_at : (rows : List (Option Outcome)) (i : ℕ) (row : Option Outcome) (empty : Bool) → i < length rows
+    → is_some (get_or rows i row) ≡ not empty → empty ≡ false → get_or rows i None ≡ None → ⊥
+full_at rows i row empty within e isnt none = not_empty (get_or rows i row) empty e isnt (get_or_default rows i row None within ∙ none)
+
+pub set_within : (rows s : List State) (i : ℕ) (f : Fault) → i < length rows → get_or s i None ≡ Some (Failure f)
+    → Within rows s → Within (set rows i (Some (Failure f))) s
+set_within rows s i f long e w k =
+    let row : Option Outcome = Some (Failure f) in
+    let P : State → Type 0 = λ r. (r ≡ None) ⊎ (r ≡ get_or s k None) in
+    ⊎_elim (λ same. inr (get_or-set_at rows i k row None same long ∙ (sym e ∙ ap (λ j. get_or s j None) (sym same))))
+    (λ other. subst P (sym (get_or-set_other rows i k row None other)) (w k))
+    (cases_eq k i)
 
 pub ruleset kept = (kept_trans, kept_refl, set_kept)

@@ -5,6 +5,7 @@ pub mod Lines
 pub mod Dependency
 pub mod Refusals
 pub mod RowLemmas
+pub mod Digits
 pub mod Identifiers
 pub mod KeptRows
 pub mod FilledRows

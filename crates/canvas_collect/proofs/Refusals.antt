@@ -1,5 +1,5 @@
--- What is refused of an exception is of its result, and that of its line.
-use Rattle.std.proofs.Common.{◌≡◌, ℕ, codes}
+-- What is refused of an exception is of its result, and that of its line; and a line that isn't read.
+use Rattle.std.proofs.Common.{◌≡◌, ◌≢◌, ℕ, [], codes}
 use Rattle.serde_json.specs.Data.{Data}
 use Rattle.canvas_task.specs.Text.{Text}
 use Rattle.canvas_collect.specs.declared.stored.StoredFault.{StoredFault}
@@ -7,6 +7,7 @@ use Rattle.canvas_collect.specs.declared.stored.StoredFault.TheVariants.{NotJson
 use Rattle.canvas_collect.specs.declared.stored.StoredFault.TheVariants.{Memory}
 use Rattle.canvas_collect.specs.Stored.{state_of, result_of, IsResult}
 use Rattle.canvas_collect.specs.Refused.{RefusesException, RefusesResult}
+use Rattle.canvas_collect.specs.steps.Parsed.{IsUnread}
 use Rattle.canvas_collect.specs.steps.Rows.{LineFault}
 
 pub of_exception : (run : Text) (count : ℕ) (d : Data) (fault : StoredFault) → state_of d ≡ codes "FAILURE" → RefusesException run count (result_of d) fault
@@ -28,3 +29,12 @@ of_result run count k line d NotNumber said h = (d, said, h)
 of_result run count k line d UnknownException said h = (d, said, h)
 of_result run count k line d UnknownDependency said h = (d, said, h)
 of_result run count k line d Memory said h = tt
+
+pub of_unread : (run : Text) (count k : ℕ) (line : Text) (fault : StoredFault) → line ≢ [] → IsUnread line fault → LineFault run count k line fault
+of_unread run count k line NotJson some h = (some, h)
+of_unread run count k line OtherTask some h = absurd h
+of_unread run count k line UnknownState some h = absurd h
+of_unread run count k line NotNumber some h = absurd h
+of_unread run count k line UnknownException some h = absurd h
+of_unread run count k line UnknownDependency some h = absurd h
+of_unread run count k line Memory some h = tt

@@ -1,5 +1,5 @@
 -- Rows of any kind, and what they follow from.
-use Rattle.std.proofs.Common.{◌≡◌, ◌∙◌, ◌==◌, ◌<◌, ◌≤◌, ◌+◌, ℕ, [], ◌++◌, Some, None, true, false, if◌then◌else◌, codes, length, length-append, append_assoc, get_or, drop, arith, sym, ap, subst, ⊎_elim, not, eqb-true}
+use Rattle.std.proofs.Common.{◌≡◌, ◌≢◌, ◌∙◌, ◌==◌, ◌<◌, ◌≤◌, ◌+◌, ℕ, [], ◌++◌, Some, None, true, false, if◌then◌else◌, codes, length, length-append, append_assoc, get_or, drop, arith, sym, ap, subst, ⊎_elim, not, eqb-true}
 use Rattle.std.specs.Prelude.{Result, Ok, Err, IfOk, MatchResult, String, string_bytes}
 use Rattle.std.specs.declared.alloc.AllocError.{AllocError}
 use Rattle.std.specs.Global.{Global}
@@ -30,6 +30,7 @@ use Rattle.canvas_collect.specs.declared.stored.StoredFault.TheVariants.{Memory}
 use Rattle.canvas_collect.specs.Stored.{result_of, class_of, message_of, Blames, IsResult}
 use Rattle.canvas_collect.specs.Refused.{RefusesResult}
 use Rattle.canvas_collect.specs.AsStored.{IsJsonOf, Names, IsRow}
+use Rattle.canvas_collect.specs.steps.Parsed.{IsUnread}
 use Rattle.canvas_collect.specs.steps.ShownRows.{IsRefused, HasJson, HasClass, HasBlame, LacksClass, IsChordRow, ResultFault, ShowFault}
 use Rattle.canvas_collect.proofs.Dependency.{blames_one}
 use Rattle.canvas_collect.proofs.Identifiers.{length-run_task}
@@ -185,3 +186,24 @@ named_utf8 run message count dep name full utf8 (least, within, (raised, said, i
     let rest : drop 55 message ≡ raised = ap (λ t. drop 55 t) parts ∙ drop_at (front ++ mark) raised 55 rest_long in
     let after : IsUtf8 (drop 55 message) = IsUtf8-drop message 55 utf8 (IsCharBoundary-after_ascii message 54 utf8 long (omega (arith, blank))) in
     subst IsUtf8 is (front_utf8 raised (subst IsUtf8 rest after))
+
+-- ---- a line that has no row
+
+pub unread_shown : (run : Text) (count k : ℕ) (line : Text) (fault : StoredFault) → line ≢ [] → IsUnread line fault → ShowFault run count k line fault
+unread_shown run count k line NotJson some h = (some, h)
+unread_shown run count k line OtherTask some h = absurd h
+unread_shown run count k line UnknownState some h = absurd h
+unread_shown run count k line NotNumber some h = absurd h
+unread_shown run count k line UnknownException some h = absurd h
+unread_shown run count k line UnknownDependency some h = absurd h
+unread_shown run count k line Memory some h = tt
+
+pub result_shown : (run : Text) (count k : ℕ) (line : Text) (d : Data) (fault : StoredFault) → IsResult run k line d → ResultFault d fault
+    → ShowFault run count k line fault
+result_shown run count k line d NotJson said h = absurd h
+result_shown run count k line d OtherTask said h = absurd h
+result_shown run count k line d UnknownState said h = (d, said, h)
+result_shown run count k line d NotNumber said h = absurd h
+result_shown run count k line d UnknownException said h = (d, said, h)
+result_shown run count k line d UnknownDependency said h = absurd h
+result_shown run count k line d Memory said h = tt

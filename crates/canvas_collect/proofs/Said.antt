@@ -1,10 +1,13 @@
 -- Rows that are said, one after the other.
-use Rattle.std.proofs.Common.{◌≡◌, ℕ, suc, ◌+◌, arith, List, [], ◌∷◌, ◌++◌, length, length-append, append_assoc, Option, sym, ap, ◌∙◌, subst}
+use Rattle.std.proofs.Common.{◌≡◌, ℕ, suc, ◌+◌, ◌<◌, arith, List, [], ◌∷◌, ◌++◌, length, length-append, append-nil, append_assoc, Option, refl, sym, ap, ◌∙◌, subst}
 use Rattle.canvas_task.specs.Text.{Text}
 use Rattle.canvas_task.specs.declared.outcome.Outcome.{Outcome}
 use Rattle.canvas_collect.specs.Pieces.{lines_in}
+use Rattle.canvas_collect.specs.declared.collecting.CollectFault.{CollectFault}
+use Rattle.canvas_collect.specs.declared.collecting.CollectFault.TheVariants as fault
 use Rattle.canvas_collect.specs.Stored.{Says, AllSaid}
-use Rattle.canvas_collect.specs.steps.Rows.{Gains, IsRead}
+use Rattle.canvas_collect.specs.Refused.{IsCollectFault}
+use Rattle.canvas_collect.specs.steps.Rows.{Gains, IsRead, RowFault}
 
 said_more : (run : Text) (count k j : ℕ) (lines : List Text) (rows : List (Option Outcome)) (line : Text) (row : Option Outcome)
     → j ≡ k + length rows → AllSaid run count k lines rows → Says run count j line row → AllSaid run count k (lines ++ line ∷ []) (rows ++ row ∷ [])
@@ -34,3 +37,38 @@ read_more run count text rest line after n old new next (before, whole, as_many,
       ap (λ rs. length rs) one ∙ longer old row n rows,
       subst P (sym one) (said_more run count 1 (n + 1) before old line row here all says),
     )
+
+pub read_none : (run : Text) (count : ℕ) (text : Text) (rows : List (Option Outcome)) → rows ≡ [] → IsRead run count text text 0 rows
+read_none run count text rows e =
+    let P : List (Option Outcome) → Type 0 = λ rs. AllSaid run count 1 [] rs in
+    ([], refl, refl, ap (λ rs. length rs) e, subst P (sym e) tt)
+
+-- where all lines were read none is left
+pub none_left : (before left : List Text) (n : ℕ) → length before ≡ n → length (before ++ left) ≡ n → left ≡ []
+none_left before [] n as_many whole = refl
+none_left before (l ∷ ls) n as_many whole = absurd (omega (arith, length-append before (l ∷ ls)))
+
+pub some_left : (lines before : List Text) (rest : Text) (n count : ℕ) → lines ≡ before ++ lines_in rest → length before ≡ n → length lines ≡ count
+    → n < count → 0 < length rest
+some_left lines before [] n count whole as_many all less = absurd (omega (arith, ap (λ ls. length ls) whole, length-append before []))
+some_left lines before (b ∷ bs) n count whole as_many all less = omega arith
+
+-- the lines before are all of them
+pub whole_text : (lines before : List Text) (rest : Text) (n : ℕ) → lines ≡ before ++ lines_in rest → length before ≡ n → length lines ≡ n → lines ≡ before
+whole_text lines before rest n whole as_many all =
+    let none : lines_in rest ≡ [] = none_left before (lines_in rest) n as_many (ap (λ ls. length ls) (sym whole) ∙ all) in
+    whole ∙ (ap (λ ls. before ++ ls) none ∙ append-nil before)
+
+pub read_all : (run : Text) (count : ℕ) (text rest : Text) (n : ℕ) (rows : List (Option Outcome))
+    → IsRead run count text rest n rows → length (lines_in text) ≡ n → AllSaid run count 1 (lines_in text) rows
+read_all run count text rest n rows (before, whole, as_many, _, all) long =
+    let P : List Text → Type 0 = λ ls. AllSaid run count 1 ls rows in
+    subst P (sym (whole_text (lines_in text) before rest n whole as_many long)) all
+
+pub refused_next : (run : Text) (count : ℕ) (text rest line after : Text) (n : ℕ) (rows : List (Option Outcome)) (e : CollectFault)
+    → lines_in rest ≡ line ∷ lines_in after → IsRead run count text rest n rows → length (lines_in text) ≡ count
+    → RowFault run count (n + 1) line e → IsCollectFault run count (lines_in text) e
+refused_next run count text rest line after n rows fault.BadCount next read long refused = absurd refused
+refused_next run count text rest line after n rows fault.Memory next read long refused = tt
+refused_next run count text rest line after n rows (fault.Stored task stored) next (before, whole, as_many, _, all) long refused =
+    (long, (before, rows, line, lines_in after, whole ∙ ap (λ ls. before ++ ls) next, refused.0 ∙ ap (λ k. k + 1) (sym as_many), all, refused.1))

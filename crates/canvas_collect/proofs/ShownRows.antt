@@ -1,11 +1,14 @@
 -- Rows of any kind that are shown, one after the other.
-use Rattle.std.proofs.Common.{◌≡◌, ℕ, suc, ◌+◌, arith, List, [], ◌∷◌, ◌++◌, length, append_assoc, sym, ap, ◌∙◌, subst}
+use Rattle.std.proofs.Common.{◌≡◌, ℕ, suc, ◌+◌, arith, List, [], ◌∷◌, ◌++◌, length, append_assoc, refl, sym, ap, ◌∙◌, subst}
 use Rattle.canvas_task.specs.Text.{Text}
 use Rattle.canvas_report.specs.declared.row.Row.{Row}
 use Rattle.canvas_collect.specs.Pieces.{lines_in}
+use Rattle.canvas_collect.specs.declared.collecting.CollectFault.{CollectFault}
+use Rattle.canvas_collect.specs.declared.collecting.CollectFault.TheVariants as fault
 use Rattle.canvas_collect.specs.AsStored.{Shows, AllShown}
-use Rattle.canvas_collect.specs.steps.ShownRows.{GainsRow, AreRead}
-use Rattle.canvas_collect.proofs.Said.{longer}
+use Rattle.canvas_collect.specs.Unshown.{IsShowFault}
+use Rattle.canvas_collect.specs.steps.ShownRows.{GainsRow, AreRead, TaskFault}
+use Rattle.canvas_collect.proofs.Said.{longer, whole_text}
 
 shown_more : (run : Text) (count k j : ℕ) (lines : List Text) (rows : List Row) (line : Text) (row : Row)
     → j ≡ k + length rows → AllShown run count k lines rows → Shows run count j line row → AllShown run count k (lines ++ line ∷ []) (rows ++ row ∷ [])
@@ -33,3 +36,22 @@ read_more run count text rest line after n old new next (before, whole, as_many,
       ap (λ rs. length rs) one ∙ longer old row n rows,
       subst P (sym one) (shown_more run count 1 (n + 1) before old line row here all shows),
     )
+
+pub read_none : (run : Text) (count : ℕ) (text : Text) (rows : List Row) → rows ≡ [] → AreRead run count text text 0 rows
+read_none run count text rows e =
+    let P : List Row → Type 0 = λ rs. AllShown run count 1 [] rs in
+    ([], refl, refl, ap (λ rs. length rs) e, subst P (sym e) tt)
+
+pub read_all : (run : Text) (count : ℕ) (text rest : Text) (n : ℕ) (rows : List Row)
+    → AreRead run count text rest n rows → length (lines_in text) ≡ n → AllShown run count 1 (lines_in text) rows
+read_all run count text rest n rows (before, whole, as_many, _, all) long =
+    let P : List Text → Type 0 = λ ls. AllShown run count 1 ls rows in
+    subst P (sym (whole_text (lines_in text) before rest n whole as_many long)) all
+
+pub refused_next : (run : Text) (count : ℕ) (text rest line after : Text) (n : ℕ) (rows : List Row) (e : CollectFault)
+    → lines_in rest ≡ line ∷ lines_in after → AreRead run count text rest n rows → length (lines_in text) ≡ count
+    → TaskFault run count (n + 1) line e → IsShowFault run count (lines_in text) e
+refused_next run count text rest line after n rows fault.BadCount next read long refused = absurd refused
+refused_next run count text rest line after n rows fault.Memory next read long refused = tt
+refused_next run count text rest line after n rows (fault.Stored task stored) next (before, whole, as_many, _, all) long refused =
+    (long, (before, rows, line, lines_in after, whole ∙ ap (λ ls. before ++ ls) next, refused.0 ∙ ap (λ k. k + 1) (sym as_many), all, refused.1))

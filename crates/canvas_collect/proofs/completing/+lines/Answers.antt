@@ -14,6 +14,10 @@ use Rattle.canvas_collect.proofs.Walking.{dropped, nothing_left, members_next, o
 use Rattle.canvas_collect.proofs.Whole.{first_left, others_left, group_left, group_whole, header_left, header_table, body_left, tail_in}
 use Rattle.canvas_collect.proofs.completing.+lines.Goals as goal
 
+pub complete_all-loop-line-init : goal.complete_all-loop-line-init
+complete_all-loop-line-init t c =
+    (kept_refl c.args.rows.now, λ s all w. (w, all), λ s b all low high left inn w long. (w, left, (low, inn)))
+
 pub complete_all-loop-line-preserved : goal.complete_all-loop-line-preserved
 complete_all-loop-line-preserved t c =
     let table = λ (g : ℕ). members c.args.plan.now g in
@@ -168,3 +172,23 @@ complete_line-returns-in-Some-clause-within t c s r w =
     let done = c.complete_tasks-last.ensures.within table tail s parts w in
     let E : FrozenEnd → Type 0 = λ e. Reaches table c.complete_tasks-last.result (end_in e) s in
     c.complete_end.ensures.within s (subst E (sym c.deref-in-Some.ensures) done.1) done.0
+
+pub complete_all-returns-clause-keeps : goal.complete_all-returns-clause-keeps
+complete_all-returns-clause-keeps t c = c.loop-line.invariant.0
+
+pub complete_all-returns-clause-within : goal.complete_all-returns-clause-within
+complete_all-returns-clause-within t c s all w = (c.loop-line.invariant.1 s all w).0
+
+pub complete_end-returns-in-None-clause-keeps : goal.complete_end-returns-in-None-clause-keeps
+complete_end-returns-in-None-clause-keeps t c = c.complete_all.ensures.keeps
+
+pub complete_end-returns-in-Some-clause-keeps : goal.complete_end-returns-in-Some-clause-keeps
+complete_end-returns-in-Some-clause-keeps t c =
+    kept_trans c.args.rows.now c.complete_all.new.rows c.complete_line.new.rows c.complete_all.ensures.keeps c.complete_line.ensures.keeps
+
+pub complete_line-returns-in-None-clause-keeps : goal.complete_line-returns-in-None-clause-keeps
+complete_line-returns-in-None-clause-keeps t c = c.complete_tasks-last.ensures.keeps
+
+pub complete_line-returns-in-Some-clause-keeps : goal.complete_line-returns-in-Some-clause-keeps
+complete_line-returns-in-Some-clause-keeps t c =
+    kept_trans c.args.rows.now c.complete_tasks-last.new.rows c.complete_end.new.rows c.complete_tasks-last.ensures.keeps c.complete_end.ensures.keeps
