@@ -32,6 +32,12 @@ use Rattle.canvas_effects.proofs.Entered.{stores_on, messages_on, part_on, calle
 use Rattle.canvas_effects.proofs.Standing.{message_fits, as_it_stands, Stepped, first_stepped, rest_whole, place_last, place_never, whole_ok, member_first, member_others}
 use Rattle.canvas_effects.proofs.Walked.{number_seen, last_number}
 
+-- ---- the messages of a copy
+
+pub of_copy : (old all : List Content) (x : Input) (u : Option ℕ) (copy l : PLine) → copy ≡ l → all ≡ old ++ started copy x (end_place copy) u
+    → all ≡ old ++ started l x (end_place l) u
+of_copy old all x u copy l same made = made ∙ ap (λ r. old ++ started r x (end_place r) u) same
+
 -- ---- lines that are started store nothing, and return nothing where they have an element
 
 mutual

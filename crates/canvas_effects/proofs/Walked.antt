@@ -7,7 +7,7 @@ use Rattle.canvas_task.specs.declared.outcome.Outcome.{Outcome}
 use Rattle.canvas_task.specs.declared.outcome.Outcome.TheVariants.{Success, Failure}
 use Rattle.canvas_values.proofs.ComposedLemmas.{both}
 use Rattle.canvas_semantics.specs.Line.{in_group}
-use Rattle.canvas_semantics.specs.PlacedLine.{PTask, PPlace, PLine, p_stop, p_step, p_group_end, p_chord_end, strip}
+use Rattle.canvas_semantics.specs.PlacedLine.{PTask, PLine, p_stop, p_step, p_group_end, p_chord_end, strip}
 use Rattle.canvas_rewrite.specs.FrozenView.{p_steps, p_task_view, p_line_view, p_end_view}
 use Rattle.canvas_rewrite.specs.declared.frozen.FrozenTask.{FrozenTask, out-FrozenTask}
 use Rattle.canvas_rewrite.specs.declared.frozen.FrozenLine.{FrozenLine, out-FrozenLine}
@@ -15,7 +15,7 @@ use Rattle.canvas_rewrite.specs.declared.frozen.FrozenEnd.{FrozenEnd, out-Frozen
 use Rattle.canvas_message.specs.Content.{number_of}
 use Rattle.canvas_message.specs.Fits.{line_ok, task_ok}
 use Rattle.canvas_message.specs.steps.Parts.{is_stop}
-use Rattle.canvas_effects.specs.Carrying.{is_whole, can_stand, AllWhole, AllStand}
+use Rattle.canvas_effects.specs.Carrying.{is_whole, AllWhole}
 use Rattle.canvas_effects.specs.Placing.{last_task}
 use Rattle.canvas_effects.specs.steps.Walks.{last_of, successes, skipped, all_skipped, skipped_tasks, tail_seen, begins_with_task}
 use Rattle.canvas_effects.proofs.Copied.{line_parts}
@@ -61,11 +61,6 @@ one_success (k, Success n) es = refl
 one_success (k, Failure f) es = refl
 
 -- ---- lines in turn
-
-pub stand_on : (p : PPlace) (ls : List FrozenLine) (i : ℕ) (l : FrozenLine) → i < length ls → l ≡ get_or ls i l
-    → AllStand p (map p_line_view (drop i ls)) → (can_stand (p_line_view l) p ≡ true) × AllStand p (map p_line_view (drop (i + 1) ls))
-stand_on p ls i l lt is h =
-    subst (λ xs. AllStand p (map p_line_view xs)) (drop_more ls i l lt ∙ ap (λ y. y ∷ drop (i + 1) ls) (sym is)) h
 
 pub whole_on : (ls : List FrozenLine) (i : ℕ) (l : FrozenLine) → i < length ls → l ≡ get_or ls i l
     → AllWhole (map p_line_view (drop i ls)) → (is_whole (p_line_view l) ≡ true) × AllWhole (map p_line_view (drop (i + 1) ls))

@@ -27,7 +27,7 @@ mod raised;
 mod skipped;
 mod started;
 
-use crate::destinations::with_text;
+use crate::copies::copy_line;
 use crate::input::Input;
 use crate::{ChordBody, PartCall, Todo};
 use canvas_message::{CarriedText, Message, following, share_carried, share_text};
@@ -37,11 +37,11 @@ pub use first::FirstMessages;
 use header::{failure_of, numbers_of};
 use lasts::last_task;
 pub use moved::into_todo;
-use moved_line::start_moved_whole;
+use moved_line::start_whole;
 use order::{sort_messages, sort_stores};
 use raised::raise_line;
 use skipped::skip_line;
-use started::{call_back, start_line};
+use started::call_back;
 use std::alloc::{AllocError, Global};
 use std::sync::Arc;
 
@@ -49,15 +49,9 @@ use std::sync::Arc;
 pub fn first_messages(alloc: Global, plan: &Plan) -> Result<Vec<Message>, Memory>
     ensures { IfOk result (λ messages. messages.items ≡ first_messages plan.now) }
 {
+    let line = copy_line(alloc, plan.line())?;
     let mut messages = Vec::new(alloc);
-    start_whole(
-        alloc,
-        plan.line(),
-        &Input::Nothing,
-        &None,
-        None,
-        &mut messages,
-    )?;
+    start_whole(alloc, line, &Input::Nothing, &None, None, &mut messages)?;
     sort_messages(&mut messages)?;
     Ok(messages)
 }
@@ -73,15 +67,10 @@ pub fn after(alloc: Global, message: &Message, outcome: &Outcome) -> Result<Todo
         Some(rest) => match outcome {
             Outcome::Success(number) => {
                 let input = Input::Number(*number);
+                let parent = Some(message.task);
                 let text = share_text(&message.texts.carried)?;
-                start_whole(
-                    alloc,
-                    rest,
-                    &input,
-                    &Some(message.task),
-                    text,
-                    &mut messages,
-                )?;
+                let rest = copy_line(alloc, rest)?;
+                start_whole(alloc, rest, &input, &parent, text, &mut messages)?;
                 Ok(todo_of(stores, messages, None)?)
             }
             Outcome::Failure(fault) => {
@@ -164,29 +153,37 @@ pub fn into_body(
                 carried,
                 text: _own,
             } = chord;
-            match Arc::try_unwrap(carried.body) {
-                Ok(body) => Ok(start_moved_body(alloc, body, &input, text)?),
-                Err(shared) => Ok(start_body(alloc, &shared, &input, text)?),
-            }
+            Ok(start_body(alloc, carried.body, &input, text)?)
         }
     }
 }
 
-fn start_moved_body(
+/// A body that is shared, or a copy of it where others share it.
+fn own_body(alloc: Global, body: Arc<FrozenLine>) -> Result<FrozenLine, AllocError>
+    ensures { IfOk result (λ line. p_line_view line ≡ p_line_view body.value) }
+{
+    match Arc::try_unwrap(body) {
+        Ok(body) => Ok(body),
+        Err(shared) => copy_line(alloc, &shared),
+    }
+}
+
+fn start_body(
     alloc: Global,
-    body: FrozenLine,
+    body: Arc<FrozenLine>,
     input: &Input,
     text: Option<Arc<CarriedText>>,
 ) -> Result<Todo, AllocError>
-    requires line { is_whole (p_line_view body) ≡ true }
+    requires line { is_whole (p_line_view body.value) ≡ true }
     requires input { input_ok (input_seen input.now) ≡ true }
-    requires text { IfSome text (λ t. SaysCarried t.value (end_place (p_line_view body))) }
+    requires text { IfSome text (λ t. SaysCarried t.value (end_place (p_line_view body.value))) }
     ensures { IfOk result (λ todo. todo_view todo
-        ≡ effect_of (enter (p_line_view body) (run (input_seen input.now))
-        (end_place (p_line_view body)) 0 None)) }
+        ≡ effect_of (enter (p_line_view body.value) (run (input_seen input.now))
+        (end_place (p_line_view body.value)) 0 None)) }
 {
+    let body = own_body(alloc, body)?;
     let mut messages = Vec::new(alloc);
-    start_moved_whole(alloc, body, input, &None, text, &mut messages)?;
+    start_whole(alloc, body, input, &None, text, &mut messages)?;
     todo_of(Vec::new(alloc), messages, None)
 }
 
@@ -195,25 +192,6 @@ fn body_of(chord: &ChordBody) -> &FrozenLine
     ensures { p_line_view result.now ≡ chord.now.body }
 {
     &chord.carried.body
-}
-
-fn start_body(
-    alloc: Global,
-    body: &FrozenLine,
-    input: &Input,
-    text: Option<Arc<CarriedText>>,
-) -> Result<Todo, AllocError>
-    requires line { is_whole (p_line_view body.now) ≡ true }
-    requires input { input_ok (input_seen input.now) ≡ true }
-    requires text { IfSome text
-        (λ t. SaysCarried t.value (end_place (p_line_view body.now))) }
-    ensures { IfOk result (λ todo. todo_view todo
-        ≡ effect_of (enter (p_line_view body.now) (run (input_seen input.now))
-        (end_place (p_line_view body.now)) 0 None)) }
-{
-    let mut messages = Vec::new(alloc);
-    start_whole(alloc, body, input, &None, text, &mut messages)?;
-    todo_of(Vec::new(alloc), messages, None)
 }
 
 fn raise_body(alloc: Global, body: &FrozenLine, fault: &Fault) -> Result<Todo, AllocError>
@@ -227,35 +205,6 @@ fn raise_body(alloc: Global, body: &FrozenLine, fault: &Fault) -> Result<Todo, A
     raise_line(alloc, body, fault, &mut stores, &mut messages)?;
     let part = last_part(body)?;
     todo_of(stores, messages, part)
-}
-
-/// The messages that a line begins with whose end goes where its last task says, put behind the
-/// others. `text` is that of what the end carries, where it is known.
-fn start_whole(
-    alloc: Global,
-    line: &FrozenLine,
-    input: &Input,
-    parent: &Option<TaskNo>,
-    text: Option<Arc<CarriedText>>,
-    messages: &mut Vec<Message>,
-) -> Result<(), AllocError>
-    requires line { is_whole (p_line_view line.now) ≡ true }
-    requires text { IfSome text
-        (λ t. SaysCarried t.value (end_place (p_line_view line.now))) }
-    requires input { input_ok (input_seen input.now) ≡ true }
-    requires parent { parent_ok parent.now ≡ true }
-    ensures { OnOk result (messages.new.items
-        ≡ messages.old.items
-        ++ started (p_line_view line.now) (input_seen input.now)
-        (end_place (p_line_view line.now)) parent.now) }
-{
-    match last_task(line) {
-        Some(last) => {
-            let place = with_text(&last.place, text)?;
-            start_line(alloc, line, place, input, parent, messages)
-        }
-        None => start_line(alloc, line, None, input, parent, messages),
-    }
 }
 
 /// The part that the end of a line returns.

@@ -17,7 +17,7 @@ ghost use Rattle.canvas_effects.specs.Todos.{part_view, todo_view};
 ghost use Rattle.canvas_message.specs.MessageView.{place_seen, place_view, rest_seen};
 ghost use Rattle.canvas_effects.specs.steps.Walks.{input_seen, begins_with_task};
 
-use super::moved_line::start_moved_whole;
+use super::moved_line::start_whole;
 use super::started::message_from;
 use super::{after, called_back, todo_of};
 use crate::input::Input;
@@ -177,7 +177,7 @@ fn start_rest(alloc: Global, message: Message, number: i64) -> Result<Todo, Allo
     let parent = Some(task);
     match rest {
         Some(rest) => {
-            start_moved_whole(alloc, rest, &input, &parent, texts.carried, &mut messages)?;
+            start_whole(alloc, rest, &input, &parent, texts.carried, &mut messages)?;
             todo_of(Vec::new(alloc), messages, None)
         }
         None => todo_of(Vec::new(alloc), messages, None),

@@ -2,6 +2,7 @@ use Rattle.std.proofs.Common.{rules, ◌≡◌, ◌∙◌, ◌++◌, true, Some,
 use Rattle.std.proofs.lemmas.Int.{to_z-of_z}
 use Rattle.canvas_rewrite.specs.FrozenView.{p_line_view}
 use Rattle.canvas_semantics.specs.PlacedLine.{PPlace, p_stop}
+use Rattle.canvas_effects.specs.Carrying.{is_whole}
 use Rattle.canvas_message.specs.Content.{number_of, links_of, errbacks_of, place_of}
 use Rattle.canvas_message.specs.Fits.{fits}
 use Rattle.canvas_message.specs.MessageView.{place_seen, rest_seen}
@@ -10,7 +11,7 @@ use Rattle.canvas_effects.specs.Effects.{after, called, messages_in, part_in, pa
 use Rattle.canvas_effects.specs.Flowing.{number_input}
 use Rattle.canvas_effects.specs.Placing.{end_place}
 use Rattle.canvas_effects.specs.steps.Walks.{started}
-use Rattle.canvas_effects.proofs.Ended.{rest_stands, succeeded, failed, ended_last}
+use Rattle.canvas_effects.proofs.Ended.{of_copy, rest_stands, succeeded, failed, ended_last}
 use Rattle.canvas_effects.proofs.Sharing.{of_shared, of_same, place_at_end}
 use Rattle.canvas_effects.proofs.effects.after.Goals as goal
 
@@ -18,15 +19,18 @@ pub start_whole-requires-clause-line : goal.start_whole-requires-clause-line
 start_whole-requires-clause-line c =
     let whole : fits c.args.message.now ≡ true = search rules in
     let rest : c.args.message.now.rest ≡ p_line_view c.in-Some.rest.now = search rules in
-    rest_stands c.args.message.now (p_line_view c.in-Some.rest.now) whole rest c.in-Some.ensures.1
+    ap is_whole c.in_ok-rest-in-Success.ensures
+    ∙ rest_stands c.args.message.now (p_line_view c.in-Some.rest.now) whole rest c.in-Some.ensures.1
 
 pub start_whole-requires-clause-text : goal.start_whole-requires-clause-text
 start_whole-requires-clause-text c =
     let m = c.message.inside in
     let place : PPlace = place_seen m.place in
     let rest : rest_seen m.rest ≡ p_line_view c.in-Some.rest.now = search rules in
-    of_shared m.texts.carried c.in_ok-text-in-Success.text (end_place (p_line_view c.in-Some.rest.now)) c.in_ok-text-in-Success.ensures
-    (of_same m.texts.carried _ _ (ap (place_behind place) rest ∙ place_at_end place (p_line_view c.in-Some.rest.now) c.in-Some.ensures.1)
+    of_shared m.texts.carried c.in_ok-text-in-Success.text _ c.in_ok-text-in-Success.ensures
+    (of_same m.texts.carried _ _
+    (ap (place_behind place) rest ∙ place_at_end place (p_line_view c.in-Some.rest.now) c.in-Some.ensures.1
+    ∙ ap end_place (sym c.in_ok-rest-in-Success.ensures))
     c.message.invariant.1.carried)
 
 pub last_part-requires : goal.last_part-requires
@@ -46,7 +50,8 @@ returns-in_ok-todo_of-in-Success c =
     c.in_ok-todo_of-in-Success.ensures
     ∙ succeeded m l c.in-Success.number _ _ _ _ whole rest c.in-Some.ensures.1 c.new-stores.ensures.items
     (c.in_ok-messages.ensures ∙ ap (λ o. messages_in (called (links_of m.own) (errbacks_of m.own) (number_of m.own) o)) c.in-Success.is)
-    (c.in_ok-start_whole-in-Success.ensures ∙ ap₂ (λ z k. c.in_ok-messages.messages.items ++ started l (number_input z) (end_place l) (Some k)) back task) refl
+    (of_copy _ _ _ _ _ l c.in_ok-rest-in-Success.ensures c.in_ok-start_whole-in-Success.ensures
+    ∙ ap₂ (λ z k. c.in_ok-messages.messages.items ++ started l (number_input z) (end_place l) (Some k)) back task) refl
     ∙ ap (after m) (sym c.in-Success.is)
 
 pub returns-in_ok-todo_of-in-Failure : goal.returns-in_ok-todo_of-in-Failure

@@ -6,7 +6,7 @@ use Rattle.canvas_effects.proofs.effects.moved_line.header_place.Goals as goal
 
 pub written-requires : goal.written-requires
 written-requires c =
-    of_header c.in_ok-text.text (place_or c.args.place.now) _ c.args.group c.args.size (p_line_view c.args.body)
-    (header_made c.args.group c.args.size c.args.body c.in_ok-body.body c.in_ok-body-2.body (place_or c.args.place.now) (place_seen c.in_ok-outer.outer)
-    c.in_ok-outer.ensures c.in_ok-body.ensures c.in_ok-body-2.ensures.ok)
-    c.in_ok-text.ensures
+    of_header c.parts-outer.result.1 (place_or c.args.place) _ c.args.group c.args.size (p_line_view c.args.body)
+    (header_made c.args.group c.args.size c.args.body c.in_ok-body.body c.in_ok-body-2.body (place_or c.args.place) (place_seen c.parts-outer.result.0)
+    c.parts-outer.ensures.place c.in_ok-body.ensures c.in_ok-body-2.ensures.ok)
+    c.parts-outer.ensures.text
