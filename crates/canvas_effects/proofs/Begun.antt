@@ -1,7 +1,7 @@
 -- Messages of tasks, and what lines begin with, as the code has them.
 use Rattle.std.proofs.Common.{◌≡◌, ◌∙◌, ℕ, suc, ◌≤◌, ◌<◌, ◌+◌, arith, true, false, List, [], ◌∷◌, ◌++◌, map, drop, get_or, length, Option, Some, None, Box, Global, refl, sym, ap, ap₂, subst, append_assoc, add-one, ne_eqb, drop-cons, true≢false, rules}
 use Rattle.std.specs.declared.sync.Arc.{Arc}
-use Rattle.std.specs.Prelude.{ℤ, ◌==◌, not}
+use Rattle.std.specs.Prelude.{ℤ, ◌==◌, not, MatchOption}
 use Rattle.canvas_semantics.specs.PlacedLine.{PTask, p_task, PTasks, and_p_task, PPlace, p_nowhere, p_group, p_chord, PLine, p_stop, p_step, p_group_end, p_chord_end, no_p_lines}
 use Rattle.canvas_rewrite.specs.FrozenView.{p_tasks_of, p_steps, p_lines_of, p_task_view, p_line_view, p_end_view}
 use Rattle.canvas_rewrite.specs.declared.frozen.Carried as block
@@ -17,7 +17,7 @@ use Rattle.canvas_message.specs.Fits.{parent_ok, fits}
 use Rattle.canvas_effects.specs.Flowing.{Input, list_input}
 use Rattle.canvas_message.specs.steps.Parts.{is_stop}
 use Rattle.canvas_effects.specs.Placing.{placed}
-use Rattle.canvas_message.specs.MessageView.{place_view, place_seen}
+use Rattle.canvas_message.specs.MessageView.{place_view, place_seen, rest_seen}
 use Rattle.canvas_effects.specs.steps.Walks.{at_place, tail_seen, begins_with_task, first_message, member_place, started, all_started}
 use Rattle.canvas_effects.proofs.Walked.{begins_seen}
 use Rattle.canvas_effects.proofs.Copied.{own_place, place_there, line_parts}
@@ -78,6 +78,11 @@ not_stop p_stop h = absurd (h refl)
 not_stop (p_step t l) h = refl
 not_stop (p_group_end g ms) h = refl
 not_stop (p_chord_end g ms b) h = refl
+
+pub some_follows : (r : Option FrozenLine) → (rest_seen r ≡ p_stop → ⊥)
+    → MatchOption r (rest_seen r ≡ p_stop) (λ l. (rest_seen r ≡ p_line_view l) × (is_stop (p_line_view l) ≡ false))
+some_follows None h = absurd (h refl)
+some_follows (Some l) h = (refl, not_stop (p_line_view l) h)
 
 pub place_put : (q : PPlace) (t : PTask) → place_of (at_place q t) ≡ q
 place_put q (p_task k call links errbacks place) = refl

@@ -11,7 +11,8 @@ use Rattle.canvas_rewrite.specs.declared.frozen.Carried.{Carried}
 use Rattle.canvas_rewrite.specs.declared.frozen.Place.{Place, out-Place}
 use Rattle.canvas_effects.proofs.Ended.{carried_seen}
 use Rattle.canvas_semantics.specs.PlacedLine.{PTask, PPlace, p_nowhere, p_chord, PLine, p_stop, p_step, p_group_end, p_chord_end}
-use Rattle.canvas_message.specs.SharedTexts.{AreEnds, SaysRinged, SaysCarried, core_of, inner_place, place_behind, rings_of}
+use Rattle.canvas_message.specs.SharedTexts.{AreEnds, AreTexts, IsLineText, SaysRinged, SaysCarried, core_of, inner_place, place_behind, rings_of}
+use Rattle.canvas_message.specs.declared.texts.Texts.{Texts}
 use Rattle.canvas_message.specs.declared.carried_text.CarriedText.{CarriedText}
 use Rattle.canvas_message.specs.steps.Parts.{is_stop}
 use Rattle.canvas_effects.specs.Placing.{placed, end_place}
@@ -87,6 +88,13 @@ place_at_end own p_stop h = absurd cc
 place_at_end own (p_step u l) h = refl
 place_at_end own (p_group_end g ms) h = refl
 place_at_end own (p_chord_end g ms b) h = refl
+
+-- where something follows, the place of the task itself doesn't matter
+pub anywhere : (texts : Texts) (own : PPlace) (r l : PLine) → r ≡ l → is_stop l ≡ false → AreTexts texts own r → AreTexts texts p_nowhere l
+anywhere texts own r l same h are = record {
+  line = subst (λ z. IfSome texts.line (λ t. IsLineText t z)) same are.line;
+  carried = of_same texts.carried _ _ (ap (place_behind own) same ∙ place_at_end own l h ∙ sym (place_at_end p_nowhere l h)) are.carried;
+}
 
 pub next_end : (head text old new : List ℕ) (r : Option ℕ) (t : PTask) (l : PLine) → old ≡ new ++ option_to_list r → (r ≡ None → new ≡ [])
     → AreEnds head text (reverse old) (p_step t l) → AreEnds head text (reverse new) l

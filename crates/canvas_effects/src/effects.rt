@@ -37,11 +37,11 @@ pub use first::FirstMessages;
 use header::{failure_of, numbers_of};
 use lasts::last_task;
 pub use moved::into_todo;
+use moved::{behind, skipped_behind};
 use moved_line::start_whole;
 use order::{sort_messages, sort_stores};
 use raised::raise_line;
-use skipped::skip_line;
-use started::call_back;
+use started::{call_back, texts_of};
 use std::alloc::{AllocError, Global};
 use std::sync::Arc;
 
@@ -61,27 +61,19 @@ pub fn after(alloc: Global, message: &Message, outcome: &Outcome) -> Result<Todo
     requires { IsInRange outcome.now }
     ensures { IfOk result (λ todo. todo_view todo ≡ after message.now outcome.now) }
 {
-    let mut messages = called_back(alloc, message, outcome)?;
-    let mut stores = Vec::new(alloc);
+    let messages = called_back(alloc, message, outcome)?;
     match following(&message.rest) {
         Some(rest) => match outcome {
-            Outcome::Success(number) => {
-                let input = Input::Number(*number);
-                let parent = Some(message.task);
-                let text = share_text(&message.texts.carried)?;
+            Outcome::Success(_) => {
+                let texts = texts_of(share_text(&message.texts.carried)?);
                 let rest = copy_line(alloc, rest)?;
-                start_whole(alloc, rest, &input, &parent, text, &mut messages)?;
-                Ok(todo_of(stores, messages, None)?)
+                Ok(behind(alloc, rest, texts, message.task, outcome, messages)?)
             }
-            Outcome::Failure(fault) => {
-                skip_line(rest, fault, &mut stores)?;
-                let part = last_part(rest)?;
-                Ok(todo_of(stores, messages, part)?)
-            }
+            Outcome::Failure(fault) => Ok(skipped_behind(alloc, rest, fault, messages)?),
         },
         None => {
             let part = part_of(&message.place, message.task)?;
-            Ok(todo_of(stores, messages, part)?)
+            Ok(todo_of(Vec::new(alloc), messages, part)?)
         }
     }
 }
