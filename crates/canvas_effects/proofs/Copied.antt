@@ -139,3 +139,9 @@ tail_by l (Some b) e = line_some l b e
 
 pub line_parts : (l : FrozenLine) → p_line_view l ≡ p_steps (map p_task_view (out-FrozenLine l).tasks) (tail_seen (out-FrozenLine l).tail)
 line_parts l = tail_by l (out-FrozenLine l).tail refl
+
+-- one made of parts
+pub made_of : (ts : List FrozenTask) (o : Option (Box FrozenEnd Global))
+    → p_line_view (roll-FrozenLine (record { tasks = ts; tail = o })) ≡ p_steps (map p_task_view ts) (tail_seen o)
+made_of ts None = made_line ts
+made_of ts (Some b) = made_longer ts b

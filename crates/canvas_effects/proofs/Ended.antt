@@ -222,12 +222,17 @@ succeeded c l n ss one ms p ok same h hs h1 hm hp =
     (hp ∙ sym (run_part true l (number_input n) (end_place l) k (Some k) (whole_ok l (rest_stands c l ok same h))))
 
 -- where that is a task, it takes over what it carries
-pub next_begun : (u : Option ℕ) (t : PTask) (l : PLine) (x : Input) → message u t x l ∷ [] ≡ started (p_step t l) x (end_place (p_step t l)) u
+next_begun : (u : Option ℕ) (t : PTask) (l : PLine) (x : Input) → message u t x l ∷ [] ≡ started (p_step t l) x (end_place (p_step t l)) u
 next_begun u t l x =
     let there : p_step (last_at (end_place (p_step t l)) t l) (placed (end_place (p_step t l)) l) ≡ p_step t l = as_it_stands (p_step t l) in
     let own : last_at (end_place (p_step t l)) t l ≡ t = cc in
     let rest : placed (end_place (p_step t l)) l ≡ l = cc in
     sym (ap₂ (λ v r. message u v x r ∷ []) own rest)
+
+pub handed : (old new : List Content) (m : Content) (u : Option ℕ) (t : PTask) (l line : PLine) (x : Input) → line ≡ p_step t l → m ≡ message u t x l
+    → new ≡ old ++ m ∷ [] → new ≡ old ++ started line x (end_place line) u
+handed old new m u t l line x same made pushed =
+    pushed ∙ ap (λ y. old ++ y ∷ []) made ∙ ap (λ ms. old ++ ms) (next_begun u t l x) ∙ ap (λ z. old ++ started z x (end_place z) u) (sym same)
 
 -- on a failure, where something follows
 pub failed : (c : Content) (l : PLine) (f : Fault) (olds ss : List (ℕ × Outcome)) (ms : List Content) (p : Option Part) → fits c ≡ true → c.rest ≡ l

@@ -1,13 +1,13 @@
 //! What the start of a plan, the end of a task and the end of a header's members make a worker do.
 
-ghost use Rattle.std.specs.Prelude.{◌≡◌, ◌++◌, true, None, IfOk, IfSome, OnOk, All};
+ghost use Rattle.std.specs.Prelude.{◌≡◌, ◌++◌, true, None, IfOk, IfSome, All, map};
 ghost use Rattle.std.specs.Option.{option_map};
 ghost use Rattle.canvas_task.specs.Numbers.{in_range};
 ghost use Rattle.canvas_task.specs.Apply.{IsInRange};
-ghost use Rattle.canvas_rewrite.specs.FrozenView.{p_line_view};
-ghost use Rattle.canvas_effects.specs.Carrying.{is_whole, place_stands, carried_ok, input_ok};
+ghost use Rattle.canvas_rewrite.specs.FrozenView.{p_line_view, p_task_view, p_tasks_of};
+ghost use Rattle.canvas_effects.specs.Carrying.{callbacks_ok, is_whole, place_stands, carried_ok, input_ok};
 ghost use Rattle.canvas_message.specs.Content.{number_of, links_of, errbacks_of};
-ghost use Rattle.canvas_effects.specs.Effects.{first_messages, after, called, body_after, enter, effect_of, stores_in, messages_in, part_in, part_of};
+ghost use Rattle.canvas_effects.specs.Effects.{first_messages, after, callbacks, called, body_after, enter, effect_of, stores_in, messages_in, part_in, part_of};
 ghost use Rattle.canvas_message.specs.MessageView.{carried_view, place_seen};
 ghost use Rattle.canvas_message.specs.SharedTexts.{SaysCarried};
 ghost use Rattle.canvas_message.specs.Fits.{parent_ok};
@@ -21,29 +21,29 @@ mod first;
 mod header;
 mod lasts;
 mod moved;
-mod moved_line;
 mod order;
 mod raised;
 mod skipped;
 mod started;
+mod task_messages;
 
 use crate::copies::copy_line;
 use crate::input::Input;
 use crate::{ChordBody, PartCall, Todo};
 use canvas_message::{CarriedText, Message, following, share_carried, share_text};
-use canvas_rewrite::{Carried, FrozenLine, Place, Plan};
+use canvas_rewrite::{Carried, FrozenLine, FrozenTask, Place, Plan};
 use canvas_task::{Fault, ListOf, Memory, Outcome, TaskNo};
 pub use first::FirstMessages;
 use header::{failure_of, numbers_of};
 use lasts::last_task;
 pub use moved::into_todo;
 use moved::{behind, skipped_behind};
-use moved_line::start_whole;
 use order::{sort_messages, sort_stores};
 use raised::raise_line;
-use started::{call_back, texts_of};
+use started::start_whole;
 use std::alloc::{AllocError, Global};
 use std::sync::Arc;
+use task_messages::{call_back, texts_of};
 
 /// The messages that a run begins with.
 pub fn first_messages(alloc: Global, plan: &Plan) -> Result<Vec<Message>, Memory>
@@ -93,20 +93,36 @@ fn called_back(
     let parent = Some(message.task);
     match outcome {
         Outcome::Success(number) => {
-            let links = message.links.get();
-            let input = Input::Number(*number);
-            let mut messages = Vec::with_capacity(alloc, links.len())?;
-            call_back(alloc, links, &input, &parent, &mut messages)?;
-            Ok(messages)
+            all_called(alloc, message.links.get(), &Input::Number(*number), &parent)
         }
         Outcome::Failure(_fault) => {
-            let errbacks = message.errbacks.get();
-            let input = Input::Ident(message.task);
-            let mut messages = Vec::with_capacity(alloc, errbacks.len())?;
-            call_back(alloc, errbacks, &input, &parent, &mut messages)?;
-            Ok(messages)
+            all_called(
+                alloc,
+                message.errbacks.get(),
+                &Input::Ident(message.task),
+                &parent,
+            )
         }
     }
+}
+
+/// The messages of links or error callbacks.
+fn all_called(
+    alloc: Global,
+    tasks: &[FrozenTask],
+    input: &Input,
+    parent: &Option<TaskNo>,
+) -> Result<Vec<Message>, AllocError>
+    requires callbacks { callbacks_ok (p_tasks_of (map p_task_view tasks.now)) ≡ true }
+    requires input { input_ok (input_seen input.now) ≡ true }
+    requires parent { parent_ok parent.now ≡ true }
+    ensures { IfOk result (λ messages. messages.items
+        ≡ messages_in (callbacks (p_tasks_of (map p_task_view tasks.now))
+        (input_seen input.now) parent.now)) }
+{
+    let mut messages = Vec::with_capacity(alloc, tasks.len())?;
+    call_back(alloc, tasks, input, parent, &mut messages)?;
+    Ok(messages)
 }
 
 /// What follows the end of a header's members on what they carry, by the outcomes of their last

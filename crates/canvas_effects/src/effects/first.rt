@@ -2,7 +2,7 @@
 
 ghost use Rattle.std.specs.Prelude.{◌≡◌, ◌∷◌, ◌==◌, [], false, length, map, IfOk, IfSome, MatchOption, None, OnErr, true};
 ghost use Rattle.canvas_semantics.specs.PlacedLine.{p_nowhere};
-ghost use Rattle.canvas_rewrite.specs.FrozenView.{p_end_view, p_line_view};
+ghost use Rattle.canvas_rewrite.specs.FrozenView.{p_end_view, p_line_view, place_or};
 ghost use Rattle.canvas_rewrite.specs.declared.frozen.FrozenEnd.{out-FrozenEnd};
 ghost use Rattle.canvas_effects.specs.Carrying.{AllStand, can_stand};
 ghost use Rattle.canvas_effects.specs.Effects.{first_messages};
@@ -10,7 +10,7 @@ ghost use Rattle.canvas_effects.specs.Flowing.{no_input};
 ghost use Rattle.canvas_effects.specs.Portions.{together, portions};
 ghost use Rattle.canvas_effects.specs.steps.Walks.{member_place, started};
 
-use super::moved_line::{group_place, header_place, start_line};
+use super::started::{group_place, header_place, start_line};
 use crate::copies::copy_line;
 use crate::destination::Destination;
 use crate::destinations::share_destination;
@@ -113,6 +113,23 @@ fn of_header<'p>(alloc: Global, end: &'p FrozenEnd) -> Result<FirstMessages<'p>,
     Ok(FirstMessages { lines, place })
 }
 
+/// The messages that a line begins with from nothing, whose end goes to the place.
+fn portion_of(
+    alloc: Global,
+    line: &FrozenLine,
+    place: &Option<Destination>,
+) -> Result<Vec<Message>, AllocError>
+    requires { can_stand (p_line_view line.now) (place_or place.now) ≡ true }
+    ensures { IfOk result (λ messages. messages.items
+        ≡ started (p_line_view line.now) no_input (place_or place.now) None) }
+{
+    let place = share_destination(place)?;
+    let line = copy_line(alloc, line)?;
+    let mut messages = Vec::with_capacity(alloc, 1)?;
+    start_line(alloc, line, place, &Input::Nothing, &None, &mut messages)?;
+    Ok(messages)
+}
+
 impl<'p> FirstMessages<'p> {
     /// All portions of a plan.
     pub fn of(alloc: Global, plan: &'p Plan) -> Result<FirstMessages<'p>, Memory>
@@ -135,10 +152,7 @@ impl<'p> FirstMessages<'p> {
     {
         match self.lines.split_first() {
             Some((line, others)) => {
-                let place = share_destination(&self.place)?;
-                let line = copy_line(alloc, line)?;
-                let mut messages = Vec::with_capacity(alloc, 1)?;
-                start_line(alloc, line, place, &Input::Nothing, &None, &mut messages)?;
+                let messages = portion_of(alloc, line, &self.place)?;
                 self.lines = others;
                 Ok(Some(messages))
             }

@@ -18,9 +18,9 @@ ghost use Rattle.canvas_message.specs.MessageView.{place_seen, place_view, rest_
 ghost use Rattle.canvas_message.specs.steps.Parts.{is_stop};
 ghost use Rattle.canvas_effects.specs.steps.Walks.{input_seen, begins_with_task, part_at_end, skipped, started};
 
-use super::moved_line::start_whole;
 use super::skipped::skip_line;
-use super::started::message_from;
+use super::started::start_whole;
+use super::task_messages::message_from;
 use super::{called_back, last_part, todo_of};
 use crate::input::Input;
 use crate::{PartCall, Todo};
@@ -38,20 +38,13 @@ pub fn into_todo(alloc: Global, message: Message, outcome: &Outcome) -> Result<T
     requires { IsInRange outcome.now }
     ensures { IfOk result (λ todo. todo_view todo ≡ after message outcome.now) }
 {
+    let task = message.task;
     let messages = called_back(alloc, &message, outcome)?;
-    let Left {
-        task,
-        place,
-        rest,
-        texts,
-    } = left_of(message);
-    match take_following(rest) {
-        Some(rest) => Ok(behind(alloc, rest, texts, task, outcome, messages)?),
-        None => {
-            let part = take_part(place, task, texts);
-            Ok(todo_of(Vec::new(alloc), messages, part)?)
-        }
+    if is_last(&message.rest) {
+        return Ok(todo_of(Vec::new(alloc), messages, part_left(message))?);
     }
+    let (rest, texts) = line_left(alloc, message);
+    Ok(behind(alloc, rest, texts, task, outcome, messages)?)
 }
 
 /// Whether a task comes first on a line.
@@ -89,45 +82,26 @@ pub(super) fn take_next(line: FrozenLine) -> Option<(FrozenTask, Option<FrozenLi
     Some((next, Some(FrozenLine { tasks, tail })))
 }
 
-/// What comes next on a line, none where nothing does.
-fn take_following(rest: Option<FrozenLine>) -> Option<FrozenLine>
-    ensures { MatchOption result (rest_seen rest ≡ p_stop)
-        (λ l. (rest_seen rest ≡ p_line_view l) × (is_stop (p_line_view l) ≡ false)) }
+/// What follows as a line, one of nothing where nothing follows.
+fn line_of(alloc: Global, rest: Option<FrozenLine>) -> FrozenLine
+    ensures { p_line_view result ≡ rest_seen rest }
 {
-    if is_last(&rest) {
-        return None;
+    match rest {
+        Some(line) => line,
+        None => FrozenLine {
+            tasks: ListOf::of(Vec::new(alloc)),
+            tail: None,
+        },
     }
-    rest
 }
 
-/// What a message leaves when its task has ended.
-#[derive(Drop)]
-struct Left {
-    task: TaskNo,
-    place: Option<Place>,
-    rest: Option<FrozenLine>,
-    texts: Texts,
-}
-
-fn left_of(message: Message) -> Left
-    ensures task { result.task ≡ number_of message.own }
-    ensures place { place_seen result.place ≡ place_of message.own }
-    ensures rest { rest_seen result.rest ≡ message.rest }
-    ensures texts { AreTexts result.texts (place_of message.own) message.rest }
+/// What follows the task of a message, and what is written of that.
+fn line_left(alloc: Global, message: Message) -> (FrozenLine, Texts)
+    ensures line { p_line_view result.0 ≡ message.rest }
+    ensures texts { AreTexts result.1 (place_of message.own) message.rest }
 {
-    let Message {
-        task,
-        place,
-        rest,
-        texts,
-        ..
-    } = message;
-    Left {
-        task,
-        place,
-        rest,
-        texts,
-    }
+    let Message { rest, texts, .. } = message;
+    (line_of(alloc, rest), texts)
 }
 
 /// The text of a line, when its next task is taken: its front, up to an earlier end.
@@ -309,4 +283,19 @@ fn take_part(place: Option<Place>, task: TaskNo, texts: Texts) -> Option<PartCal
         Some(place) => part_at(place, task, carried_by(texts)),
         None => None,
     }
+}
+
+/// The part that a message's task returns which is the last of its line.
+fn part_left(message: Message) -> Option<PartCall>
+    requires { message.rest ≡ p_stop }
+    ensures { option_map part_view result
+        ≡ part_in (part_of (place_of message.own) (number_of message.own)) }
+{
+    let Message {
+        task,
+        place,
+        texts,
+        ..
+    } = message;
+    take_part(place, task, texts)
 }

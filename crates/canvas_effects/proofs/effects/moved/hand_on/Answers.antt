@@ -1,5 +1,5 @@
 use Rattle.std.proofs.Common.{◌∙◌, ◌∷◌, ◌++◌, [], sym, ap, subst}
-use Rattle.canvas_rewrite.specs.FrozenView.{p_task_view}
+use Rattle.canvas_rewrite.specs.FrozenView.{p_line_view, p_task_view}
 use Rattle.canvas_semantics.specs.PlacedLine.{p_nowhere}
 use Rattle.canvas_message.specs.MessageView.{rest_seen}
 use Rattle.canvas_message.specs.SharedTexts.{AreTexts}
@@ -7,7 +7,7 @@ use Rattle.canvas_effects.specs.Carrying.{is_whole}
 use Rattle.canvas_effects.specs.Placing.{end_place}
 use Rattle.canvas_effects.specs.steps.Walks.{input_seen, started}
 use Rattle.canvas_effects.proofs.Standing.{message_fits}
-use Rattle.canvas_effects.proofs.Ended.{next_begun}
+use Rattle.canvas_effects.proofs.Ended.{handed}
 use Rattle.canvas_effects.proofs.effects.moved.hand_on.Goals as goal
 
 pub message_from-requires-clause-fits : goal.message_from-requires-clause-fits
@@ -22,9 +22,5 @@ message_from-requires-clause-texts c =
 
 pub returns-in_ok-push-in-Some : goal.returns-in_ok-push-in-Some
 returns-in_ok-push-in-Some c =
-    let x = input_seen c.args.input.now in
-    let u = c.args.parent.now in
-    c.in_ok-push-in-Some.ensures.items
-    ∙ ap (λ m. c.args.messages.now.items ++ m ∷ []) c.in_ok-message_from-in-Some.ensures
-    ∙ ap (λ ms. c.args.messages.now.items ++ ms) (next_begun u (p_task_view c.in-Some.next) (rest_seen c.in-Some.rest) x)
-    ∙ ap (λ l. c.args.messages.now.items ++ started l x (end_place l) u) (sym c.in-Some.ensures)
+    handed c.args.messages.now.items _ c.in_ok-message_from-in-Some.field-0 c.args.parent.now (p_task_view c.in-Some.next) (rest_seen c.in-Some.rest)
+    (p_line_view c.args.line) (input_seen c.args.input.now) c.in-Some.ensures c.in_ok-message_from-in-Some.ensures c.in_ok-push-in-Some.ensures.items

@@ -4,7 +4,7 @@ use Rattle.canvas_rewrite.specs.FrozenView.{p_line_view}
 use Rattle.canvas_effects.specs.Carrying.{can_stand}
 use Rattle.canvas_effects.specs.steps.Walks.{input_seen, started}
 use Rattle.canvas_effects.proofs.Standing.{stands_there}
-use Rattle.canvas_effects.proofs.effects.moved_line.start_whole.Goals as goal
+use Rattle.canvas_effects.proofs.effects.started.start_whole.Goals as goal
 
 pub start_line-requires-clause-line : goal.start_line-requires-clause-line
 start_line-requires-clause-line c =

@@ -7,7 +7,7 @@ use Rattle.canvas_effects.specs.Carrying.{AllStand}
 use Rattle.canvas_effects.specs.steps.Walks.{input_seen, all_started, started}
 use Rattle.canvas_effects.proofs.Begun.{body_there, no_numbers, empty_started, none_started, fits_size, members_stand, header_is, group_is, begun_header, group_started}
 use Rattle.canvas_effects.proofs.Depth.{body_below, members_below}
-use Rattle.canvas_effects.proofs.effects.moved_line.+start.Goals as goal
+use Rattle.canvas_effects.proofs.effects.started.+start.Goals as goal
 
 pub start_line-returns-in-Some : goal.start_line-returns-in-Some
 start_line-returns-in-Some t c =

@@ -3,7 +3,7 @@ use Rattle.canvas_rewrite.specs.FrozenView.{p_line_view, p_end_view}
 use Rattle.canvas_effects.specs.Carrying.{AllStand}
 use Rattle.canvas_effects.specs.steps.Walks.{input_seen, all_started}
 use Rattle.canvas_effects.proofs.Depth.{ends_in, ends_in_all}
-use Rattle.canvas_effects.proofs.effects.moved_line.+start.Given as goal
+use Rattle.canvas_effects.proofs.effects.started.+start.Given as goal
 
 abbrev pub decreases-start_line : goal.decreases-start_line
 decreases-start_line l = 3 * ends_in (p_line_view l.line) + 1

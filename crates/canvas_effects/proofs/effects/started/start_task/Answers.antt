@@ -5,10 +5,10 @@ use Rattle.canvas_effects.specs.Carrying.{can_stand}
 use Rattle.canvas_effects.specs.Placing.{last_at, placed}
 use Rattle.canvas_effects.specs.steps.Walks.{input_seen, started}
 use Rattle.canvas_effects.proofs.Standing.{message_fits}
-use Rattle.canvas_effects.proofs.effects.moved_line.start_task.Goals as goal
+use Rattle.canvas_effects.proofs.effects.started.start_task.Goals as goal
 
-pub first_moved-requires : goal.first_moved-requires
-first_moved-requires c =
+pub first_message-requires : goal.first_message-requires
+first_message-requires c =
     let p = place_or c.args.place in
     let l = rest_seen c.in-Some.rest in
     message_fits c.args.parent.now (last_at p (p_task_view c.in-Some.first) l) (input_seen c.args.input.now) (placed p l)
@@ -17,5 +17,5 @@ first_moved-requires c =
 pub returns-in_ok-push-in-Some : goal.returns-in_ok-push-in-Some
 returns-in_ok-push-in-Some c =
     c.in_ok-push-in-Some.ensures.items
-    ∙ ap (λ m. c.args.messages.now.items ++ m ∷ []) c.in_ok-first_moved-in-Some.ensures
+    ∙ ap (λ m. c.args.messages.now.items ++ m ∷ []) c.in_ok-first_message-in-Some.ensures
     ∙ ap (λ l. c.args.messages.now.items ++ started l (input_seen c.args.input.now) (place_or c.args.place) c.args.parent.now) (sym c.in-Some.ensures)

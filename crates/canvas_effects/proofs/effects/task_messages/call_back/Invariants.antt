@@ -3,7 +3,7 @@ use Rattle.canvas_rewrite.specs.FrozenView.{p_tasks_of, p_task_view}
 use Rattle.canvas_effects.specs.Carrying.{callbacks_ok}
 use Rattle.canvas_effects.specs.Effects.{callbacks, messages_in}
 use Rattle.canvas_effects.specs.steps.Walks.{input_seen}
-use Rattle.canvas_effects.proofs.effects.started.call_back.Given as goal
+use Rattle.canvas_effects.proofs.effects.task_messages.call_back.Given as goal
 
 abbrev pub invariant-loop-task : goal.invariant-loop-task
 invariant-loop-task l =

@@ -8,7 +8,7 @@ use Rattle.canvas_effects.specs.Placing.{placed}
 use Rattle.canvas_effects.specs.steps.Walks.{input_seen}
 use Rattle.canvas_effects.proofs.Begun.{moved_is, not_stop, place_put}
 use Rattle.canvas_effects.proofs.Sharing.{behind_all, at_the_end}
-use Rattle.canvas_effects.proofs.effects.moved_line.first_moved.Goals as goal
+use Rattle.canvas_effects.proofs.effects.started.first_message.Goals as goal
 
 pub message_from-requires-clause-texts : goal.message_from-requires-clause-texts
 message_from-requires-clause-texts c =

@@ -4,7 +4,7 @@ use Rattle.canvas_rewrite.specs.FrozenView.{p_line_view}
 use Rattle.canvas_effects.proofs.Standing.{place_never}
 use Rattle.canvas_effects.proofs.Ended.{last_there_place}
 use Rattle.canvas_effects.proofs.Sharing.{of_same}
-use Rattle.canvas_effects.proofs.effects.moved_line.end_of.Goals as goal
+use Rattle.canvas_effects.proofs.effects.started.end_of.Goals as goal
 
 pub with_text-requires : goal.with_text-requires
 with_text-requires c =

@@ -1,7 +1,7 @@
 use Rattle.std.proofs.Common.{arith}
 use Rattle.canvas_effects.specs.steps.Walks.{input_seen}
 use Rattle.canvas_effects.proofs.Begun.{callback_fits, callbacks_on}
-use Rattle.canvas_effects.proofs.effects.started.call_back.Goals as goal
+use Rattle.canvas_effects.proofs.effects.task_messages.call_back.Goals as goal
 
 pub message_of-requires-clause-fits : goal.message_of-requires-clause-fits
 message_of-requires-clause-fits c =
