@@ -1,8 +1,7 @@
 -- Messages of tasks, and what lines begin with, as the code has them.
 use Rattle.std.proofs.Common.{◌≡◌, ◌∙◌, ℕ, suc, ◌≤◌, ◌<◌, ◌+◌, arith, true, false, List, [], ◌∷◌, ◌++◌, map, drop, get_or, length, Option, Some, None, Box, Global, refl, sym, ap, ap₂, subst, append_assoc, add-one, ne_eqb, drop-cons, true≢false, rules}
 use Rattle.std.specs.declared.sync.Arc.{Arc}
-use Rattle.std.specs.Prelude.{ℤ, ◌==◌, ◌&&◌, nat_le, not}
-use Rattle.canvas_values.proofs.ComposedLemmas.{both}
+use Rattle.std.specs.Prelude.{ℤ, ◌==◌, not, MatchOption}
 use Rattle.canvas_semantics.specs.PlacedLine.{PTask, p_task, PTasks, and_p_task, PPlace, p_nowhere, p_group, p_chord, PLine, p_stop, p_step, p_group_end, p_chord_end, no_p_lines}
 use Rattle.canvas_rewrite.specs.FrozenView.{p_tasks_of, p_steps, p_lines_of, p_task_view, p_line_view, p_end_view}
 use Rattle.canvas_rewrite.specs.declared.frozen.Carried as block
@@ -14,18 +13,18 @@ use Rattle.canvas_rewrite.specs.declared.frozen.FrozenEnd.{FrozenEnd, out-Frozen
 use Rattle.canvas_effects.specs.Carrying.{can_stand, AllStand, callbacks_ok, input_ok}
 use Rattle.canvas_message.specs.Content.{Content, place_of}
 use Rattle.canvas_effects.specs.Effects.{message, callbacks, messages_in, part_of}
-use Rattle.canvas_message.specs.Fits.{parent_ok, task_ok, line_ok, line_reach, fits}
-use Rattle.canvas_effects.specs.Flowing.{Input, list_input, given, parent_for}
+use Rattle.canvas_message.specs.Fits.{parent_ok, fits}
+use Rattle.canvas_effects.specs.Flowing.{Input, list_input}
 use Rattle.canvas_message.specs.steps.Parts.{is_stop}
-use Rattle.canvas_effects.specs.Placing.{last_at, placed}
-use Rattle.canvas_message.specs.MessageView.{place_view, place_seen}
+use Rattle.canvas_effects.specs.Placing.{placed}
+use Rattle.canvas_message.specs.MessageView.{place_view, place_seen, rest_seen}
 use Rattle.canvas_effects.specs.steps.Walks.{at_place, tail_seen, begins_with_task, first_message, member_place, started, all_started}
 use Rattle.canvas_effects.proofs.Walked.{begins_seen}
 use Rattle.canvas_effects.proofs.Copied.{own_place, place_there, line_parts}
 use Rattle.canvas_effects.proofs.Entered.{started_group, started_chord}
-use Rattle.canvas_message.proofs.FitLemmas.{counted, end_stands, never_stops}
+use Rattle.canvas_message.proofs.FitLemmas.{counted}
 use Rattle.canvas_message.proofs.Seen.{line_some, end_none, end_some}
-use Rattle.canvas_effects.proofs.Standing.{task_parts, begun, message_fits, called_parts, step_is, same_at, keeps_on, no_place, group_stands, header_stands, few_members}
+use Rattle.canvas_effects.proofs.Standing.{message_fits, called_parts, same_at, group_stands, header_stands, few_members, body_stands}
 
 -- ---- callbacks
 
@@ -70,40 +69,6 @@ callbacks_on ts i t p u x before after all m lt is same h made pushed =
 
 -- ---- the first task of a line
 
-nowhere_by : (u : Option ℕ) (t : PTask) (x : Input) (l : PLine) → is_stop l ≡ false → fits (message u t x l) ≡ true → place_of t ≡ p_nowhere
-nowhere_by u (p_task k call links errbacks place) x l h ok =
-    let t : PTask = begun (p_task k call links errbacks place) x in
-    let p = both (parent_ok (parent_for u x) && true && line_ok true (p_step t l)) (nat_le (line_reach 0 (p_step t l)) 32) ok in
-    let q = both (parent_ok (parent_for u x) && true) (line_ok true (p_step t l)) p.0 in
-    let r = both (task_ok false t) (line_ok true l) (sym (step_is true t l h) ∙ q.1) in
-    no_place place (task_parts false k (given call x) links errbacks place r.0).there
-
-at_nowhere : (t : PTask) → place_of t ≡ p_nowhere → at_place p_nowhere t ≡ t
-at_nowhere t h = ap (λ q. at_place q t) (sym h) ∙ own_place t
-
--- where others follow it has no place
-pub followed_same : (u : Option ℕ) (t : PTask) (x : Input) (p : PPlace) (l : PLine) → is_stop l ≡ false → fits (first_message u t x p l) ≡ true
-    → at_place p_nowhere t ≡ last_at p t l
-followed_same u t x p l h ok =
-    at_nowhere t (nowhere_by u t x (placed p l) (keeps_on p l h) (sym (ap (λ y. fits (message u y x (placed p l))) (same_at p t l h)) ∙ ok))
-    ∙ sym (same_at p t l h)
-
-pub followed_fits : (u : Option ℕ) (t : PTask) (x : Input) (p : PPlace) (l rest : PLine) → is_stop l ≡ false → rest ≡ placed p l
-    → fits (first_message u t x p l) ≡ true
-    → fits (message u (at_place p_nowhere t) x rest) ≡ true
-followed_fits u t x p l rest h made ok = ap₂ (λ y r. fits (message u y x r)) (followed_same u t x p l h ok) made ∙ ok
-
-pub followed_is : (u : Option ℕ) (t : PTask) (x : Input) (p : PPlace) (l rest : PLine) → is_stop l ≡ false → rest ≡ placed p l
-    → fits (first_message u t x p l) ≡ true
-    → message u (at_place p_nowhere t) x rest ≡ first_message u t x p l
-followed_is u t x p l rest h made ok = ap₂ (λ y r. message u y x r) (followed_same u t x p l h ok) made
-
--- the same of a task that is moved, which has no place where others follow it
-pub moved_fits : (u : Option ℕ) (t : PTask) (x : Input) (p : PPlace) (l rest : PLine) → is_stop l ≡ false → rest ≡ placed p l
-    → fits (first_message u t x p l) ≡ true
-    → fits (message u t x rest) ≡ true
-moved_fits u t x p l rest h made ok = ap₂ (λ y r. fits (message u y x r)) (sym (same_at p t l h)) made ∙ ok
-
 pub moved_is : (u : Option ℕ) (t : PTask) (x : Input) (p : PPlace) (l rest : PLine) → is_stop l ≡ false → rest ≡ placed p l
     → message u t x rest ≡ first_message u t x p l
 moved_is u t x p l rest h made = ap₂ (λ y r. message u y x r) (sym (same_at p t l h)) made
@@ -114,24 +79,13 @@ not_stop (p_step t l) h = refl
 not_stop (p_group_end g ms) h = refl
 not_stop (p_chord_end g ms b) h = refl
 
+pub some_follows : (r : Option FrozenLine) → (rest_seen r ≡ p_stop → ⊥)
+    → MatchOption r (rest_seen r ≡ p_stop) (λ l. (rest_seen r ≡ p_line_view l) × (is_stop (p_line_view l) ≡ false))
+some_follows None h = absurd (h refl)
+some_follows (Some l) h = (refl, not_stop (p_line_view l) h)
+
 pub place_put : (q : PPlace) (t : PTask) → place_of (at_place q t) ≡ q
 place_put q (p_task k call links errbacks place) = refl
-
-pub tail_follows : (ts : List FrozenTask) (o : Option (Box FrozenEnd Global)) (b : Box FrozenEnd Global) → o ≡ Some b
-    → is_stop (p_steps (map p_task_view ts) (tail_seen o)) ≡ false
-tail_follows ts o b some = ap (λ x. is_stop (p_steps (map p_task_view ts) (tail_seen x))) some
-    ∙ never_stops (map p_task_view ts) (p_end_view b.value) (end_stands b.value)
-
-pub no_tail_follows : (ts : List FrozenTask) (o : Option (Box FrozenEnd Global)) → o ≡ None
-    → (length ts == 0) ≡ is_stop (p_steps (map p_task_view ts) (tail_seen o))
-no_tail_follows [] o none = sym (ap (λ x. is_stop (tail_seen x)) none)
-no_tail_follows (t ∷ ts) o none = ne_eqb (suc (length ts)) 0 (λ e. absurd cc)
-
-pub stops_there : (l : PLine) → is_stop l ≡ true → l ≡ p_stop
-stops_there p_stop h = refl
-stops_there (p_step t l) h = absurd cc
-stops_there (p_group_end g ms) h = absurd cc
-stops_there (p_chord_end g ms b) h = absurd cc
 
 -- ---- places of members
 
@@ -142,26 +96,9 @@ fits_size t b p ms some same h =
     (sym (ap (λ l. can_stand l p) (end_some t b some)) ∙ h) in
     omega (arith, few, counted (out-FrozenEnd t).members, ap length same)
 
-pub group_made : (t : FrozenEnd) (p : PPlace) → (out-FrozenEnd t).body ≡ None
-    → place_view (roll-Place (record { group = (out-FrozenEnd t).group; chord = None })) ≡ member_place (p_end_view t) p
-group_made t p none = made (out-FrozenEnd t).group ∙ sym (ap (λ l. member_place l p) (end_none t none)) where
-  made : (g : ℕ) → place_view (roll-Place (record { group = g; chord = None })) ≡ p_group g
-  made g = search (rules, block.the_lemmas)
-
 chord_rolled : (g n : ℕ) (b : Arc FrozenLine Global)
     → place_view (roll-Place (record { group = g; chord = Some (roll-Carried (record { size = n; body = b })) })) ≡ p_chord g n (p_line_view b.value)
 chord_rolled g n b = search (rules, block.the_lemmas)
-
-pub chord_made : (t : FrozenEnd) (b : FrozenLine) (p q : PPlace) (ms : List FrozenLine) (n : ℕ) (body : FrozenLine) (shared : Arc FrozenLine Global)
-    → (out-FrozenEnd t).body ≡ Some b → ms ≡ (out-FrozenEnd t).members → n ≡ length ms → q ≡ p → p_line_view body ≡ placed q (p_line_view b)
-    → shared.value ≡ body
-    → place_view (roll-Place (record { group = (out-FrozenEnd t).group; chord = Some (roll-Carried (record { size = n; body = shared })) }))
-    ≡ member_place (p_end_view t) p
-chord_made t b p q ms n body shared some same sized there copied value =
-    chord_rolled (out-FrozenEnd t).group n shared
-    ∙ ap₂ (p_chord (out-FrozenEnd t).group) (sized ∙ ap length same ∙ sym (counted (out-FrozenEnd t).members))
-    (ap p_line_view value ∙ copied ∙ ap (λ z. placed z (p_line_view b)) there)
-    ∙ sym (ap (λ l. member_place l p) (end_some t b some))
 
 -- a line that begins with no task is the group or chord that it ends in, or nothing
 alone_by : (l : FrozenLine) (ts : List FrozenTask) → (out-FrozenLine l).tasks ≡ ts → begins_with_task (p_line_view l) ≡ false
@@ -182,10 +119,11 @@ no_messages p_nowhere = refl
 no_messages (p_group g) = refl
 no_messages (p_chord g size body) = refl
 
-pub nothing_begun : (l : FrozenLine) (x : Input) (p : PPlace) (u : Option ℕ) → (out-FrozenLine l).tail ≡ None → begins_with_task (p_line_view l) ≡ false
-    → started (p_line_view l) x p u ≡ []
-nothing_begun l x p u none h =
-    ap (λ z. started z x p u) (alone_by l (out-FrozenLine l).tasks refl h ∙ ap tail_seen none) ∙ no_messages p
+pub none_alone : (l : FrozenLine) → (out-FrozenLine l).tail ≡ None → begins_with_task (p_line_view l) ≡ false → p_line_view l ≡ p_stop
+none_alone l none h = alone_by l (out-FrozenLine l).tasks refl h ∙ ap tail_seen none
+
+pub none_started : (l : PLine) (x : Input) (p : PPlace) (u : Option ℕ) → l ≡ p_stop → started l x p u ≡ []
+none_started l x p u none = ap (λ z. started z x p u) none ∙ no_messages p
 
 -- where the members of a chord end whose body is moved
 pub header_made : (g n : ℕ) (b body : FrozenLine) (shared : Arc FrozenLine Global) (p q : PPlace) → q ≡ p → p_line_view body ≡ placed q (p_line_view b)
@@ -273,19 +211,29 @@ no_lines : (ms : List FrozenLine) → length ms ≡ 0 → p_lines_of (map p_line
 no_lines [] h = refl
 no_lines (m ∷ ms) h = absurd cc
 
+-- ---- members one after the other
+
 pub empty_is : (t : FrozenEnd) (b : FrozenLine) (ms : List FrozenLine) → (out-FrozenEnd t).body ≡ Some b → ms ≡ (out-FrozenEnd t).members → length ms ≡ 0
     → p_end_view t ≡ p_chord_end (out-FrozenEnd t).group no_p_lines (p_line_view b)
 empty_is t b ms some same few =
     end_some t b some ∙ ap (λ xs. p_chord_end (out-FrozenEnd t).group (p_lines_of (map p_line_view xs)) (p_line_view b)) (sym same)
     ∙ ap (λ ls. p_chord_end (out-FrozenEnd t).group ls (p_line_view b)) (no_lines ms few)
 
--- ---- members one after the other
-
 pub empty_started : (t : FrozenEnd) (b : FrozenLine) (ms : List FrozenLine) (ns : List ℤ) (x : Input) (p : PPlace) (u : Option ℕ)
     → (out-FrozenEnd t).body ≡ Some b → ms ≡ (out-FrozenEnd t).members → length ms ≡ 0 → ns ≡ []
     → started (p_line_view b) (list_input ns) p u ≡ started (p_end_view t) x p u
 empty_started t b ms ns x p u some same few none =
     ap (λ z. started (p_line_view b) (list_input z) p u) none ∙ sym (ap (λ l. started l x p u) (empty_is t b ms some same few))
+
+-- where an empty header starts its body
+pub body_there : (t : FrozenEnd) (b : FrozenLine) (p : PPlace) → (out-FrozenEnd t).body ≡ Some b → can_stand (p_end_view t) p ≡ true
+    → can_stand (p_line_view b) p ≡ true
+body_there t b p some ok =
+    body_stands (out-FrozenEnd t).group (p_lines_of (map p_line_view (out-FrozenEnd t).members)) (p_line_view b) p
+    (sym (ap (λ l. can_stand l p) (end_some t b some)) ∙ ok)
+
+pub no_numbers : (ns : List ℤ) → ns ≡ [] → input_ok (list_input ns) ≡ true
+no_numbers ns none = ap (λ z. input_ok (list_input z)) none
 
 standing_by : (t : FrozenEnd) (o : Option FrozenLine) (ms : List FrozenLine) (p : PPlace) → (out-FrozenEnd t).body ≡ o → ms ≡ (out-FrozenEnd t).members
     → can_stand (p_end_view t) p ≡ true

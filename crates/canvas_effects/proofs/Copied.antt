@@ -131,20 +131,6 @@ longer_placed p o b some new ts e end tail h there copied boxed =
     ∙ ap (p_steps (map p_task_view ts)) (ap p_end_view boxed ∙ copied ∙ ap (λ x. placed p (p_end_view x)) there)
     ∙ sym (ap (λ x. placed p (p_steps (map p_task_view ts) (tail_seen x))) some ∙ steps_placed p (map p_task_view ts) (p_end_view b.value) (end_stands b.value))
 
-pub group_placed : (p : PPlace) (t : FrozenEnd) → (out-FrozenEnd t).body ≡ None → (new ls : List FrozenLine) → map p_line_view new ≡ map p_line_view ls
-    → ls ≡ (out-FrozenEnd t).members
-    → p_end_view (roll-FrozenEnd (record { group = (out-FrozenEnd t).group; members = new; body = None })) ≡ placed p (p_end_view t)
-group_placed p t none new ls h same = group_copied t none new ls h same ∙ sym (ap (placed p) (end_none t none) ∙ sym (end_none t none))
-
-pub chord_placed : (p : PPlace) (t : FrozenEnd) (b : FrozenLine) → (out-FrozenEnd t).body ≡ Some b → (new ls : List FrozenLine) (body : FrozenLine)
-    → map p_line_view new ≡ map p_line_view ls → ls ≡ (out-FrozenEnd t).members → p_line_view body ≡ placed p (p_line_view b)
-    → p_end_view (roll-FrozenEnd (record { group = (out-FrozenEnd t).group; members = new; body = Some body })) ≡ placed p (p_end_view t)
-chord_placed p t b some new ls body h same copied =
-    made_chord (out-FrozenEnd t).group new body
-    ∙ ap (λ ms. p_chord_end (out-FrozenEnd t).group (p_lines_of ms) (p_line_view body)) (h ∙ ap (map p_line_view) same)
-    ∙ ap (p_chord_end (out-FrozenEnd t).group (p_lines_of (map p_line_view (out-FrozenEnd t).members))) copied
-    ∙ sym (ap (placed p) (end_some t b some))
-
 -- a whole line by its parts
 tail_by : (l : FrozenLine) (o : Option (Box FrozenEnd Global)) → (out-FrozenLine l).tail ≡ o
     → p_line_view l ≡ p_steps (map p_task_view (out-FrozenLine l).tasks) (tail_seen o)
@@ -153,3 +139,9 @@ tail_by l (Some b) e = line_some l b e
 
 pub line_parts : (l : FrozenLine) → p_line_view l ≡ p_steps (map p_task_view (out-FrozenLine l).tasks) (tail_seen (out-FrozenLine l).tail)
 line_parts l = tail_by l (out-FrozenLine l).tail refl
+
+-- one made of parts
+pub made_of : (ts : List FrozenTask) (o : Option (Box FrozenEnd Global))
+    → p_line_view (roll-FrozenLine (record { tasks = ts; tail = o })) ≡ p_steps (map p_task_view ts) (tail_seen o)
+made_of ts None = made_line ts
+made_of ts (Some b) = made_longer ts b

@@ -17,11 +17,11 @@ use Rattle.canvas_rewrite.specs.FrozenView.{PCarried, p_task_view, p_line_view}
 use Rattle.canvas_rewrite.specs.declared.frozen.Carried as block
 use Rattle.canvas_rewrite.specs.declared.frozen.Carried.{Carried, out-Carried}
 use Rattle.canvas_rewrite.specs.declared.frozen.FrozenTask.{FrozenTask, out-FrozenTask}
-use Rattle.canvas_effects.specs.Carrying.{is_whole, carried_ok}
+use Rattle.canvas_effects.specs.Carrying.{is_whole, carried_ok, place_stands}
 use Rattle.canvas_message.specs.Content.{Content, line, number_of, links_of, errbacks_of, place_of, call_of}
 use Rattle.canvas_effects.specs.Effects.{Jobs, Effect, Part, message, callbacks, called, part_of, enter, enter_all, effect_of, stores_in, messages_in, part_in, after, body_after, into_body}
 use Rattle.canvas_message.specs.MessageView.{carried_view, place_seen}
-use Rattle.canvas_message.specs.Fits.{is_task_number, parent_ok, line_ok, members_ok, line_reach, how_many, fits}
+use Rattle.canvas_message.specs.Fits.{parent_ok, line_ok, members_ok, line_reach, how_many, fits}
 use Rattle.canvas_effects.specs.Flowing.{Input, number_input, list_input, id_input, run, skips, raise, after_outcome}
 use Rattle.canvas_effects.specs.Ordered.{in_order}
 use Rattle.canvas_message.specs.steps.Parts.{is_stop}
@@ -29,7 +29,7 @@ use Rattle.canvas_effects.specs.Placing.{last_at, placed, end_place, last_task}
 use Rattle.canvas_effects.specs.steps.Walks.{last_of, started, skipped, raised_stores, raised_messages, part_at_end, first_failure, successes}
 use Rattle.canvas_effects.proofs.Copied.{place_there}
 use Rattle.canvas_effects.proofs.Entered.{stores_on, messages_on, part_on, called_part, back_stores, back_part, place_stores, place_messages, no_part_on, no_store_on, skipped_so, skip_quiet, raised_stores_so, raised_messages_so}
-use Rattle.canvas_effects.proofs.Standing.{message_fits, as_it_stands, Stepped, first_stepped, rest_whole, place_last, place_never, whole_ok, member_first, member_others}
+use Rattle.canvas_effects.proofs.Standing.{as_it_stands, Stepped, first_stepped, rest_whole, place_whole, place_last, place_never, whole_ok, member_first, member_others}
 use Rattle.canvas_effects.proofs.Walked.{number_seen, last_number}
 
 -- ---- lines that are started store nothing, and return nothing where they have an element
@@ -171,6 +171,9 @@ own_stepped c ok = first_stepped c.own c.rest (fits_whole c ok)
 pub rest_stands : (c : Content) (l : PLine) → fits c ≡ true → c.rest ≡ l → is_stop l ≡ false → is_whole l ≡ true
 rest_stands c l ok same h = rest_whole c.own l h (ap (λ r. is_whole (p_step c.own r)) (sym same) ∙ fits_whole c ok)
 
+pub own_place_stands : (c : Content) → fits c ≡ true → c.rest ≡ p_stop → place_stands (place_of c.own) ≡ true
+own_place_stands c ok same = place_whole (p_step c.own p_stop) (ap (λ r. is_whole (p_step c.own r)) (sym same) ∙ fits_whole c ok)
+
 end_behind : (t : PTask) (l : PLine) → is_stop l ≡ false → end_place (p_step t l) ≡ end_place l
 end_behind t p_stop h = absurd cc
 end_behind t (p_step u l) h = refl
@@ -219,25 +222,17 @@ succeeded c l n ss one ms p ok same h hs h1 hm hp =
     (hp ∙ sym (run_part true l (number_input n) (end_place l) k (Some k) (whole_ok l (rest_stands c l ok same h))))
 
 -- where that is a task, it takes over what it carries
-next_begun : (u : ℕ) (t : PTask) (l : PLine) (n : ℤ)
-    → message (Some u) t (number_input n) l ∷ [] ≡ started (p_step t l) (number_input n) (end_place (p_step t l)) (Some u)
-next_begun u t l n =
+next_begun : (u : Option ℕ) (t : PTask) (l : PLine) (x : Input) → message u t x l ∷ [] ≡ started (p_step t l) x (end_place (p_step t l)) u
+next_begun u t l x =
     let there : p_step (last_at (end_place (p_step t l)) t l) (placed (end_place (p_step t l)) l) ≡ p_step t l = as_it_stands (p_step t l) in
     let own : last_at (end_place (p_step t l)) t l ≡ t = cc in
     let rest : placed (end_place (p_step t l)) l ≡ l = cc in
-    sym (ap₂ (λ v r. message (Some u) v (number_input n) r ∷ []) own rest)
+    sym (ap₂ (λ v r. message u v x r ∷ []) own rest)
 
-pub succeeded_next : (c : Content) (t : PTask) (l : PLine) (n : ℤ) (ss : List (ℕ × Outcome)) (one ms : List Content) (p : Option Part) → fits c ≡ true
-    → c.rest ≡ p_step t l
-    → ss ≡ [] → one ≡ messages_in (called (links_of c.own) (errbacks_of c.own) (number_of c.own) (Success n))
-    → ms ≡ one ++ message (Some (number_of c.own)) t (number_input n) l ∷ [] → p ≡ None → Done c ss ms p (Success n)
-succeeded_next c t l n ss one ms p ok same hs h1 hm hp =
-    succeeded c (p_step t l) n ss one ms p ok same refl hs h1 (hm ∙ ap (λ xs. one ++ xs) (next_begun (number_of c.own) t l n)) hp
-
-pub next_stands : (c : Content) (k : ℕ) (t : PTask) (l : PLine) (n : ℤ) → fits c ≡ true → c.rest ≡ p_step t l → k ≡ number_of c.own → in_range n ≡ true
-    → fits (message (Some k) t (number_input n) l) ≡ true
-next_stands c k t l n ok same its h =
-    message_fits (Some k) t (number_input n) l (ap is_task_number its ∙ (own_stepped c ok).numbered) h (rest_stands c (p_step t l) ok same refl)
+pub handed : (old new : List Content) (m : Content) (u : Option ℕ) (t : PTask) (l line : PLine) (x : Input) → line ≡ p_step t l → m ≡ message u t x l
+    → new ≡ old ++ m ∷ [] → new ≡ old ++ started line x (end_place line) u
+handed old new m u t l line x same made pushed =
+    pushed ∙ ap (λ y. old ++ y ∷ []) made ∙ ap (λ ms. old ++ ms) (next_begun u t l x) ∙ ap (λ z. old ++ started z x (end_place z) u) (sym same)
 
 -- on a failure, where something follows
 pub failed : (c : Content) (l : PLine) (f : Fault) (olds ss : List (ℕ × Outcome)) (ms : List Content) (p : Option Part) → fits c ≡ true → c.rest ≡ l

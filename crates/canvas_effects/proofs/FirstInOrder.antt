@@ -1,10 +1,10 @@
 -- What a plan's line begins with stands in the order of the numbers, so that it can be made portion by portion.
-use Rattle.std.proofs.Common.{◌≡◌, ◌∙◌, ℕ, suc, ◌≤◌, ◌<◌, ◌+◌, Bool, true, false, List, [], ◌∷◌, ◌++◌, map, Option, Some, None, Box, Global, length, refl, sym, ap, subst, arith, append-nil}
+use Rattle.std.proofs.Common.{◌≡◌, ◌∙◌, ℕ, suc, ◌≤◌, true, false, List, [], ◌∷◌, ◌++◌, map, Option, Some, None, Box, Global, length, refl, sym, ap, subst, arith, append-nil}
 use Rattle.std.specs.Prelude.{◌==◌}
-use Rattle.canvas_semantics.specs.Tree.{Task, task, Tasks}
+use Rattle.canvas_semantics.specs.Tree.{Task, task}
 use Rattle.canvas_semantics.specs.FileOrder.{TaskIn, LineIn, LinesIn}
 use Rattle.canvas_semantics.specs.Line.{Line, stop, step, group_end, chord_end, Lines, no_lines, and_line}
-use Rattle.canvas_semantics.specs.PlacedLine.{PPlace, p_nowhere, p_group, p_chord, PLine, bare, all_bare, bare_task}
+use Rattle.canvas_semantics.specs.PlacedLine.{PPlace, p_nowhere, p_group, p_chord, PLine, bare, all_bare}
 use Rattle.canvas_rewrite.specs.declared.frozen.FrozenLine.{FrozenLine, out-FrozenLine}
 use Rattle.canvas_rewrite.specs.declared.frozen.FrozenEnd.{FrozenEnd, out-FrozenEnd}
 use Rattle.canvas_rewrite.specs.declared.frozen.FrozenTask.{FrozenTask}
@@ -14,7 +14,7 @@ use Rattle.canvas_message.specs.Fits.{how_many}
 use Rattle.canvas_effects.specs.Carrying.{is_whole, can_stand, AllStand}
 use Rattle.canvas_effects.specs.Effects.{Jobs, enter, enter_all, first_messages, messages_in, part_of, when_empty}
 use Rattle.canvas_effects.specs.Flowing.{Input, no_input, list_input, run}
-use Rattle.canvas_effects.specs.Placing.{end_place, placed}
+use Rattle.canvas_effects.specs.Placing.{placed}
 use Rattle.canvas_effects.specs.Portions.{portions, together}
 use Rattle.canvas_effects.specs.steps.Walks.{member_place, started, all_started, tail_seen}
 use Rattle.canvas_effects.proofs.Begun.{begun_header, group_started}

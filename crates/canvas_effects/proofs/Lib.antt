@@ -7,6 +7,7 @@ pub mod Entered
 pub mod Walked
 pub mod Standing
 pub mod Sharing
+pub mod Depth
 pub mod Begun
 pub mod Raised
 pub mod Ended

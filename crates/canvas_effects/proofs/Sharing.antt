@@ -4,22 +4,19 @@ use Rattle.std.specs.Prelude.{reverse, option_to_list, IfSome, MatchOption}
 use Rattle.std.specs.Option.{option_map}
 use Rattle.std.specs.declared.sync.Arc.{Arc}
 use Rattle.std.proofs.lemmas.List.{reverse-append}
-use Rattle.canvas_rewrite.specs.FrozenView.{PCarried, p_line_view, p_end_view}
-use Rattle.canvas_rewrite.specs.declared.frozen.FrozenEnd.{FrozenEnd, out-FrozenEnd}
-use Rattle.canvas_rewrite.specs.declared.frozen.FrozenLine.{FrozenLine}
-use Rattle.canvas_message.proofs.Seen.{chord_place, end_none, end_some}
+use Rattle.canvas_rewrite.specs.FrozenView.{PCarried}
+use Rattle.canvas_message.proofs.Seen.{chord_place}
 use Rattle.canvas_message.specs.MessageView.{carried_view, place_view}
 use Rattle.canvas_rewrite.specs.declared.frozen.Carried.{Carried}
 use Rattle.canvas_rewrite.specs.declared.frozen.Place.{Place, out-Place}
 use Rattle.canvas_effects.proofs.Ended.{carried_seen}
 use Rattle.canvas_semantics.specs.PlacedLine.{PTask, PPlace, p_nowhere, p_chord, PLine, p_stop, p_step, p_group_end, p_chord_end}
-use Rattle.canvas_message.specs.Content.{place_of}
-use Rattle.canvas_message.specs.SharedTexts.{AreEnds, SaysRinged, SaysCarried, core_of, inner_place, place_behind, rings_of}
+use Rattle.canvas_message.specs.SharedTexts.{AreEnds, AreTexts, IsLineText, SaysRinged, SaysCarried, core_of, inner_place, place_behind, rings_of}
+use Rattle.canvas_message.specs.declared.texts.Texts.{Texts}
 use Rattle.canvas_message.specs.declared.carried_text.CarriedText.{CarriedText}
 use Rattle.canvas_message.specs.steps.Parts.{is_stop}
 use Rattle.canvas_effects.specs.Placing.{placed, end_place}
 use Rattle.canvas_effects.specs.Carrying.{carrying_place}
-use Rattle.canvas_effects.specs.steps.Walks.{member_place}
 
 -- ---- of what a place carries
 
@@ -65,18 +62,6 @@ carried_behind t p own (p_step u l) stop h = carries_on t p (p_step u l) h
 carried_behind t p own (p_group_end g ms) stop h = nowhere t
 carried_behind t p own (p_chord_end g ms b) stop h = carries_on t p b h
 
--- of the body that members carry whose whole goes to p
-inner_by : (t : CarriedText) (e : FrozenEnd) (o : Option FrozenLine) (p : PPlace) → (out-FrozenEnd e).body ≡ o → SaysCarried t p
-    → SaysCarried t (inner_place (member_place (p_end_view e) p))
-inner_by t e None p is h = subst (λ x. SaysCarried t (inner_place (member_place x p))) (sym (end_none e is)) (nowhere t)
-inner_by t e (Some b) p is h =
-    subst (λ x. SaysCarried t (inner_place (member_place x p))) (sym (end_some e b is)) (carries_on t p (p_line_view b) h)
-
-pub of_members : (o : Known) (e : FrozenEnd) (p q : PPlace) → q ≡ member_place (p_end_view e) p → IsOf o p → IsOf o (inner_place q)
-of_members None e p q is h = tt
-of_members (Some t) e p q is h =
-    subst (λ x. SaysCarried t.value (inner_place x)) (sym is) (inner_by t.value e (out-FrozenEnd e).body p refl h)
-
 pub of_header : (o : Known) (p q : PPlace) (g n : ℕ) (l : PLine) → q ≡ p_chord g n (placed p l) → IsOf o p → IsOf o (inner_place q)
 of_header None p q g n l is h = tt
 of_header (Some t) p q g n l is h = subst (λ x. SaysCarried t.value (inner_place x)) (sym is) (carries_on t.value p l h)
@@ -98,18 +83,18 @@ of_carried o p c e h =
 
 -- ---- of what follows on a line
 
--- of a line when its next task is taken
-place_after : (own : PPlace) (t : PTask) (l : PLine) → place_behind own (p_step t l) ≡ place_behind (place_of t) l
-place_after own t p_stop = refl
-place_after own t (p_step u l) = refl
-place_after own t (p_group_end g ms) = refl
-place_after own t (p_chord_end g ms b) = refl
-
 pub place_at_end : (own : PPlace) (l : PLine) → is_stop l ≡ false → place_behind own l ≡ end_place l
 place_at_end own p_stop h = absurd cc
 place_at_end own (p_step u l) h = refl
 place_at_end own (p_group_end g ms) h = refl
 place_at_end own (p_chord_end g ms b) h = refl
+
+-- where something follows, the place of the task itself doesn't matter
+pub anywhere : (texts : Texts) (own : PPlace) (r l : PLine) → r ≡ l → is_stop l ≡ false → AreTexts texts own r → AreTexts texts p_nowhere l
+anywhere texts own r l same h are = record {
+  line = subst (λ z. IfSome texts.line (λ t. IsLineText t z)) same are.line;
+  carried = of_same texts.carried _ _ (ap (place_behind own) same ∙ place_at_end own l h ∙ sym (place_at_end p_nowhere l h)) are.carried;
+}
 
 pub next_end : (head text old new : List ℕ) (r : Option ℕ) (t : PTask) (l : PLine) → old ≡ new ++ option_to_list r → (r ≡ None → new ≡ [])
     → AreEnds head text (reverse old) (p_step t l) → AreEnds head text (reverse new) l

@@ -1,5 +1,5 @@
 -- What the walks give of lines, ends and tasks as the code has them.
-use Rattle.std.proofs.Common.{◌≡◌, ◌∙◌, ◌<◌, ◌≤◌, ◌+◌, ℕ, suc, Bool, true, false, List, [], ◌∷◌, ◌++◌, map, length, get_or, drop, Option, Some, None, Box, Global, refl, sym, ap, subst, append_assoc, append-nil, ne_eqb}
+use Rattle.std.proofs.Common.{◌≡◌, ◌∙◌, ◌<◌, ◌≤◌, ◌+◌, ℕ, suc, Bool, true, false, List, [], ◌∷◌, ◌++◌, map, length, get_or, drop, Option, Some, None, Box, Global, refl, sym, ap, ap₂, subst, true≢false, append_assoc, append-nil, ne_eqb}
 use Rattle.std.proofs.lemmas.List.{drop_more, at_drop_more, at_drop_all}
 use Rattle.std.specs.Prelude.{ℤ, ◌==◌, not}
 use Rattle.canvas_task.specs.declared.outcome.Fault.{Fault}
@@ -7,7 +7,7 @@ use Rattle.canvas_task.specs.declared.outcome.Outcome.{Outcome}
 use Rattle.canvas_task.specs.declared.outcome.Outcome.TheVariants.{Success, Failure}
 use Rattle.canvas_values.proofs.ComposedLemmas.{both}
 use Rattle.canvas_semantics.specs.Line.{in_group}
-use Rattle.canvas_semantics.specs.PlacedLine.{PTask, PPlace, PLine, p_stop, p_step, p_group_end, p_chord_end, strip}
+use Rattle.canvas_semantics.specs.PlacedLine.{PTask, PLine, p_stop, p_step, p_group_end, p_chord_end, strip}
 use Rattle.canvas_rewrite.specs.FrozenView.{p_steps, p_task_view, p_line_view, p_end_view}
 use Rattle.canvas_rewrite.specs.declared.frozen.FrozenTask.{FrozenTask, out-FrozenTask}
 use Rattle.canvas_rewrite.specs.declared.frozen.FrozenLine.{FrozenLine, out-FrozenLine}
@@ -15,7 +15,7 @@ use Rattle.canvas_rewrite.specs.declared.frozen.FrozenEnd.{FrozenEnd, out-Frozen
 use Rattle.canvas_message.specs.Content.{number_of}
 use Rattle.canvas_message.specs.Fits.{line_ok, task_ok}
 use Rattle.canvas_message.specs.steps.Parts.{is_stop}
-use Rattle.canvas_effects.specs.Carrying.{is_whole, can_stand, AllWhole, AllStand}
+use Rattle.canvas_effects.specs.Carrying.{is_whole, AllWhole}
 use Rattle.canvas_effects.specs.Placing.{last_task}
 use Rattle.canvas_effects.specs.steps.Walks.{last_of, successes, skipped, all_skipped, skipped_tasks, tail_seen, begins_with_task}
 use Rattle.canvas_effects.proofs.Copied.{line_parts}
@@ -61,11 +61,6 @@ one_success (k, Success n) es = refl
 one_success (k, Failure f) es = refl
 
 -- ---- lines in turn
-
-pub stand_on : (p : PPlace) (ls : List FrozenLine) (i : ℕ) (l : FrozenLine) → i < length ls → l ≡ get_or ls i l
-    → AllStand p (map p_line_view (drop i ls)) → (can_stand (p_line_view l) p ≡ true) × AllStand p (map p_line_view (drop (i + 1) ls))
-stand_on p ls i l lt is h =
-    subst (λ xs. AllStand p (map p_line_view xs)) (drop_more ls i l lt ∙ ap (λ y. y ∷ drop (i + 1) ls) (sym is)) h
 
 pub whole_on : (ls : List FrozenLine) (i : ℕ) (l : FrozenLine) → i < length ls → l ≡ get_or ls i l
     → AllWhole (map p_line_view (drop i ls)) → (is_whole (p_line_view l) ≡ true) × AllWhole (map p_line_view (drop (i + 1) ls))
@@ -178,3 +173,21 @@ begins_by l (Some b) e =
 
 pub begins_seen : (l : FrozenLine) → not (length (out-FrozenLine l).tasks == 0) ≡ begins_with_task (p_line_view l)
 begins_seen l = begins_by l (out-FrozenLine l).tail refl
+
+-- what is left when it is taken
+pub first_taken : (l : FrozenLine) (ts others : List FrozenTask) (t : FrozenTask) → ts ≡ (out-FrozenLine l).tasks → (length ts == 0) ≡ false
+    → t ≡ get_or ts 0 t → others ≡ drop 1 ts
+    → p_line_view l ≡ p_step (p_task_view t) (p_steps (map p_task_view others) (tail_seen (out-FrozenLine l).tail))
+first_taken l [] others t same some first left = absurd (true≢false some)
+first_taken l (u ∷ us) others t same some first left =
+    line_parts l ∙ ap (λ xs. p_steps (map p_task_view xs) (tail_seen (out-FrozenLine l).tail)) (sym same)
+    ∙ ap₂ (λ y ys. p_step (p_task_view y) (p_steps (map p_task_view ys) (tail_seen (out-FrozenLine l).tail))) (sym first) (sym left)
+
+pub last_taken : (l : FrozenLine) (ts others : List FrozenTask) (t : FrozenTask) → ts ≡ (out-FrozenLine l).tasks → (length ts == 0) ≡ false
+    → t ≡ get_or ts 0 t → others ≡ drop 1 ts → (length others == 0) ≡ true → (out-FrozenLine l).tail ≡ None
+    → p_line_view l ≡ p_step (p_task_view t) p_stop
+last_taken l ts [] t same some first left few none = first_taken l ts [] t same some first left ∙ ap (λ z. p_step (p_task_view t) (tail_seen z)) none
+last_taken l ts (u ∷ us) t same some first left few none = absurd (true≢false (sym few ∙ ne_eqb (suc (length us)) 0 (λ e. absurd cc)))
+
+pub none_begins : (l : FrozenLine) (ts : List FrozenTask) → ts ≡ (out-FrozenLine l).tasks → (length ts == 0) ≡ true → begins_with_task (p_line_view l) ≡ false
+none_begins l ts same few = sym (begins_seen l) ∙ ap (λ xs. not (length xs == 0)) (sym same) ∙ ap not few

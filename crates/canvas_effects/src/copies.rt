@@ -105,7 +105,7 @@ pub(crate) fn copy_task(
 }
 
 #[cycle(copy)]
-pub(crate) fn copy_tasks(alloc: Global, tasks: &[FrozenTask]) -> Result<Vec<FrozenTask>, AllocError>
+fn copy_tasks(alloc: Global, tasks: &[FrozenTask]) -> Result<Vec<FrozenTask>, AllocError>
     ensures { IfOk result (λ copies. map p_task_view copies.items ≡ map p_task_view tasks.now) }
 {
     let mut copies = Vec::with_capacity(alloc, tasks.len())?;
@@ -116,8 +116,9 @@ pub(crate) fn copy_tasks(alloc: Global, tasks: &[FrozenTask]) -> Result<Vec<Froz
     Ok(copies)
 }
 
+/// A copy of a line.
 #[cycle(copy_line)]
-fn copy_line(alloc: Global, line: &FrozenLine) -> Result<FrozenLine, AllocError>
+pub(crate) fn copy_line(alloc: Global, line: &FrozenLine) -> Result<FrozenLine, AllocError>
     ensures { IfOk result (λ copy. p_line_view copy ≡ p_line_view line.now) }
 {
     let tasks = ListOf::of(copy_tasks(alloc, line.tasks.get())?);
@@ -157,7 +158,7 @@ fn copy_end(alloc: Global, end: &FrozenEnd) -> Result<FrozenEnd, AllocError>
 }
 
 #[cycle(copy_line)]
-pub(crate) fn copy_lines(alloc: Global, lines: &[FrozenLine]) -> Result<Vec<FrozenLine>, AllocError>
+fn copy_lines(alloc: Global, lines: &[FrozenLine]) -> Result<Vec<FrozenLine>, AllocError>
     ensures { IfOk result (λ copies. map p_line_view copies.items ≡ map p_line_view lines.now) }
 {
     let mut copies = Vec::with_capacity(alloc, lines.len())?;

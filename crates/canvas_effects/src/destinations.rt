@@ -7,7 +7,7 @@ ghost use Rattle.canvas_rewrite.specs.FrozenView.{place_or};
 
 use crate::copies::share_place;
 use crate::destination::Destination;
-use canvas_message::{CarriedText, share_text};
+use canvas_message::CarriedText;
 use canvas_rewrite::Place;
 use std::alloc::AllocError;
 use std::sync::Arc;
@@ -41,16 +41,6 @@ pub(crate) fn share_destination(
     }
 }
 
-/// The place alone, once more.
-pub(crate) fn place_at(destination: &Option<Destination>) -> Result<Option<Place>, AllocError>
-    ensures { IfOk result (λ p. place_seen p ≡ place_or destination.now) }
-{
-    match destination {
-        Some(destination) => Ok(Some(share_place(&destination.place)?)),
-        None => Ok(None),
-    }
-}
-
 /// The place and the text.
 pub(crate) fn parts(destination: Option<Destination>) -> (Option<Place>, Option<Arc<CarriedText>>)
     ensures place { place_seen result.0 ≡ place_or destination }
@@ -59,18 +49,5 @@ pub(crate) fn parts(destination: Option<Destination>) -> (Option<Place>, Option<
     match destination {
         Some(Destination { place, text }) => (Some(place), text),
         None => (None, None),
-    }
-}
-
-/// The text of what the place carries, where it is known.
-pub(crate) fn text_at(
-    destination: &Option<Destination>,
-) -> Result<Option<Arc<CarriedText>>, AllocError>
-    ensures { IfOk result
-        (λ text. IfSome text (λ t. SaysCarried t.value (place_or destination.now))) }
-{
-    match destination {
-        Some(destination) => share_text(&destination.text),
-        None => Ok(None),
     }
 }

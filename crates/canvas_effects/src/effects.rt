@@ -1,13 +1,13 @@
 //! What the start of a plan, the end of a task and the end of a header's members make a worker do.
 
-ghost use Rattle.std.specs.Prelude.{◌≡◌, ◌++◌, true, None, IfOk, IfSome, OnOk, All};
+ghost use Rattle.std.specs.Prelude.{◌≡◌, ◌++◌, true, None, IfOk, IfSome, All, map};
 ghost use Rattle.std.specs.Option.{option_map};
 ghost use Rattle.canvas_task.specs.Numbers.{in_range};
 ghost use Rattle.canvas_task.specs.Apply.{IsInRange};
-ghost use Rattle.canvas_rewrite.specs.FrozenView.{p_line_view};
-ghost use Rattle.canvas_effects.specs.Carrying.{is_whole, place_stands, carried_ok, input_ok};
+ghost use Rattle.canvas_rewrite.specs.FrozenView.{p_line_view, p_task_view, p_tasks_of};
+ghost use Rattle.canvas_effects.specs.Carrying.{callbacks_ok, is_whole, place_stands, carried_ok, input_ok};
 ghost use Rattle.canvas_message.specs.Content.{number_of, links_of, errbacks_of};
-ghost use Rattle.canvas_effects.specs.Effects.{first_messages, after, called, body_after, enter, effect_of, stores_in, messages_in, part_in, part_of};
+ghost use Rattle.canvas_effects.specs.Effects.{first_messages, after, callbacks, called, body_after, enter, effect_of, stores_in, messages_in, part_in, part_of};
 ghost use Rattle.canvas_message.specs.MessageView.{carried_view, place_seen};
 ghost use Rattle.canvas_message.specs.SharedTexts.{SaysCarried};
 ghost use Rattle.canvas_message.specs.Fits.{parent_ok};
@@ -21,43 +21,37 @@ mod first;
 mod header;
 mod lasts;
 mod moved;
-mod moved_line;
 mod order;
 mod raised;
 mod skipped;
 mod started;
+mod task_messages;
 
-use crate::destinations::with_text;
+use crate::copies::copy_line;
 use crate::input::Input;
 use crate::{ChordBody, PartCall, Todo};
 use canvas_message::{CarriedText, Message, following, share_carried, share_text};
-use canvas_rewrite::{Carried, FrozenLine, Place, Plan};
+use canvas_rewrite::{Carried, FrozenLine, FrozenTask, Place, Plan};
 use canvas_task::{Fault, ListOf, Memory, Outcome, TaskNo};
 pub use first::FirstMessages;
 use header::{failure_of, numbers_of};
 use lasts::last_task;
 pub use moved::into_todo;
-use moved_line::start_moved_whole;
+use moved::{behind, skipped_behind};
 use order::{sort_messages, sort_stores};
 use raised::raise_line;
-use skipped::skip_line;
-use started::{call_back, start_line};
+use started::start_whole;
 use std::alloc::{AllocError, Global};
 use std::sync::Arc;
+use task_messages::{call_back, texts_of};
 
 /// The messages that a run begins with.
 pub fn first_messages(alloc: Global, plan: &Plan) -> Result<Vec<Message>, Memory>
     ensures { IfOk result (λ messages. messages.items ≡ first_messages plan.now) }
 {
+    let line = copy_line(alloc, plan.line())?;
     let mut messages = Vec::new(alloc);
-    start_whole(
-        alloc,
-        plan.line(),
-        &Input::Nothing,
-        &None,
-        None,
-        &mut messages,
-    )?;
+    start_whole(alloc, line, &Input::Nothing, &None, None, &mut messages)?;
     sort_messages(&mut messages)?;
     Ok(messages)
 }
@@ -67,32 +61,19 @@ pub fn after(alloc: Global, message: &Message, outcome: &Outcome) -> Result<Todo
     requires { IsInRange outcome.now }
     ensures { IfOk result (λ todo. todo_view todo ≡ after message.now outcome.now) }
 {
-    let mut messages = called_back(alloc, message, outcome)?;
-    let mut stores = Vec::new(alloc);
+    let messages = called_back(alloc, message, outcome)?;
     match following(&message.rest) {
         Some(rest) => match outcome {
-            Outcome::Success(number) => {
-                let input = Input::Number(*number);
-                let text = share_text(&message.texts.carried)?;
-                start_whole(
-                    alloc,
-                    rest,
-                    &input,
-                    &Some(message.task),
-                    text,
-                    &mut messages,
-                )?;
-                Ok(todo_of(stores, messages, None)?)
+            Outcome::Success(_) => {
+                let texts = texts_of(share_text(&message.texts.carried)?);
+                let rest = copy_line(alloc, rest)?;
+                Ok(behind(alloc, rest, texts, message.task, outcome, messages)?)
             }
-            Outcome::Failure(fault) => {
-                skip_line(rest, fault, &mut stores)?;
-                let part = last_part(rest)?;
-                Ok(todo_of(stores, messages, part)?)
-            }
+            Outcome::Failure(fault) => Ok(skipped_behind(alloc, rest, fault, messages)?),
         },
         None => {
             let part = part_of(&message.place, message.task)?;
-            Ok(todo_of(stores, messages, part)?)
+            Ok(todo_of(Vec::new(alloc), messages, part)?)
         }
     }
 }
@@ -112,20 +93,36 @@ fn called_back(
     let parent = Some(message.task);
     match outcome {
         Outcome::Success(number) => {
-            let links = message.links.get();
-            let input = Input::Number(*number);
-            let mut messages = Vec::with_capacity(alloc, links.len())?;
-            call_back(alloc, links, &input, &parent, &mut messages)?;
-            Ok(messages)
+            all_called(alloc, message.links.get(), &Input::Number(*number), &parent)
         }
         Outcome::Failure(_fault) => {
-            let errbacks = message.errbacks.get();
-            let input = Input::Ident(message.task);
-            let mut messages = Vec::with_capacity(alloc, errbacks.len())?;
-            call_back(alloc, errbacks, &input, &parent, &mut messages)?;
-            Ok(messages)
+            all_called(
+                alloc,
+                message.errbacks.get(),
+                &Input::Ident(message.task),
+                &parent,
+            )
         }
     }
+}
+
+/// The messages of links or error callbacks.
+fn all_called(
+    alloc: Global,
+    tasks: &[FrozenTask],
+    input: &Input,
+    parent: &Option<TaskNo>,
+) -> Result<Vec<Message>, AllocError>
+    requires callbacks { callbacks_ok (p_tasks_of (map p_task_view tasks.now)) ≡ true }
+    requires input { input_ok (input_seen input.now) ≡ true }
+    requires parent { parent_ok parent.now ≡ true }
+    ensures { IfOk result (λ messages. messages.items
+        ≡ messages_in (callbacks (p_tasks_of (map p_task_view tasks.now))
+        (input_seen input.now) parent.now)) }
+{
+    let mut messages = Vec::with_capacity(alloc, tasks.len())?;
+    call_back(alloc, tasks, input, parent, &mut messages)?;
+    Ok(messages)
 }
 
 /// What follows the end of a header's members on what they carry, by the outcomes of their last
@@ -164,29 +161,37 @@ pub fn into_body(
                 carried,
                 text: _own,
             } = chord;
-            match Arc::try_unwrap(carried.body) {
-                Ok(body) => Ok(start_moved_body(alloc, body, &input, text)?),
-                Err(shared) => Ok(start_body(alloc, &shared, &input, text)?),
-            }
+            Ok(start_body(alloc, carried.body, &input, text)?)
         }
     }
 }
 
-fn start_moved_body(
+/// A body that is shared, or a copy of it where others share it.
+fn own_body(alloc: Global, body: Arc<FrozenLine>) -> Result<FrozenLine, AllocError>
+    ensures { IfOk result (λ line. p_line_view line ≡ p_line_view body.value) }
+{
+    match Arc::try_unwrap(body) {
+        Ok(body) => Ok(body),
+        Err(shared) => copy_line(alloc, &shared),
+    }
+}
+
+fn start_body(
     alloc: Global,
-    body: FrozenLine,
+    body: Arc<FrozenLine>,
     input: &Input,
     text: Option<Arc<CarriedText>>,
 ) -> Result<Todo, AllocError>
-    requires line { is_whole (p_line_view body) ≡ true }
+    requires line { is_whole (p_line_view body.value) ≡ true }
     requires input { input_ok (input_seen input.now) ≡ true }
-    requires text { IfSome text (λ t. SaysCarried t.value (end_place (p_line_view body))) }
+    requires text { IfSome text (λ t. SaysCarried t.value (end_place (p_line_view body.value))) }
     ensures { IfOk result (λ todo. todo_view todo
-        ≡ effect_of (enter (p_line_view body) (run (input_seen input.now))
-        (end_place (p_line_view body)) 0 None)) }
+        ≡ effect_of (enter (p_line_view body.value) (run (input_seen input.now))
+        (end_place (p_line_view body.value)) 0 None)) }
 {
+    let body = own_body(alloc, body)?;
     let mut messages = Vec::new(alloc);
-    start_moved_whole(alloc, body, input, &None, text, &mut messages)?;
+    start_whole(alloc, body, input, &None, text, &mut messages)?;
     todo_of(Vec::new(alloc), messages, None)
 }
 
@@ -195,25 +200,6 @@ fn body_of(chord: &ChordBody) -> &FrozenLine
     ensures { p_line_view result.now ≡ chord.now.body }
 {
     &chord.carried.body
-}
-
-fn start_body(
-    alloc: Global,
-    body: &FrozenLine,
-    input: &Input,
-    text: Option<Arc<CarriedText>>,
-) -> Result<Todo, AllocError>
-    requires line { is_whole (p_line_view body.now) ≡ true }
-    requires input { input_ok (input_seen input.now) ≡ true }
-    requires text { IfSome text
-        (λ t. SaysCarried t.value (end_place (p_line_view body.now))) }
-    ensures { IfOk result (λ todo. todo_view todo
-        ≡ effect_of (enter (p_line_view body.now) (run (input_seen input.now))
-        (end_place (p_line_view body.now)) 0 None)) }
-{
-    let mut messages = Vec::new(alloc);
-    start_whole(alloc, body, input, &None, text, &mut messages)?;
-    todo_of(Vec::new(alloc), messages, None)
 }
 
 fn raise_body(alloc: Global, body: &FrozenLine, fault: &Fault) -> Result<Todo, AllocError>
@@ -227,35 +213,6 @@ fn raise_body(alloc: Global, body: &FrozenLine, fault: &Fault) -> Result<Todo, A
     raise_line(alloc, body, fault, &mut stores, &mut messages)?;
     let part = last_part(body)?;
     todo_of(stores, messages, part)
-}
-
-/// The messages that a line begins with whose end goes where its last task says, put behind the
-/// others. `text` is that of what the end carries, where it is known.
-fn start_whole(
-    alloc: Global,
-    line: &FrozenLine,
-    input: &Input,
-    parent: &Option<TaskNo>,
-    text: Option<Arc<CarriedText>>,
-    messages: &mut Vec<Message>,
-) -> Result<(), AllocError>
-    requires line { is_whole (p_line_view line.now) ≡ true }
-    requires text { IfSome text
-        (λ t. SaysCarried t.value (end_place (p_line_view line.now))) }
-    requires input { input_ok (input_seen input.now) ≡ true }
-    requires parent { parent_ok parent.now ≡ true }
-    ensures { OnOk result (messages.new.items
-        ≡ messages.old.items
-        ++ started (p_line_view line.now) (input_seen input.now)
-        (end_place (p_line_view line.now)) parent.now) }
-{
-    match last_task(line) {
-        Some(last) => {
-            let place = with_text(&last.place, text)?;
-            start_line(alloc, line, place, input, parent, messages)
-        }
-        None => start_line(alloc, line, None, input, parent, messages),
-    }
 }
 
 /// The part that the end of a line returns.

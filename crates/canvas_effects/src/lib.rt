@@ -9,7 +9,6 @@ mod destinations;
 mod effects;
 mod input;
 mod moving;
-mod placing;
 mod todo;
 
 pub use chord_body::ChordBody;

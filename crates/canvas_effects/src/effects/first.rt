@@ -2,15 +2,16 @@
 
 ghost use Rattle.std.specs.Prelude.{◌≡◌, ◌∷◌, ◌==◌, [], false, length, map, IfOk, IfSome, MatchOption, None, OnErr, true};
 ghost use Rattle.canvas_semantics.specs.PlacedLine.{p_nowhere};
-ghost use Rattle.canvas_rewrite.specs.FrozenView.{p_end_view, p_line_view};
+ghost use Rattle.canvas_rewrite.specs.FrozenView.{p_end_view, p_line_view, place_or};
 ghost use Rattle.canvas_rewrite.specs.declared.frozen.FrozenEnd.{out-FrozenEnd};
 ghost use Rattle.canvas_effects.specs.Carrying.{AllStand, can_stand};
 ghost use Rattle.canvas_effects.specs.Effects.{first_messages};
 ghost use Rattle.canvas_effects.specs.Flowing.{no_input};
 ghost use Rattle.canvas_effects.specs.Portions.{together, portions};
-ghost use Rattle.canvas_effects.specs.steps.Walks.{started};
+ghost use Rattle.canvas_effects.specs.steps.Walks.{member_place, started};
 
-use super::started::{member_place, standing_members, start_line};
+use super::started::{group_place, header_place, start_line};
+use crate::copies::copy_line;
 use crate::destination::Destination;
 use crate::destinations::share_destination;
 use crate::input::Input;
@@ -74,6 +75,32 @@ fn whole_line(plan: &Plan) -> &[FrozenLine]
     from_ref(plan.line())
 }
 
+/// The members of a group or chord. It is a function for its contract's sake: each of them can
+/// stand where its end goes.
+fn standing_members(end: &FrozenEnd) -> &[FrozenLine]
+    requires { can_stand (p_end_view end.now) p_nowhere ≡ true }
+    ensures value { result.now ≡ (out-FrozenEnd end.now).members }
+    ensures stand { AllStand (member_place (p_end_view end.now) p_nowhere)
+        (map p_line_view result.now) }
+{
+    end.members.get()
+}
+
+/// Where they end, where the end of the whole goes nowhere.
+fn first_place(alloc: Global, end: &FrozenEnd) -> Result<Destination, AllocError>
+    requires { can_stand (p_end_view end.now) p_nowhere ≡ true }
+    ensures { IfOk result (λ d. d ≡ member_place (p_end_view end.now) p_nowhere) }
+{
+    match &end.body {
+        Some(body) => {
+            let size = end.members.get().len() as u32;
+            let body = copy_line(alloc, body)?;
+            header_place(alloc, end.group, size, body, None)
+        }
+        None => group_place(alloc, end.group),
+    }
+}
+
 /// The members of a header, begun from nothing.
 fn of_header<'p>(alloc: Global, end: &'p FrozenEnd) -> Result<FirstMessages<'p>, AllocError>
     requires members { (length (out-FrozenEnd end.now).members == 0) ≡ false }
@@ -81,10 +108,26 @@ fn of_header<'p>(alloc: Global, end: &'p FrozenEnd) -> Result<FirstMessages<'p>,
     ensures { IfOk result
         (λ f. together f ≡ started (p_end_view end.now) no_input p_nowhere None) }
 {
-    let lines = standing_members(end, &None);
-    let place = member_place(alloc, end, &None)?;
-    let place = Some(Destination::written(alloc, place, &None)?);
+    let lines = standing_members(end);
+    let place = Some(first_place(alloc, end)?);
     Ok(FirstMessages { lines, place })
+}
+
+/// The messages that a line begins with from nothing, whose end goes to the place.
+fn portion_of(
+    alloc: Global,
+    line: &FrozenLine,
+    place: &Option<Destination>,
+) -> Result<Vec<Message>, AllocError>
+    requires { can_stand (p_line_view line.now) (place_or place.now) ≡ true }
+    ensures { IfOk result (λ messages. messages.items
+        ≡ started (p_line_view line.now) no_input (place_or place.now) None) }
+{
+    let place = share_destination(place)?;
+    let line = copy_line(alloc, line)?;
+    let mut messages = Vec::with_capacity(alloc, 1)?;
+    start_line(alloc, line, place, &Input::Nothing, &None, &mut messages)?;
+    Ok(messages)
 }
 
 impl<'p> FirstMessages<'p> {
@@ -109,9 +152,7 @@ impl<'p> FirstMessages<'p> {
     {
         match self.lines.split_first() {
             Some((line, others)) => {
-                let place = share_destination(&self.place)?;
-                let mut messages = Vec::with_capacity(alloc, 1)?;
-                start_line(alloc, line, place, &Input::Nothing, &None, &mut messages)?;
+                let messages = portion_of(alloc, line, &self.place)?;
                 self.lines = others;
                 Ok(Some(messages))
             }

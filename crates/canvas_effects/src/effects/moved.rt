@@ -1,30 +1,32 @@
 //! What follows a message that is given up: the next task of its line, or the part that its end
 //! returns, takes over what it carries.
 
-ghost use Rattle.std.specs.Prelude.{◌≡◌, true, false, IfOk, IfSome, MatchBool, MatchOption};
+ghost use Rattle.std.specs.Prelude.{◌≡◌, ◌++◌, true, false, IfOk, IfSome, OnOk, MatchBool, MatchOption};
 ghost use Rattle.std.specs.Option.{option_map};
-ghost use Rattle.canvas_task.specs.Numbers.{in_range};
 ghost use Rattle.canvas_task.specs.Apply.{IsInRange};
-ghost use Rattle.canvas_task.specs.declared.outcome.Outcome.TheVariants.{Success};
 ghost use Rattle.canvas_rewrite.specs.FrozenView.{p_line_view, p_task_view};
-ghost use Rattle.canvas_semantics.specs.PlacedLine.{PLine, PPlace, PTask, p_step, p_stop};
-ghost use Rattle.canvas_effects.specs.Carrying.{place_stands};
-ghost use Rattle.canvas_effects.specs.Effects.{after, message, part_in, part_of};
-ghost use Rattle.canvas_message.specs.Content.{number_of, place_of};
-ghost use Rattle.canvas_message.specs.SharedTexts.{AreTexts, IsLineText, SaysCarried};
-ghost use Rattle.canvas_message.specs.Fits.{fits};
+ghost use Rattle.canvas_semantics.specs.PlacedLine.{PLine, PPlace, PTask, p_nowhere, p_step, p_stop};
+ghost use Rattle.canvas_effects.specs.Carrying.{input_ok, is_whole, place_stands};
+ghost use Rattle.canvas_effects.specs.Effects.{after, called, messages_in, part_in, part_of};
+ghost use Rattle.canvas_message.specs.Content.{Content, number_of, place_of, links_of, errbacks_of};
+ghost use Rattle.canvas_message.specs.SharedTexts.{AreTexts, IsLineText, SaysCarried, place_behind};
+ghost use Rattle.canvas_message.specs.Fits.{fits, is_task_number, parent_ok};
+ghost use Rattle.canvas_effects.specs.Ordered.{in_order};
+ghost use Rattle.canvas_effects.specs.Placing.{end_place};
 ghost use Rattle.canvas_effects.specs.Todos.{part_view, todo_view};
 ghost use Rattle.canvas_message.specs.MessageView.{place_seen, place_view, rest_seen};
-ghost use Rattle.canvas_effects.specs.steps.Walks.{input_seen, begins_with_task};
+ghost use Rattle.canvas_message.specs.steps.Parts.{is_stop};
+ghost use Rattle.canvas_effects.specs.steps.Walks.{input_seen, begins_with_task, part_at_end, skipped, started};
 
-use super::moved_line::start_moved_whole;
-use super::started::message_from;
-use super::{after, called_back, todo_of};
+use super::skipped::skip_line;
+use super::started::start_whole;
+use super::task_messages::message_from;
+use super::{called_back, last_part, todo_of};
 use crate::input::Input;
 use crate::{PartCall, Todo};
 use canvas_message::{CarriedText, LineText, Message, Texts, following};
 use canvas_rewrite::{FrozenLine, FrozenTask, Place};
-use canvas_task::{ListOf, Memory, Outcome, TaskNo};
+use canvas_task::{Fault, ListOf, Memory, Outcome, TaskNo};
 use std::alloc::{AllocError, Global};
 use std::sync::Arc;
 
@@ -36,14 +38,13 @@ pub fn into_todo(alloc: Global, message: Message, outcome: &Outcome) -> Result<T
     requires { IsInRange outcome.now }
     ensures { IfOk result (λ todo. todo_view todo ≡ after message outcome.now) }
 {
-    match outcome {
-        Outcome::Success(number) if has_next(&message.rest) => {
-            Ok(hand_on(alloc, message, *number)?)
-        }
-        _ if is_last(&message.rest) => Ok(end_last(alloc, message, outcome)?),
-        Outcome::Success(number) => Ok(start_rest(alloc, message, *number)?),
-        Outcome::Failure(_) => after(alloc, &message, outcome),
+    let task = message.task;
+    let messages = called_back(alloc, &message, outcome)?;
+    if is_last(&message.rest) {
+        return Ok(todo_of(Vec::new(alloc), messages, part_left(message))?);
     }
+    let (rest, texts) = line_left(alloc, message);
+    Ok(behind(alloc, rest, texts, task, outcome, messages)?)
 }
 
 /// Whether a task comes first on a line.
@@ -51,16 +52,6 @@ pub(super) fn begins_with_task(line: &FrozenLine) -> bool
     ensures { result ≡ begins_with_task (p_line_view line.now) }
 {
     !line.tasks.get().is_empty()
-}
-
-/// Whether a task comes next.
-fn has_next(rest: &Option<FrozenLine>) -> bool
-    ensures { result ≡ begins_with_task (rest_seen rest.now) }
-{
-    match rest {
-        Some(line) => begins_with_task(line),
-        None => false,
-    }
 }
 
 /// Whether nothing comes next on a line.
@@ -91,29 +82,26 @@ pub(super) fn take_next(line: FrozenLine) -> Option<(FrozenTask, Option<FrozenLi
     Some((next, Some(FrozenLine { tasks, tail })))
 }
 
-fn take_rest(rest: Option<FrozenLine>) -> Option<(FrozenTask, Option<FrozenLine>)>
-    ensures { MatchOption result (begins_with_task (rest_seen rest) ≡ false)
-        (λ p. rest_seen rest ≡ p_step (p_task_view p.0) (rest_seen p.1)) }
+/// What follows as a line, one of nothing where nothing follows.
+fn line_of(alloc: Global, rest: Option<FrozenLine>) -> FrozenLine
+    ensures { p_line_view result ≡ rest_seen rest }
 {
     match rest {
-        Some(line) => take_next(line),
-        None => None,
+        Some(line) => line,
+        None => FrozenLine {
+            tasks: ListOf::of(Vec::new(alloc)),
+            tail: None,
+        },
     }
 }
 
-/// The task of a message, what follows it on its line, and what is written of that.
-fn task_and_rest(message: Message) -> (TaskNo, Option<FrozenLine>, Texts)
-    ensures task { result.0 ≡ number_of message.own }
-    ensures rest { rest_seen result.1 ≡ message.rest }
-    ensures texts { AreTexts result.2 (place_of message.own) message.rest }
+/// What follows the task of a message, and what is written of that.
+fn line_left(alloc: Global, message: Message) -> (FrozenLine, Texts)
+    ensures line { p_line_view result.0 ≡ message.rest }
+    ensures texts { AreTexts result.1 (place_of message.own) message.rest }
 {
-    let Message {
-        task,
-        rest,
-        texts,
-        ..
-    } = message;
-    (task, rest, texts)
+    let Message { rest, texts, .. } = message;
+    (line_of(alloc, rest), texts)
 }
 
 /// The text of a line, when its next task is taken: its front, up to an earlier end.
@@ -125,6 +113,18 @@ fn text_behind(text: LineText) -> LineText
     let mut ends = ends;
     ends.pop();
     LineText { text, ends }
+}
+
+/// The text of what the place at the end of a line carries, where it is known.
+fn carried_by(texts: Texts) -> Option<Arc<CarriedText>>
+    ensures { (own : PPlace) (rest : PLine) → AreTexts texts own rest
+        → IfSome result (λ t. SaysCarried t.value (place_behind own rest)) }
+{
+    let Texts {
+        line: _line,
+        carried,
+    } = texts;
+    carried
 }
 
 /// What is written of a line, when its next task is taken.
@@ -145,43 +145,113 @@ fn texts_behind(texts: Texts) -> Texts
     }
 }
 
-/// The end of a task that succeeded and that another follows.
-fn hand_on(alloc: Global, message: Message, number: i64) -> Result<Todo, AllocError>
-    requires number { in_range number ≡ true }
-    requires next { begins_with_task message.rest ≡ true }
-    ensures { IfOk result (λ todo. todo_view todo ≡ after message (Success number)) }
+/// The message of the task that a line begins with, which takes over what is carried.
+fn hand_on(
+    alloc: Global,
+    line: FrozenLine,
+    texts: Texts,
+    input: &Input,
+    parent: &Option<TaskNo>,
+    messages: &mut Vec<Message>,
+) -> Result<(), AllocError>
+    requires line { is_whole (p_line_view line) ≡ true }
+    requires first { begins_with_task (p_line_view line) ≡ true }
+    requires texts { AreTexts texts p_nowhere (p_line_view line) }
+    requires input { input_ok (input_seen input.now) ≡ true }
+    requires parent { parent_ok parent.now ≡ true }
+    ensures { OnOk result (messages.new.items
+        ≡ messages.old.items
+        ++ started (p_line_view line) (input_seen input.now) (end_place (p_line_view line))
+        parent.now) }
 {
-    let mut messages = called_back(alloc, &message, &Outcome::Success(number))?;
-    let (task, rest, texts) = task_and_rest(message);
-    let input = Input::Number(number);
-    let parent = Some(task);
-    match take_rest(rest) {
+    match take_next(line) {
         Some((next, rest)) => {
             let texts = texts_behind(texts);
-            messages.push(message_from(alloc, next, &input, &parent, rest, texts)?)?;
-            todo_of(Vec::new(alloc), messages, None)
+            messages.push(message_from(alloc, next, input, parent, rest, texts)?)?;
+            Ok(())
         }
-        None => todo_of(Vec::new(alloc), messages, None),
+        None => Ok(()),
     }
 }
 
-/// The end of a task that succeeded and that a group or chord follows, which starts.
-fn start_rest(alloc: Global, message: Message, number: i64) -> Result<Todo, AllocError>
-    requires number { in_range number ≡ true }
-    requires follows { message.rest ≡ p_stop → ⊥ }
-    ensures { IfOk result (λ todo. todo_view todo ≡ after message (Success number)) }
+/// The messages of what comes next on a line, put behind the others.
+fn go_on(
+    alloc: Global,
+    line: FrozenLine,
+    texts: Texts,
+    input: &Input,
+    parent: &Option<TaskNo>,
+    messages: &mut Vec<Message>,
+) -> Result<(), AllocError>
+    requires line { is_whole (p_line_view line) ≡ true }
+    requires follows { is_stop (p_line_view line) ≡ false }
+    requires texts { AreTexts texts p_nowhere (p_line_view line) }
+    requires input { input_ok (input_seen input.now) ≡ true }
+    requires parent { parent_ok parent.now ≡ true }
+    ensures { OnOk result (messages.new.items
+        ≡ messages.old.items
+        ++ started (p_line_view line) (input_seen input.now) (end_place (p_line_view line))
+        parent.now) }
 {
-    let mut messages = called_back(alloc, &message, &Outcome::Success(number))?;
-    let (task, rest, texts) = task_and_rest(message);
-    let input = Input::Number(number);
-    let parent = Some(task);
-    match rest {
-        Some(rest) => {
-            start_moved_whole(alloc, rest, &input, &parent, texts.carried, &mut messages)?;
+    if begins_with_task(&line) {
+        return hand_on(alloc, line, texts, input, parent, messages);
+    }
+    start_whole(alloc, line, input, parent, carried_by(texts), messages)
+}
+
+/// What the end of a task makes a worker do that a line follows, behind the messages of what it
+/// calls back.
+pub(super) fn behind(
+    alloc: Global,
+    rest: FrozenLine,
+    texts: Texts,
+    task: TaskNo,
+    outcome: &Outcome,
+    messages: Vec<Message>,
+) -> Result<Todo, AllocError>
+    requires rest { is_whole (p_line_view rest) ≡ true }
+    requires follows { is_stop (p_line_view rest) ≡ false }
+    requires texts { AreTexts texts p_nowhere (p_line_view rest) }
+    requires task { is_task_number task ≡ true }
+    requires outcome { IsInRange outcome.now }
+    ensures { IfOk result (λ todo. (m : Content)
+        → fits m ≡ true
+        → m.rest ≡ p_line_view rest
+        → number_of m.own ≡ task
+        → messages.items
+        ≡ messages_in (called (links_of m.own) (errbacks_of m.own) (number_of m.own) outcome.now)
+        → todo_view todo ≡ after m outcome.now) }
+{
+    match outcome {
+        Outcome::Success(number) => {
+            let mut messages = messages;
+            let input = Input::Number(*number);
+            go_on(alloc, rest, texts, &input, &Some(task), &mut messages)?;
             todo_of(Vec::new(alloc), messages, None)
         }
-        None => todo_of(Vec::new(alloc), messages, None),
+        Outcome::Failure(fault) => skipped_behind(alloc, &rest, fault, messages),
     }
+}
+
+/// The same where the task failed.
+pub(super) fn skipped_behind(
+    alloc: Global,
+    rest: &FrozenLine,
+    fault: &Fault,
+    messages: Vec<Message>,
+) -> Result<Todo, AllocError>
+    requires { is_whole (p_line_view rest.now) ≡ true }
+    ensures { IfOk result (λ todo. todo_view todo
+        ≡ record {
+          stores = in_order (λ e. e.0) (skipped fault.now (p_line_view rest.now));
+          messages = in_order (λ m. number_of m.own) messages.items;
+          part = part_at_end (p_line_view rest.now);
+        }) }
+{
+    let part = last_part(rest)?;
+    let mut stores = Vec::new(alloc);
+    skip_line(rest, fault, &mut stores)?;
+    todo_of(stores, messages, part)
 }
 
 /// The part that the task of a place returns, which takes over what the place carries, and the text
@@ -204,30 +274,28 @@ fn part_at(place: Place, task: TaskNo, text: Option<Arc<CarriedText>>) -> Option
 }
 
 /// The same where there may be no place.
-fn take_part(place: Option<Place>, task: TaskNo, text: Option<Arc<CarriedText>>) -> Option<PartCall>
+fn take_part(place: Option<Place>, task: TaskNo, texts: Texts) -> Option<PartCall>
     requires place { place_stands (place_seen place) ≡ true }
-    requires text { IfSome text (λ t. SaysCarried t.value (place_seen place)) }
+    requires texts { AreTexts texts (place_seen place) p_stop }
     ensures { option_map part_view result ≡ part_in (part_of (place_seen place) task) }
 {
     match place {
-        Some(place) => part_at(place, task, text),
+        Some(place) => part_at(place, task, carried_by(texts)),
         None => None,
     }
 }
 
-/// The end of a task that is the last of its line.
-fn end_last(alloc: Global, message: Message, outcome: &Outcome) -> Result<Todo, AllocError>
-    requires outcome { IsInRange outcome.now }
-    requires last { message.rest ≡ p_stop }
-    ensures { IfOk result (λ todo. todo_view todo ≡ after message outcome.now) }
+/// The part that a message's task returns which is the last of its line.
+fn part_left(message: Message) -> Option<PartCall>
+    requires { message.rest ≡ p_stop }
+    ensures { option_map part_view result
+        ≡ part_in (part_of (place_of message.own) (number_of message.own)) }
 {
-    let messages = called_back(alloc, &message, outcome)?;
     let Message {
         task,
         place,
         texts,
         ..
     } = message;
-    let text = texts.carried;
-    todo_of(Vec::new(alloc), messages, take_part(place, task, text))
+    take_part(place, task, texts)
 }

@@ -14,7 +14,7 @@ ghost use Rattle.canvas_effects.specs.steps.Walks.{raised_stores, raised_message
 
 use super::lasts::last_task;
 use super::skipped::skip_rest;
-use super::started::call_back;
+use super::task_messages::call_back;
 use crate::input::Input;
 use canvas_message::Message;
 use canvas_rewrite::{FrozenEnd, FrozenLine, FrozenTask};

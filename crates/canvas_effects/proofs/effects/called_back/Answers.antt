@@ -6,14 +6,14 @@ use Rattle.canvas_message.specs.Fits.{fits}
 use Rattle.canvas_effects.proofs.Ended.{own_stepped}
 use Rattle.canvas_effects.proofs.effects.called_back.Goals as goal
 
-pub call_back-requires-clause-callbacks : goal.call_back-requires-clause-callbacks
-call_back-requires-clause-callbacks c =
+pub all_called-requires-clause-callbacks : goal.all_called-requires-clause-callbacks
+all_called-requires-clause-callbacks c =
     let whole : fits c.args.message.now ≡ true = search rules in
     let links : p_tasks_of (map p_task_view c.deref.result.now) ≡ links_of c.args.message.now.own = search rules in
     ap callbacks_ok links ∙ (own_stepped c.args.message.now whole).linked
 
-pub call_back-requires-in-Failure-clause-callbacks : goal.call_back-requires-in-Failure-clause-callbacks
-call_back-requires-in-Failure-clause-callbacks c =
+pub all_called-requires-in-Failure-clause-callbacks : goal.all_called-requires-in-Failure-clause-callbacks
+all_called-requires-in-Failure-clause-callbacks c =
     let whole : fits c.args.message.now ≡ true = search rules in
     let errbacks : p_tasks_of (map p_task_view c.deref-in-Failure.result.now) ≡ errbacks_of c.args.message.now.own = search rules in
     ap callbacks_ok errbacks ∙ (own_stepped c.args.message.now whole).called_back

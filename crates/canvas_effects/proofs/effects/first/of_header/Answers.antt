@@ -7,4 +7,4 @@ pub returns : goal.returns
 returns c =
     header_begins c.args.end.now _ c.standing_members-lines.result.now c.standing_members-lines.ensures.value
     (ap (λ ms. length ms == 0) c.standing_members-lines.ensures.value ∙ c.requires.members)
-    (c.in_ok-written.ensures ∙ c.in_ok-place.ensures)
+    c.in_ok-first_place.ensures
