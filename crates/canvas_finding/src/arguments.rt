@@ -75,17 +75,6 @@ fn of_argument(alloc: Global, at: &str, value: &Datum<'_>, bad: Bad) -> Result<S
     }
 }
 
-fn of_named(alloc: Global, members: &[(&str, Datum<'_>)], bad: Bad) -> Result<String, AllocError> {
-    for member in members {
-        if is_bad(&member.1, bad) {
-            let name = quoted(alloc, member.0)?;
-            let at = format!(in alloc; "kwargs[{name}]")?;
-            return of_argument(alloc, &at, &member.1, bad);
-        }
-    }
-    Ok(String::new(alloc))
-}
-
 /// The note on the first argument that is bad.
 pub(crate) fn of_bad_argument(
     alloc: Global,
@@ -98,8 +87,14 @@ pub(crate) fn of_bad_argument(
             return of_argument(alloc, &at, value, bad);
         }
     }
-    match signature.get("kwargs") {
-        Some(Datum::Object(members)) => of_named(alloc, members, bad),
-        _ => Ok(String::new(alloc)),
+    if let Some(Datum::Object(members)) = signature.get("kwargs") {
+        for (name, value) in members.iter() {
+            if is_bad(value, bad) {
+                let name = quoted(alloc, name)?;
+                let at = format!(in alloc; "kwargs[{name}]")?;
+                return of_argument(alloc, &at, value, bad);
+            }
+        }
     }
+    Ok(String::new(alloc))
 }

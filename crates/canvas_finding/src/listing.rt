@@ -1,9 +1,8 @@
 //! The signatures of a text in file order.
 
-ghost use Rattle.std.specs.Prelude.{◌≡◌, ◌≤◌, ◌∷◌, [], false, map, OnOk, IfOk, Some};
+ghost use Rattle.std.specs.Prelude.{◌≡◌, ◌≤◌, ◌∷◌, [], false, map, OnOk, IfOk};
 ghost use Rattle.serde_json.specs.Data.{depth};
 ghost use Rattle.canvas_sig.specs.Datum.{view, value_at};
-ghost use Rattle.canvas_values.specs.declared.primitive.Primitive.TheVariants.{Chord};
 ghost use Rattle.canvas_finding.specs.FileOrder.{behind, itself, in_each, inside, in_kwargs, from_index, one_in, some_in, sighted_within, signatures};
 ghost use Rattle.canvas_finding.specs.Places.{shown, Lists};
 
@@ -109,24 +108,12 @@ impl<'v> Listing<'v> {
                 let members = listed(kwarg_of(value, "tasks"));
                 self.list_all(alloc, Field::Members, members, false, left)
             }
-            Some(Primitive::Chord) => self.list_chord(alloc, value, left),
+            Some(Primitive::Chord) => {
+                self.list_some(alloc, Field::Header, kwarg_of(value, "header"), false, left)?;
+                self.list_one(alloc, Field::Body, kwarg_of(value, "body"), false, left)
+            }
             _ => Ok(()),
         }
-    }
-
-    #[cycle(listing)]
-    fn list_chord(
-        &mut self,
-        alloc: Global,
-        value: &'v Datum<'v>,
-        left: u32,
-    ) -> Result<(), AllocError>
-        ensures { OnOk result (Lists
-            (in_each (sighted_within left false) (in_kwargs (Some Chord) (view value.entry.now)))
-            self.old self.new) }
-    {
-        self.list_some(alloc, Field::Header, kwarg_of(value, "header"), false, left)?;
-        self.list_one(alloc, Field::Body, kwarg_of(value, "body"), false, left)
     }
 
     /// The signatures in a list, one signature, or none.

@@ -6,7 +6,10 @@ use std::alloc::{AllocError, Global};
 /// How many characters of a text are shown.
 const MOST_SHOWN: usize = 40;
 
-fn push_quoted(shown: &mut String, text: &str) -> Result<(), AllocError> {
+/// A text in quotes, cut where it is long. What isn't printable ASCII is escaped.
+pub(crate) fn quoted(alloc: Global, text: &str) -> Result<String, AllocError> {
+    let mut shown = String::new(alloc);
+    shown.push('"')?;
     for c in text.chars().take(MOST_SHOWN) {
         match c {
             '"' => shown.push_str("\\\"")?,
@@ -18,17 +21,11 @@ fn push_quoted(shown: &mut String, text: &str) -> Result<(), AllocError> {
             }
         }
     }
-    if text.chars().count() > MOST_SHOWN {
-        shown.push_str("..")?;
-    }
-    Ok(())
-}
-
-/// A text in quotes, cut where it is long. What isn't printable ASCII is escaped.
-pub(crate) fn quoted(alloc: Global, text: &str) -> Result<String, AllocError> {
-    let mut shown = String::from_str(alloc, "\"")?;
-    push_quoted(&mut shown, text)?;
-    shown.push('"')?;
+    shown.push_str(if text.chars().count() > MOST_SHOWN {
+        "..\""
+    } else {
+        "\""
+    })?;
     Ok(shown)
 }
 

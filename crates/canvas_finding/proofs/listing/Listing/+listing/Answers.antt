@@ -1,7 +1,8 @@
-use Rattle.std.proofs.Common.{false, sym, ap, refl, subst, arith, ◌∙◌, OnOk, ◌<◌, ◌∷◌, [], length, vec_len, length-append}
+use Rattle.std.proofs.Common.{false, sym, ap, refl, subst, arith, ◌∙◌, OnOk, ◌<◌, ◌∷◌, [], length, vec_len, length-append, ◌≡◌, Some}
 use Rattle.canvas_sig.specs.Datum.{view}
 use Rattle.canvas_sig.proofs.Datums.{next_item}
-use Rattle.canvas_finding.specs.FileOrder.{sighted_within, in_each}
+use Rattle.canvas_values.specs.declared.primitive.Primitive.TheVariants as kind
+use Rattle.canvas_finding.specs.FileOrder.{sighted_within, in_each, in_kwargs}
 use Rattle.canvas_finding.specs.Places.{Lists}
 use Rattle.canvas_finding.proofs.Adding.{and_inside, in_and_back, popped, chord_listed, one_more, list_some_in}
 use Rattle.canvas_finding.proofs.listing.Listing.+listing.Goals as goal
@@ -27,10 +28,16 @@ list_at-returns t c =
     refl (popped c.list.new.self.steps.items c.pop.new.self.items c.args.self.now.steps.items c.pop.result c.args.step c.pop.ensures.items
     (c.pop.ensures.variant.1 longer) steps)
 
-pub list_chord-returns : goal.list_chord-returns
-list_chord-returns t c =
-    chord_listed c.list_one.result (sighted_within c.args.left false) _ _ (view c.args.value.now)
-    c.args.self.now c.list_some.new.self c.list_one.new.self c.kwarg_of.ensures c.kwarg_of-2.ensures c.in_ok-list_some.ensures c.list_one.ensures
+pub list_kwargs-returns-in_ok-list_some-in-Some-Chord : goal.list_kwargs-returns-in_ok-list_some-in-Some-Chord
+list_kwargs-returns-in_ok-list_some-in-Some-Chord t c =
+    let one : c.args.primitive ≡ Some c.in-Some-Chord.field-0 = c.in-Some-Chord.is in
+    let chord : c.in-Some-Chord.field-0 ≡ kind.Chord = rw one at c.in-Some-Chord.field-0-is in
+    let f = sighted_within c.args.left false in
+    let both = chord_listed c.list_one.result f _ _ (view c.args.value.now)
+    c.args.self.now c.list_some.new.self c.list_one.new.self c.kwarg_of-in-Some-Chord.ensures c.kwarg_of-in-Some-Chord-2.ensures
+    c.in_ok-list_some-in-Some-Chord.ensures c.list_one.ensures in
+    subst (λ p. OnOk c.list_one.result (Lists (in_each f (in_kwargs p (view c.args.value.now))) c.args.self.now c.list_one.new.self))
+    (sym (one ∙ ap Some chord)) both
 
 pub list_one_or_more-returns-in-List : goal.list_one_or_more-returns-in-List
 list_one_or_more-returns-in-List t c =

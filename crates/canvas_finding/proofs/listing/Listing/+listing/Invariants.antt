@@ -5,31 +5,28 @@ use Rattle.canvas_finding.proofs.Adding.{Halfway}
 use Rattle.canvas_finding.proofs.listing.Listing.+listing.Given as goal
 
 abbrev pub decreases-list : goal.decreases-list
-decreases-list l = 8 * l.left
+decreases-list l = 7 * l.left
 
 abbrev pub decreases-list_at : goal.decreases-list_at
-decreases-list_at l = 8 * l.left + 1
+decreases-list_at l = 7 * l.left + 1
 
 abbrev pub decreases-list_all : goal.decreases-list_all
-decreases-list_all l = 8 * l.left + 2
+decreases-list_all l = 7 * l.left + 2
 
 abbrev pub decreases-list_one : goal.decreases-list_one
-decreases-list_one l = 8 * l.left + 2
+decreases-list_one l = 7 * l.left + 2
 
 abbrev pub decreases-list_one_or_more : goal.decreases-list_one_or_more
-decreases-list_one_or_more l = 8 * l.left + 3
+decreases-list_one_or_more l = 7 * l.left + 3
 
 abbrev pub decreases-list_some : goal.decreases-list_some
-decreases-list_some l = 8 * l.left + 4
-
-abbrev pub decreases-list_chord : goal.decreases-list_chord
-decreases-list_chord l = 8 * l.left + 5
+decreases-list_some l = 7 * l.left + 4
 
 abbrev pub decreases-list_kwargs : goal.decreases-list_kwargs
-decreases-list_kwargs l = 8 * l.left + 6
+decreases-list_kwargs l = 7 * l.left + 5
 
 abbrev pub decreases-list_inside : goal.decreases-list_inside
-decreases-list_inside l = 8 * l.left + 7
+decreases-list_inside l = 7 * l.left + 6
 
 abbrev pub invariant-list_all-loop-index : goal.invariant-list_all-loop-index
 invariant-list_all-loop-index l =
