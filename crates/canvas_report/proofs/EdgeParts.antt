@@ -1,5 +1,5 @@
 -- The nodes and edges of a line, by its parts.
-use Rattle.std.proofs.Common.{◌≡◌, ◌∙◌, ℕ, ◌==◌, false, List, [], ◌∷◌, ◌++◌, map, length, Option, Some, None, Box, Global, refl, sym, ap, subst, append_assoc, append-nil}
+use Rattle.std.proofs.Common.{◌≡◌, ◌∙◌, ℕ, ◌==◌, false, List, [], ◌∷◌, ◌++◌, map, length, Option, Some, None, Box, Global, slice_get, refl, sym, ap, subst, append_assoc, append-nil}
 use Rattle.canvas_semantics.specs.Tree.{Task}
 use Rattle.canvas_semantics.specs.Line.{Line, stop, group_end, chord_end, Lines, ends_of}
 use Rattle.canvas_semantics.specs.PlacedLine.{PTask, PPlace, PLine, strip_task, strip_tasks}
@@ -85,6 +85,30 @@ end_lasts t =
     (λ ls same. ap (λ ns. point (out-FrozenEnd t).group (lines_of ls) ++ ns) (lasts_list ls ∙ ap lines_lasts same))
     (λ ls b same. ap (λ ns. point (out-FrozenEnd t).group (lines_of ls) ++ ns) (lasts_list ls ∙ ap lines_lasts same))
 
+-- ---- where a line begins
+
+tasks_first : (ts : List FrozenTask) (x : FrozenTask) (l : Line) → Some x ≡ slice_get ts 0 → firsts (steps_onto (map task_in ts) l) ≡ of_task (task_in x) ∷ []
+tasks_first [] x l h = absurd cc
+tasks_first (t ∷ ts) x l h = let same : t ≡ x = cc in ap (λ u. of_task (task_in u) ∷ []) same
+
+none_first : (ts : List FrozenTask) (l : Line) → None ≡ slice_get ts 0 → firsts (steps_onto (map task_in ts) l) ≡ firsts l
+none_first [] l h = refl
+none_first (t ∷ ts) l h = absurd cc
+
+pub firsts_task : (l : FrozenLine) (x : FrozenTask) → Some x ≡ slice_get (out-FrozenLine l).tasks 0 → firsts (line_in l) ≡ of_task (task_in x) ∷ []
+firsts_task l x first = of (out-FrozenLine l).tail refl
+  where
+    of : (o : Option (Box FrozenEnd Global)) → (out-FrozenLine l).tail ≡ o → firsts (line_in l) ≡ of_task (task_in x) ∷ []
+    of None e = ap firsts (in_none l e) ∙ tasks_first (out-FrozenLine l).tasks x stop first
+    of (Some b) e = ap firsts (in_some l b e) ∙ tasks_first (out-FrozenLine l).tasks x (end_in b.value) first
+
+pub firsts_end : (l : FrozenLine) (b : Box FrozenEnd Global) → None ≡ slice_get (out-FrozenLine l).tasks 0 → (out-FrozenLine l).tail ≡ Some b
+    → firsts (line_in l) ≡ firsts (end_in b.value)
+firsts_end l b none e = ap firsts (in_some l b e) ∙ none_first (out-FrozenLine l).tasks (end_in b.value) none
+
+pub firsts_none : (l : FrozenLine) → None ≡ slice_get (out-FrozenLine l).tasks 0 → (out-FrozenLine l).tail ≡ None → firsts (line_in l) ≡ []
+firsts_none l none e = ap firsts (in_none l e) ∙ none_first (out-FrozenLine l).tasks stop none
+
 -- ---- where a line ends
 
 behind_group : (ts : List Task) (g : ℕ) (ms : Lines) → lasts (steps_onto ts (group_end g ms)) ≡ lasts (group_end g ms)
@@ -113,6 +137,10 @@ pub lasts_none : (l : FrozenLine) (ks : List ℕ) → (out-FrozenLine l).tail �
     → lasts (line_in l) ≡ map (λ k. node.Task k) ks
 lasts_none l ks e are =
     ap lasts (in_none l e) ∙ lasts_tasks (map task_in (out-FrozenLine l).tasks) ∙ ap (map (λ k. node.Task k)) are
+
+-- a group ends where its members do
+pub group_lasts : (t : FrozenEnd) → (out-FrozenEnd t).body ≡ None → lasts (end_in t) ≡ member_lasts (end_in t)
+group_lasts t e = ap lasts (in_group t e) ∙ sym (ap member_lasts (in_group t e))
 
 -- ---- the edges of a line
 

@@ -1,10 +1,13 @@
-use Rattle.std.proofs.Common.{◌∙◌, ◌++◌, map, ap, sym}
+use Rattle.std.proofs.Common.{◌∙◌, ◌++◌, ◌∷◌, [], map, ap, sym, refl}
 use Rattle.canvas_rewrite.specs.FrozenView.{task_in}
 use Rattle.canvas_rewrite.proofs.PlanLines.{ok_same}
 use Rattle.canvas_rewrite.proofs.NameLines.{one_after}
 use Rattle.canvas_report.specs.declared.graph.edges.Leads.TheVariants.{Link, Errback}
+use Rattle.canvas_semantics.specs.Tree.{Task}
+use Rattle.canvas_report.specs.Picture.{edge, of_task, task_edges}
 use Rattle.canvas_report.specs.steps.EdgeLists.{callbacks_edges}
 use Rattle.canvas_report.proofs.EdgeParts.{number_is, task_is}
+use Rattle.canvas_report.proofs.WalkedLists.{written, ended}
 use Rattle.canvas_report.proofs.graph.edges.+callbacks.Goals as goal
 
 pub push_task-returns : goal.push_task-returns
@@ -17,3 +20,21 @@ push_task-returns t c =
     (λ i. callbacks_edges Link (node i) (map task_in (links i))) (λ i. callbacks_edges Errback (node i) (map task_in (errbacks i)))
     ∙ ap (λ es. c.args.edges.now.items ++ es) (sym (task_is c.args.task.now)))
     c.push_callbacks-2.ensures
+
+pub push_callbacks-loop-callback-init : goal.push_callbacks-loop-callback-init
+push_callbacks-loop-callback-init t c = refl
+
+pub push_callbacks-loop-callback-preserved : goal.push_callbacks-loop-callback-preserved
+push_callbacks-loop-callback-preserved t c =
+    let each = λ (u : Task). edge c.args.leads c.args.from (of_task u) ∷ [] ++ task_edges u in
+    let here = c.loop-callback.edges.items in
+    let pushed = c.in_ok-push_edge.ensures ∙ ap (λ n. here ++ edge c.args.leads c.args.from n ∷ []) c.node_of.ensures in
+    let both = c.in_ok-push_task.ensures ∙ one_after here _ _ _ (task_edges (task_in c.callback-item.result)) c.push_edge.new.edges.items pushed refl refl in
+    written task_in each (callbacks_edges c.args.leads c.args.from) (λ u us. refl) c.args.callbacks.now c.loop-callback.callback-index c.callback-item.result here _ _
+    c.loop-callback-test.true c.callback-item.is c.loop-callback.invariant both
+
+pub push_callbacks-returns : goal.push_callbacks-returns
+push_callbacks-returns t c =
+    let each = λ (u : Task). edge c.args.leads c.args.from (of_task u) ∷ [] ++ task_edges u in
+    ended task_in each (callbacks_edges c.args.leads c.args.from) (λ u us. refl) c.args.callbacks.now c.loop-callback.callback-index c.loop-callback.edges.items _
+    c.loop-callback-test.false refl c.loop-callback.invariant

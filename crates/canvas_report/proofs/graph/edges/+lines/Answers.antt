@@ -5,6 +5,7 @@ use Rattle.canvas_rewrite.proofs.NameLines.{one_after}
 use Rattle.canvas_report.specs.Picture.{firsts, joined, member_lasts, line_edges}
 use Rattle.canvas_report.specs.steps.EdgeLists.{tasks_edges, last_node, lines_edges}
 use Rattle.canvas_report.proofs.EdgeParts.{line_none, line_some, group_edges, chord_edges}
+use Rattle.canvas_report.proofs.WalkedLists.{written, ended}
 use Rattle.canvas_report.proofs.graph.edges.+lines.Goals as goal
 
 pub push_line-returns-in-None : goal.push_line-returns-in-None
@@ -42,3 +43,16 @@ push_end-returns-in_ok-push_to_body-in-Some t c =
     ∙ one_after c.args.edges.now.items _ _ _ _ c.push_lines.new.edges.items both refl refl
     ∙ ap (λ es. c.args.edges.now.items ++ es) (sym (chord_edges c.args.before.now c.args.end.now c.in-Some.body c.in-Some.is)))
     c.push_line.ensures
+
+pub push_lines-loop-line-init : goal.push_lines-loop-line-init
+push_lines-loop-line-init t c = refl
+
+pub push_lines-loop-line-preserved : goal.push_lines-loop-line-preserved
+push_lines-loop-line-preserved t c =
+    written line_in (line_edges None) lines_edges (λ l ls. refl) c.args.lines.now c.loop-line.line-index c.line-item.result c.loop-line.edges.items _ _
+    c.loop-line-test.true c.line-item.is c.loop-line.invariant c.in_ok-push_line.ensures
+
+pub push_lines-returns : goal.push_lines-returns
+push_lines-returns t c =
+    ended line_in (line_edges None) lines_edges (λ l ls. refl) c.args.lines.now c.loop-line.line-index c.loop-line.edges.items _
+    c.loop-line-test.false refl c.loop-line.invariant
