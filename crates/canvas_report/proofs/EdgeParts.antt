@@ -1,5 +1,6 @@
 -- The nodes and edges of a line, by its parts.
-use Rattle.std.proofs.Common.{◌≡◌, ◌∙◌, ℕ, ◌==◌, false, List, [], ◌∷◌, ◌++◌, map, length, Option, Some, None, Box, Global, slice_get, refl, sym, ap, subst, append_assoc, append-nil}
+use Rattle.std.proofs.Common.{◌≡◌, ◌∙◌, ◌+◌, ◌<◌, ◌≤◌, ℕ, ◌==◌, get_or, drop, false, List, [], ◌∷◌, ◌++◌, map, length, Option, Some, None, Box, Global, slice_get, refl, sym, ap, subst, append_assoc, append-nil}
+use Rattle.std.proofs.lemmas.List.{drop_all}
 use Rattle.canvas_semantics.specs.Tree.{Task}
 use Rattle.canvas_semantics.specs.Line.{Line, stop, group_end, chord_end, Lines, ends_of}
 use Rattle.canvas_semantics.specs.PlacedLine.{PTask, PPlace, PLine, strip_task, strip_tasks}
@@ -9,6 +10,8 @@ use Rattle.canvas_rewrite.specs.declared.frozen.FrozenTask.{FrozenTask, out-Froz
 use Rattle.canvas_rewrite.specs.declared.frozen.FrozenLine.{FrozenLine, out-FrozenLine}
 use Rattle.canvas_rewrite.specs.declared.frozen.FrozenEnd.{FrozenEnd, out-FrozenEnd}
 use Rattle.canvas_rewrite.proofs.PlanLines.{in_none, in_some, in_group, in_chord}
+use Rattle.canvas_report.proofs.WalkedLists.{next, written}
+use Rattle.canvas_report.specs.declared.graph.edges.Edge.{Edge}
 use Rattle.canvas_report.specs.declared.graph.edges.Node.{Node}
 use Rattle.canvas_report.specs.declared.graph.edges.Node.TheVariants as node
 use Rattle.canvas_report.specs.declared.graph.edges.Leads.{Leads}
@@ -49,6 +52,37 @@ task_is t =
     (ftask.fold_out-FrozenTask PCarried PLine PLine PTask PPlace carried_step p_end_step p_line_step p_task_step place_step t)
     ∙ (λ i. callbacks_list Link (node.Task (out-FrozenTask t).no) (out-FrozenTask t).links i
     ++ callbacks_list Errback (node.Task (out-FrozenTask t).no) (out-FrozenTask t).errbacks i)
+
+pub callbacks_next : (leads : Leads) (from : Node) (ts : List FrozenTask) (i : ℕ) (x : FrozenTask) (n : Node) (here mid after whole : List Edge)
+    → i < length ts → x ≡ get_or ts i x → n ≡ of_task (task_in x) → here ++ callbacks_edges leads from (map task_in (drop i ts)) ≡ whole
+    → mid ≡ here ++ edge leads from n ∷ [] → after ≡ mid ++ task_edges (task_in x) → after ++ callbacks_edges leads from (map task_in (drop (i + 1) ts)) ≡ whole
+callbacks_next leads from ts i x n here mid after whole h e named left p q =
+    let own = edge leads from (of_task (task_in x)) ∷ [] in
+    let both : after ≡ here ++ (own ++ task_edges (task_in x)) =
+    q ∙ ap (λ es. es ++ task_edges (task_in x)) (p ∙ ap (λ m. here ++ edge leads from m ∷ []) named) ∙ append_assoc here own (task_edges (task_in x)) in
+    written (λ (t : FrozenTask). edge leads from (of_task (task_in t)) ∷ [] ++ task_edges (task_in t)) (λ us. callbacks_edges leads from (map task_in us)) (λ t us. refl)
+    ts i x here after whole h e left both
+
+pub tasks_next : (ts : List FrozenTask) (i : ℕ) (x : FrozenTask) (before : Option Node) (n : Node) (here mid after whole : List Edge)
+    → i < length ts → x ≡ get_or ts i x → n ≡ of_task (task_in x) → here ++ tasks_edges before (map task_in (drop i ts)) ≡ whole
+    → mid ≡ here ++ task_edges (task_in x) → after ≡ mid ++ behind before (n ∷ []) → after ++ tasks_edges (Some n) (map task_in (drop (i + 1) ts)) ≡ whole
+tasks_next ts i x before n here mid after whole h e named left p q =
+    let own = behind before (of_task (task_in x) ∷ []) in
+    let rest = tasks_edges (Some (of_task (task_in x))) (map task_in (drop (i + 1) ts)) in
+    let both : after ≡ here ++ (task_edges (task_in x) ++ own) =
+    q ∙ ap (λ m. mid ++ behind before (m ∷ [])) named ∙ ap (λ es. es ++ own) p ∙ append_assoc here (task_edges (task_in x)) own in
+    ap (λ m. after ++ tasks_edges (Some m) (map task_in (drop (i + 1) ts))) named ∙ ap (λ es. es ++ rest) both ∙ append_assoc here (task_edges (task_in x) ++ own) rest
+    ∙ ap (λ es. here ++ es) (sym (ap (λ zs. tasks_edges before (map task_in zs)) (next ts i x h e))) ∙ left
+
+pub last_next : (ts : List FrozenTask) (i : ℕ) (x : FrozenTask) (before whole : Option Node) (n : Node)
+    → i < length ts → x ≡ get_or ts i x → n ≡ of_task (task_in x) → last_node before (map task_in (drop i ts)) ≡ whole
+    → last_node (Some n) (map task_in (drop (i + 1) ts)) ≡ whole
+last_next ts i x before whole n h e named left =
+    ap (λ m. last_node (Some m) (map task_in (drop (i + 1) ts))) named
+    ∙ sym (ap (λ zs. last_node before (map task_in zs)) (next ts i x h e)) ∙ left
+
+pub last_ended : (ts : List FrozenTask) (i : ℕ) (before whole : Option Node) → length ts ≤ i → last_node before (map task_in (drop i ts)) ≡ whole → before ≡ whole
+last_ended ts i before whole h left = sym (ap (λ zs. last_node before (map task_in zs)) (drop_all i ts h)) ∙ left
 
 -- ---- a group or chord
 

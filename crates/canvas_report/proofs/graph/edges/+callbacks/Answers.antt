@@ -1,13 +1,12 @@
-use Rattle.std.proofs.Common.{◌∙◌, ◌++◌, ◌∷◌, [], map, ap, sym, refl}
+use Rattle.std.proofs.Common.{◌∙◌, ◌++◌, List, map, ap, sym, refl}
+use Rattle.canvas_rewrite.specs.declared.frozen.FrozenTask.{FrozenTask}
 use Rattle.canvas_rewrite.specs.FrozenView.{task_in}
 use Rattle.canvas_rewrite.proofs.PlanLines.{ok_same}
 use Rattle.canvas_rewrite.proofs.NameLines.{one_after}
 use Rattle.canvas_report.specs.declared.graph.edges.Leads.TheVariants.{Link, Errback}
-use Rattle.canvas_semantics.specs.Tree.{Task}
-use Rattle.canvas_report.specs.Picture.{edge, of_task, task_edges}
 use Rattle.canvas_report.specs.steps.EdgeLists.{callbacks_edges}
-use Rattle.canvas_report.proofs.EdgeParts.{number_is, task_is}
-use Rattle.canvas_report.proofs.WalkedLists.{written, ended}
+use Rattle.canvas_report.proofs.EdgeParts.{callbacks_next, number_is, task_is}
+use Rattle.canvas_report.proofs.WalkedLists.{ended}
 use Rattle.canvas_report.proofs.graph.edges.+callbacks.Goals as goal
 
 pub push_task-returns : goal.push_task-returns
@@ -26,15 +25,11 @@ push_callbacks-loop-callback-init t c = refl
 
 pub push_callbacks-loop-callback-preserved : goal.push_callbacks-loop-callback-preserved
 push_callbacks-loop-callback-preserved t c =
-    let each = λ (u : Task). edge c.args.leads c.args.from (of_task u) ∷ [] ++ task_edges u in
-    let here = c.loop-callback.edges.items in
-    let pushed = c.in_ok-push_edge.ensures ∙ ap (λ n. here ++ edge c.args.leads c.args.from n ∷ []) c.node_of.ensures in
-    let both = c.in_ok-push_task.ensures ∙ one_after here _ _ _ (task_edges (task_in c.callback-item.result)) c.push_edge.new.edges.items pushed refl refl in
-    written task_in each (callbacks_edges c.args.leads c.args.from) (λ u us. refl) c.args.callbacks.now c.loop-callback.callback-index c.callback-item.result here _ _
-    c.loop-callback-test.true c.callback-item.is c.loop-callback.invariant both
+    callbacks_next c.args.leads c.args.from c.args.callbacks.now c.loop-callback.callback-index c.callback-item.result c.node_of.result c.loop-callback.edges.items
+    c.push_edge.new.edges.items c.push_task.new.edges.items _ c.loop-callback-test.true c.callback-item.is c.node_of.ensures c.loop-callback.invariant
+    c.in_ok-push_edge.ensures c.in_ok-push_task.ensures
 
 pub push_callbacks-returns : goal.push_callbacks-returns
 push_callbacks-returns t c =
-    let each = λ (u : Task). edge c.args.leads c.args.from (of_task u) ∷ [] ++ task_edges u in
-    ended task_in each (callbacks_edges c.args.leads c.args.from) (λ u us. refl) c.args.callbacks.now c.loop-callback.callback-index c.loop-callback.edges.items _
-    c.loop-callback-test.false refl c.loop-callback.invariant
+    ended (λ (us : List FrozenTask). callbacks_edges c.args.leads c.args.from (map task_in us)) c.args.callbacks.now c.loop-callback.callback-index
+    c.loop-callback.edges.items _ c.loop-callback-test.false refl c.loop-callback.invariant
