@@ -129,12 +129,17 @@ none_first : (ts : List FrozenTask) (l : Line) → None ≡ slice_get ts 0 → f
 none_first [] l h = refl
 none_first (t ∷ ts) l h = absurd cc
 
-pub firsts_task : (l : FrozenLine) (x : FrozenTask) → Some x ≡ slice_get (out-FrozenLine l).tasks 0 → firsts (line_in l) ≡ of_task (task_in x) ∷ []
+firsts_task : (l : FrozenLine) (x : FrozenTask) → Some x ≡ slice_get (out-FrozenLine l).tasks 0 → firsts (line_in l) ≡ of_task (task_in x) ∷ []
 firsts_task l x first = of (out-FrozenLine l).tail refl
   where
     of : (o : Option (Box FrozenEnd Global)) → (out-FrozenLine l).tail ≡ o → firsts (line_in l) ≡ of_task (task_in x) ∷ []
     of None e = ap firsts (in_none l e) ∙ tasks_first (out-FrozenLine l).tasks x stop first
     of (Some b) e = ap firsts (in_some l b e) ∙ tasks_first (out-FrozenLine l).tasks x (end_in b.value) first
+
+pub first_pushed : (l : FrozenLine) (tasks : List FrozenTask) (x : FrozenTask) (n : Node) (here after : List Node) → tasks ≡ (out-FrozenLine l).tasks
+    → Some x ≡ slice_get tasks 0 → n ≡ of_task (task_in x) → after ≡ here ++ n ∷ [] → after ≡ here ++ firsts (line_in l)
+first_pushed l tasks x n here after same first named pushed =
+    pushed ∙ ap (λ m. here ++ m ∷ []) named ∙ ap (λ ns. here ++ ns) (sym (firsts_task l x (first ∙ ap (λ ts. slice_get ts 0) same)))
 
 pub firsts_end : (l : FrozenLine) (b : Box FrozenEnd Global) → None ≡ slice_get (out-FrozenLine l).tasks 0 → (out-FrozenLine l).tail ≡ Some b
     → firsts (line_in l) ≡ firsts (end_in b.value)

@@ -1,7 +1,6 @@
 use Rattle.std.proofs.Common.{◌-◌, ◌∙◌, ap, length, refl, sym}
 use Rattle.std.specs.Option.{option_map}
 use Rattle.std.proofs.lemmas.Option.{slice_get_read, slice_get_past}
-use Rattle.canvas_report.specs.declared.fate.Fate.{Fate}
 use Rattle.canvas_report.proofs.RowLines.{fate_found}
 use Rattle.canvas_report.proofs.fate.fate_in.Goals as goal
 

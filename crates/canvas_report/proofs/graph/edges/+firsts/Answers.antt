@@ -1,11 +1,11 @@
-use Rattle.std.proofs.Common.{List, ◌∙◌, ◌++◌, ◌∷◌, [], map, ap, sym, refl, slice_get, append-nil}
+use Rattle.std.proofs.Common.{List, ◌∙◌, ◌++◌, map, ap, sym, refl, slice_get, append-nil}
 use Rattle.canvas_rewrite.specs.declared.frozen.FrozenLine.{FrozenLine}
 use Rattle.canvas_rewrite.specs.FrozenView.{line_in, end_in}
 use Rattle.canvas_report.specs.Picture.{firsts}
 use Rattle.canvas_rewrite.proofs.PlanLines.{ok_same}
 use Rattle.canvas_rewrite.proofs.NameLines.{one_after}
 use Rattle.canvas_report.specs.steps.EdgeLists.{lines_firsts}
-use Rattle.canvas_report.proofs.EdgeParts.{end_firsts, firsts_task, firsts_end, firsts_none}
+use Rattle.canvas_report.proofs.EdgeParts.{end_firsts, first_pushed, firsts_end, firsts_none}
 use Rattle.canvas_report.proofs.WalkedLists.{written, ended}
 use Rattle.canvas_report.proofs.graph.edges.+firsts.Goals as goal
 
@@ -19,9 +19,8 @@ push_end_firsts-returns t c =
 
 pub push_firsts-returns-in_ok-push-in-Some : goal.push_firsts-returns-in_ok-push-in-Some
 push_firsts-returns-in_ok-push-in-Some t c =
-    let tasks = ap (λ ts. slice_get ts 0) (c.deref.ensures.value ∙ c.get.ensures) in
-    c.in_ok-push-in-Some.ensures.items ∙ ap (λ n. c.args.nodes.now.items ++ n ∷ []) c.node_of.ensures
-    ∙ ap (λ ns. c.args.nodes.now.items ++ ns) (sym (firsts_task c.args.line.now c.in-Some.task.now (c.in-Some.ensures.value ∙ tasks)))
+    first_pushed c.args.line.now c.deref.result.now c.in-Some.task.now c.node_of.result c.args.nodes.now.items _ (c.deref.ensures.value ∙ c.get.ensures)
+    c.in-Some.ensures.value c.node_of.ensures c.in_ok-push-in-Some.ensures.items
 
 pub push_firsts-returns-in-Some-tail : goal.push_firsts-returns-in-Some-tail
 push_firsts-returns-in-Some-tail t c =

@@ -7,7 +7,7 @@ use Rattle.canvas_report.proofs.WalkedLists.{ended}
 use Rattle.canvas_report.proofs.graph.edges.push_tasks.Goals as goal
 
 pub loop-task-init : goal.loop-task-init
-loop-task-init c = record { pushed = refl; last = refl; }
+loop-task-init c = record { pushed = refl; last = refl }
 
 pub loop-task-preserved : goal.loop-task-preserved
 loop-task-preserved c =
@@ -15,10 +15,10 @@ loop-task-preserved c =
     let i = c.loop-task.task-index in
     record {
       pushed = tasks_next ts i c.task-item.result c.loop-task.before c.node_of-node.result c.loop-task.edges.items c.push_task.new.edges.items
-      c.push_behind.new.edges.items _ c.loop-task-test.true c.task-item.is c.node_of-node.ensures c.loop-task.invariant.pushed c.in_ok-push_task.ensures
-      c.in_ok-push_behind.ensures;
+          c.push_behind.new.edges.items _ c.loop-task-test.true c.task-item.is c.node_of-node.ensures c.loop-task.invariant.pushed c.in_ok-push_task.ensures
+          c.in_ok-push_behind.ensures;
       last = last_next ts i c.task-item.result c.loop-task.before _ c.node_of-node.result c.loop-task-test.true c.task-item.is c.node_of-node.ensures
-      c.loop-task.invariant.last;
+          c.loop-task.invariant.last;
     }
 
 pub returns-clause-pushed : goal.returns-clause-pushed
