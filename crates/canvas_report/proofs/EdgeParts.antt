@@ -60,8 +60,8 @@ callbacks_next leads from ts i x n here mid after whole h e named left p q =
     let own = edge leads from (of_task (task_in x)) ∷ [] in
     let both : after ≡ here ++ (own ++ task_edges (task_in x)) =
     q ∙ ap (λ es. es ++ task_edges (task_in x)) (p ∙ ap (λ m. here ++ edge leads from m ∷ []) named) ∙ append_assoc here own (task_edges (task_in x)) in
-    written (λ (t : FrozenTask). edge leads from (of_task (task_in t)) ∷ [] ++ task_edges (task_in t)) (λ us. callbacks_edges leads from (map task_in us)) (λ t us. refl)
-    ts i x here after whole h e left both
+    written (λ (t : FrozenTask). edge leads from (of_task (task_in t)) ∷ [] ++ task_edges (task_in t))
+    (λ us. callbacks_edges leads from (map task_in us)) (λ t us. refl) ts i x here after whole h e left both
 
 pub tasks_next : (ts : List FrozenTask) (i : ℕ) (x : FrozenTask) (before : Option Node) (n : Node) (here mid after whole : List Edge)
     → i < length ts → x ≡ get_or ts i x → n ≡ of_task (task_in x) → here ++ tasks_edges before (map task_in (drop i ts)) ≡ whole
@@ -71,7 +71,8 @@ tasks_next ts i x before n here mid after whole h e named left p q =
     let rest = tasks_edges (Some (of_task (task_in x))) (map task_in (drop (i + 1) ts)) in
     let both : after ≡ here ++ (task_edges (task_in x) ++ own) =
     q ∙ ap (λ m. mid ++ behind before (m ∷ [])) named ∙ ap (λ es. es ++ own) p ∙ append_assoc here (task_edges (task_in x)) own in
-    ap (λ m. after ++ tasks_edges (Some m) (map task_in (drop (i + 1) ts))) named ∙ ap (λ es. es ++ rest) both ∙ append_assoc here (task_edges (task_in x) ++ own) rest
+    ap (λ m. after ++ tasks_edges (Some m) (map task_in (drop (i + 1) ts))) named
+    ∙ ap (λ es. es ++ rest) both ∙ append_assoc here (task_edges (task_in x) ++ own) rest
     ∙ ap (λ es. here ++ es) (sym (ap (λ zs. tasks_edges before (map task_in zs)) (next ts i x h e))) ∙ left
 
 pub last_next : (ts : List FrozenTask) (i : ℕ) (x : FrozenTask) (before whole : Option Node) (n : Node)
@@ -81,7 +82,8 @@ last_next ts i x before whole n h e named left =
     ap (λ m. last_node (Some m) (map task_in (drop (i + 1) ts))) named
     ∙ sym (ap (λ zs. last_node before (map task_in zs)) (next ts i x h e)) ∙ left
 
-pub last_ended : (ts : List FrozenTask) (i : ℕ) (before whole : Option Node) → length ts ≤ i → last_node before (map task_in (drop i ts)) ≡ whole → before ≡ whole
+pub last_ended : (ts : List FrozenTask) (i : ℕ) (before whole : Option Node) → length ts ≤ i → last_node before (map task_in (drop i ts)) ≡ whole
+    → before ≡ whole
 last_ended ts i before whole h left = sym (ap (λ zs. last_node before (map task_in zs)) (drop_all i ts h)) ∙ left
 
 -- ---- a group or chord

@@ -25,9 +25,9 @@ push_callbacks-loop-callback-init t c = refl
 
 pub push_callbacks-loop-callback-preserved : goal.push_callbacks-loop-callback-preserved
 push_callbacks-loop-callback-preserved t c =
-    callbacks_next c.args.leads c.args.from c.args.callbacks.now c.loop-callback.callback-index c.callback-item.result c.node_of.result c.loop-callback.edges.items
-    c.push_edge.new.edges.items c.push_task.new.edges.items _ c.loop-callback-test.true c.callback-item.is c.node_of.ensures c.loop-callback.invariant
-    c.in_ok-push_edge.ensures c.in_ok-push_task.ensures
+    callbacks_next c.args.leads c.args.from c.args.callbacks.now c.loop-callback.callback-index c.callback-item.result c.node_of.result
+    c.loop-callback.edges.items c.push_edge.new.edges.items c.push_task.new.edges.items _ c.loop-callback-test.true c.callback-item.is c.node_of.ensures
+    c.loop-callback.invariant c.in_ok-push_edge.ensures c.in_ok-push_task.ensures
 
 pub push_callbacks-returns : goal.push_callbacks-returns
 push_callbacks-returns t c =

@@ -42,7 +42,8 @@ push_all_lasts-loop-line-init t c = refl
 
 pub push_all_lasts-loop-line-preserved : goal.push_all_lasts-loop-line-preserved
 push_all_lasts-loop-line-preserved t c =
-    written (λ (l : FrozenLine). lasts (line_in l)) (λ ls. lines_lasts (map line_in ls)) (λ l ls. refl) c.args.lines.now c.loop-line.line-index c.line-item.result c.loop-line.nodes.items _ _
+    written (λ (l : FrozenLine). lasts (line_in l)) (λ ls. lines_lasts (map line_in ls)) (λ l ls. refl) c.args.lines.now c.loop-line.line-index
+    c.line-item.result c.loop-line.nodes.items _ _
     c.loop-line-test.true c.line-item.is c.loop-line.invariant c.in_ok-push_lasts.ensures
 
 pub push_all_lasts-returns : goal.push_all_lasts-returns

@@ -50,7 +50,8 @@ push_lines-loop-line-init t c = refl
 
 pub push_lines-loop-line-preserved : goal.push_lines-loop-line-preserved
 push_lines-loop-line-preserved t c =
-    written (λ (l : FrozenLine). line_edges None (line_in l)) (λ ls. lines_edges (map line_in ls)) (λ l ls. refl) c.args.lines.now c.loop-line.line-index c.line-item.result c.loop-line.edges.items _ _
+    written (λ (l : FrozenLine). line_edges None (line_in l)) (λ ls. lines_edges (map line_in ls)) (λ l ls. refl) c.args.lines.now c.loop-line.line-index
+    c.line-item.result c.loop-line.edges.items _ _
     c.loop-line-test.true c.line-item.is c.loop-line.invariant c.in_ok-push_line.ensures
 
 pub push_lines-returns : goal.push_lines-returns
