@@ -1,5 +1,6 @@
 -- The nodes and edges of a line, by its parts.
-use Rattle.std.proofs.Common.{◌≡◌, ◌∙◌, ℕ, ◌==◌, false, List, [], ◌∷◌, ◌++◌, map, length, Option, Some, None, Box, Global, refl, sym, ap, subst, append_assoc, append-nil}
+use Rattle.std.proofs.Common.{◌≡◌, ◌∙◌, ◌+◌, ◌<◌, ◌≤◌, ℕ, ◌==◌, get_or, drop, false, List, [], ◌∷◌, ◌++◌, map, length, Option, Some, None, Box, Global, slice_get, refl, sym, ap, subst, append_assoc, append-nil}
+use Rattle.std.proofs.lemmas.List.{drop_all}
 use Rattle.canvas_semantics.specs.Tree.{Task}
 use Rattle.canvas_semantics.specs.Line.{Line, stop, group_end, chord_end, Lines, ends_of}
 use Rattle.canvas_semantics.specs.PlacedLine.{PTask, PPlace, PLine, strip_task, strip_tasks}
@@ -9,6 +10,8 @@ use Rattle.canvas_rewrite.specs.declared.frozen.FrozenTask.{FrozenTask, out-Froz
 use Rattle.canvas_rewrite.specs.declared.frozen.FrozenLine.{FrozenLine, out-FrozenLine}
 use Rattle.canvas_rewrite.specs.declared.frozen.FrozenEnd.{FrozenEnd, out-FrozenEnd}
 use Rattle.canvas_rewrite.proofs.PlanLines.{in_none, in_some, in_group, in_chord}
+use Rattle.canvas_report.proofs.WalkedLists.{next, written}
+use Rattle.canvas_report.specs.declared.graph.edges.Edge.{Edge}
 use Rattle.canvas_report.specs.declared.graph.edges.Node.{Node}
 use Rattle.canvas_report.specs.declared.graph.edges.Node.TheVariants as node
 use Rattle.canvas_report.specs.declared.graph.edges.Leads.{Leads}
@@ -50,6 +53,39 @@ task_is t =
     ∙ (λ i. callbacks_list Link (node.Task (out-FrozenTask t).no) (out-FrozenTask t).links i
     ++ callbacks_list Errback (node.Task (out-FrozenTask t).no) (out-FrozenTask t).errbacks i)
 
+pub callbacks_next : (leads : Leads) (from : Node) (ts : List FrozenTask) (i : ℕ) (x : FrozenTask) (n : Node) (here mid after whole : List Edge)
+    → i < length ts → x ≡ get_or ts i x → n ≡ of_task (task_in x) → here ++ callbacks_edges leads from (map task_in (drop i ts)) ≡ whole
+    → mid ≡ here ++ edge leads from n ∷ [] → after ≡ mid ++ task_edges (task_in x) → after ++ callbacks_edges leads from (map task_in (drop (i + 1) ts)) ≡ whole
+callbacks_next leads from ts i x n here mid after whole h e named left p q =
+    let own = edge leads from (of_task (task_in x)) ∷ [] in
+    let both : after ≡ here ++ (own ++ task_edges (task_in x)) =
+    q ∙ ap (λ es. es ++ task_edges (task_in x)) (p ∙ ap (λ m. here ++ edge leads from m ∷ []) named) ∙ append_assoc here own (task_edges (task_in x)) in
+    written (λ (t : FrozenTask). edge leads from (of_task (task_in t)) ∷ [] ++ task_edges (task_in t))
+    (λ us. callbacks_edges leads from (map task_in us)) (λ t us. refl) ts i x here after whole h e left both
+
+pub tasks_next : (ts : List FrozenTask) (i : ℕ) (x : FrozenTask) (before : Option Node) (n : Node) (here mid after whole : List Edge)
+    → i < length ts → x ≡ get_or ts i x → n ≡ of_task (task_in x) → here ++ tasks_edges before (map task_in (drop i ts)) ≡ whole
+    → mid ≡ here ++ task_edges (task_in x) → after ≡ mid ++ behind before (n ∷ []) → after ++ tasks_edges (Some n) (map task_in (drop (i + 1) ts)) ≡ whole
+tasks_next ts i x before n here mid after whole h e named left p q =
+    let own = behind before (of_task (task_in x) ∷ []) in
+    let rest = tasks_edges (Some (of_task (task_in x))) (map task_in (drop (i + 1) ts)) in
+    let both : after ≡ here ++ (task_edges (task_in x) ++ own) =
+    q ∙ ap (λ m. mid ++ behind before (m ∷ [])) named ∙ ap (λ es. es ++ own) p ∙ append_assoc here (task_edges (task_in x)) own in
+    ap (λ m. after ++ tasks_edges (Some m) (map task_in (drop (i + 1) ts))) named
+    ∙ ap (λ es. es ++ rest) both ∙ append_assoc here (task_edges (task_in x) ++ own) rest
+    ∙ ap (λ es. here ++ es) (sym (ap (λ zs. tasks_edges before (map task_in zs)) (next ts i x h e))) ∙ left
+
+pub last_next : (ts : List FrozenTask) (i : ℕ) (x : FrozenTask) (before whole : Option Node) (n : Node)
+    → i < length ts → x ≡ get_or ts i x → n ≡ of_task (task_in x) → last_node before (map task_in (drop i ts)) ≡ whole
+    → last_node (Some n) (map task_in (drop (i + 1) ts)) ≡ whole
+last_next ts i x before whole n h e named left =
+    ap (λ m. last_node (Some m) (map task_in (drop (i + 1) ts))) named
+    ∙ sym (ap (λ zs. last_node before (map task_in zs)) (next ts i x h e)) ∙ left
+
+pub last_ended : (ts : List FrozenTask) (i : ℕ) (before whole : Option Node) → length ts ≤ i → last_node before (map task_in (drop i ts)) ≡ whole
+    → before ≡ whole
+last_ended ts i before whole h left = sym (ap (λ zs. last_node before (map task_in zs)) (drop_all i ts h)) ∙ left
+
 -- ---- a group or chord
 
 -- what holds of a group and of a chord holds of an end
@@ -85,6 +121,35 @@ end_lasts t =
     (λ ls same. ap (λ ns. point (out-FrozenEnd t).group (lines_of ls) ++ ns) (lasts_list ls ∙ ap lines_lasts same))
     (λ ls b same. ap (λ ns. point (out-FrozenEnd t).group (lines_of ls) ++ ns) (lasts_list ls ∙ ap lines_lasts same))
 
+-- ---- where a line begins
+
+tasks_first : (ts : List FrozenTask) (x : FrozenTask) (l : Line) → Some x ≡ slice_get ts 0 → firsts (steps_onto (map task_in ts) l) ≡ of_task (task_in x) ∷ []
+tasks_first [] x l h = absurd cc
+tasks_first (t ∷ ts) x l h = let same : t ≡ x = cc in ap (λ u. of_task (task_in u) ∷ []) same
+
+none_first : (ts : List FrozenTask) (l : Line) → None ≡ slice_get ts 0 → firsts (steps_onto (map task_in ts) l) ≡ firsts l
+none_first [] l h = refl
+none_first (t ∷ ts) l h = absurd cc
+
+firsts_task : (l : FrozenLine) (x : FrozenTask) → Some x ≡ slice_get (out-FrozenLine l).tasks 0 → firsts (line_in l) ≡ of_task (task_in x) ∷ []
+firsts_task l x first = of (out-FrozenLine l).tail refl
+  where
+    of : (o : Option (Box FrozenEnd Global)) → (out-FrozenLine l).tail ≡ o → firsts (line_in l) ≡ of_task (task_in x) ∷ []
+    of None e = ap firsts (in_none l e) ∙ tasks_first (out-FrozenLine l).tasks x stop first
+    of (Some b) e = ap firsts (in_some l b e) ∙ tasks_first (out-FrozenLine l).tasks x (end_in b.value) first
+
+pub first_pushed : (l : FrozenLine) (tasks : List FrozenTask) (x : FrozenTask) (n : Node) (here after : List Node) → tasks ≡ (out-FrozenLine l).tasks
+    → Some x ≡ slice_get tasks 0 → n ≡ of_task (task_in x) → after ≡ here ++ n ∷ [] → after ≡ here ++ firsts (line_in l)
+first_pushed l tasks x n here after same first named pushed =
+    pushed ∙ ap (λ m. here ++ m ∷ []) named ∙ ap (λ ns. here ++ ns) (sym (firsts_task l x (first ∙ ap (λ ts. slice_get ts 0) same)))
+
+pub firsts_end : (l : FrozenLine) (b : Box FrozenEnd Global) → None ≡ slice_get (out-FrozenLine l).tasks 0 → (out-FrozenLine l).tail ≡ Some b
+    → firsts (line_in l) ≡ firsts (end_in b.value)
+firsts_end l b none e = ap firsts (in_some l b e) ∙ none_first (out-FrozenLine l).tasks (end_in b.value) none
+
+pub firsts_none : (l : FrozenLine) → None ≡ slice_get (out-FrozenLine l).tasks 0 → (out-FrozenLine l).tail ≡ None → firsts (line_in l) ≡ []
+firsts_none l none e = ap firsts (in_none l e) ∙ none_first (out-FrozenLine l).tasks stop none
+
 -- ---- where a line ends
 
 behind_group : (ts : List Task) (g : ℕ) (ms : Lines) → lasts (steps_onto ts (group_end g ms)) ≡ lasts (group_end g ms)
@@ -113,6 +178,10 @@ pub lasts_none : (l : FrozenLine) (ks : List ℕ) → (out-FrozenLine l).tail �
     → lasts (line_in l) ≡ map (λ k. node.Task k) ks
 lasts_none l ks e are =
     ap lasts (in_none l e) ∙ lasts_tasks (map task_in (out-FrozenLine l).tasks) ∙ ap (map (λ k. node.Task k)) are
+
+-- a group ends where its members do
+pub group_lasts : (t : FrozenEnd) → (out-FrozenEnd t).body ≡ None → lasts (end_in t) ≡ member_lasts (end_in t)
+group_lasts t e = ap lasts (in_group t e) ∙ sym (ap member_lasts (in_group t e))
 
 -- ---- the edges of a line
 

@@ -6,6 +6,7 @@ ghost use Rattle.canvas_task.specs.Identifiers.{task_text};
 ghost use Rattle.canvas_task.specs.Printed.{fault_text};
 ghost use Rattle.canvas_semantics.specs.Report.{report_line, state_name, value_text};
 
+use crate::text::put;
 use canvas_task::{Fault, Outcome, TaskNo, task_text};
 use std::alloc::AllocError;
 
@@ -77,11 +78,11 @@ pub(crate) fn push_row(
         ≡ string_bytes text.old ++ report_line (task, name.now) state.now) }
 {
     push_identifier(text, task)?;
-    text.push_str(" ")?;
-    text.push_str(name)?;
-    text.push_str(" ")?;
-    text.push_str(name_of(state))?;
-    text.push_str(" ")?;
+    put(text, " ")?;
+    put(text, name)?;
+    put(text, " ")?;
+    put(text, name_of(state))?;
+    put(text, " ")?;
     push_value(text, state)?;
-    text.push_str("\n")
+    put(text, "\n")
 }

@@ -29,18 +29,20 @@ fn push_text(label: &mut String, text: &str) -> Result<(), AllocError> {
 }
 
 fn push_list(label: &mut String, numbers: &[i64]) -> Result<(), AllocError> {
+    let is_cut = numbers.len() > MOST_SHOWN;
+    let shown = if is_cut {
+        &numbers[..MOST_SHOWN]
+    } else {
+        numbers
+    };
     label.push('[')?;
-    for (index, number) in numbers.iter().take(MOST_SHOWN).enumerate() {
-        if index > 0 {
-            label.push_str(", ")?;
-        }
+    let mut is_first = true;
+    for number in shown {
+        label.push_str(if is_first { "" } else { ", " })?;
         write!(label, "{number}")?;
+        is_first = false;
     }
-    if numbers.len() > MOST_SHOWN {
-        label.push_str(", ..")?;
-    }
-    label.push(']')?;
-    Ok(())
+    label.push_str(if is_cut { ", ..]" } else { "]" })
 }
 
 fn push_argument(label: &mut String, arg: &Arg) -> Result<(), AllocError> {
@@ -56,12 +58,12 @@ fn push_argument(label: &mut String, arg: &Arg) -> Result<(), AllocError> {
 
 fn push_arguments(label: &mut String, task: &FrozenTask) -> Result<(), AllocError> {
     let mut is_first = true;
-    for arg in task.args.get().iter() {
+    for arg in task.args.get() {
         label.push_str(if is_first { "" } else { ", " })?;
         push_argument(label, arg)?;
         is_first = false;
     }
-    for (name, arg) in task.kwargs.get().iter() {
+    for (name, arg) in task.kwargs.get() {
         label.push_str(if is_first { "" } else { ", " })?;
         write!(label, "{name}=")?;
         push_argument(label, arg)?;

@@ -17,7 +17,8 @@ pub returns-in_err-meta : goal.returns-in_err-meta
 returns-in_err-meta c =
     let p = err_from_is_err_and c.from_residual.result c.from_residual.ensures.1 in
     rw (p.1, p.2)
-    (of_unread c.args.run.now.digits (count_line c.args.plan.now) c.args.task c.args.text.now _ (not_nil c.args.text.now c.if-is_empty.ensures) c.in_err-meta.ensures)
+    (of_unread c.args.run.now.digits (count_line c.args.plan.now) c.args.task c.args.text.now _ (not_nil c.args.text.now c.if-is_empty.ensures)
+    c.in_err-meta.ensures)
 
 pub returns-then-is_of : goal.returns-then-is_of
 returns-then-is_of c =

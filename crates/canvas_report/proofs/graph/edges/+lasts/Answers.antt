@@ -1,11 +1,12 @@
-use Rattle.std.proofs.Common.{◌∙◌, ◌++◌, ◌∷◌, [], ◌-◌, map, ap, sym, refl, slice_get, length, append-nil}
+use Rattle.std.proofs.Common.{List, ◌∙◌, ◌++◌, ◌∷◌, [], ◌-◌, map, ap, sym, refl, slice_get, length, append-nil}
 use Rattle.canvas_rewrite.specs.FrozenView.{line_in, end_in}
-use Rattle.canvas_rewrite.specs.declared.frozen.FrozenLine.{out-FrozenLine}
-use Rattle.canvas_rewrite.proofs.PlanLines.{ok_same, ends_last, ends_never}
+use Rattle.canvas_rewrite.specs.declared.frozen.FrozenLine.{FrozenLine, out-FrozenLine}
+use Rattle.canvas_rewrite.proofs.PlanLines.{in_chord, ok_same, ends_last, ends_never}
 use Rattle.canvas_rewrite.proofs.NameLines.{one_after}
 use Rattle.canvas_report.specs.Picture.{lasts}
 use Rattle.canvas_report.specs.steps.EdgeLists.{lines_lasts}
-use Rattle.canvas_report.proofs.EdgeParts.{number_is, end_lasts, lasts_some, lasts_none}
+use Rattle.canvas_report.proofs.EdgeParts.{group_lasts, number_is, end_lasts, lasts_some, lasts_none}
+use Rattle.canvas_report.proofs.WalkedLists.{written, ended}
 use Rattle.canvas_report.proofs.graph.edges.+lasts.Goals as goal
 
 pub push_member_lasts-returns : goal.push_member_lasts-returns
@@ -35,3 +36,25 @@ push_lasts-returns-in-None-last t c =
     sym (ap (λ ns. c.args.nodes.now.items ++ ns) (lasts_none c.args.line.now _ c.in-None.is
     (ends_never (out-FrozenLine c.args.line.now).tasks (c.in-None-last.ensures.value ∙ ap (λ ts. slice_get ts (length ts - 1)) tasks)))
     ∙ append-nil c.args.nodes.now.items)
+
+pub push_all_lasts-loop-line-init : goal.push_all_lasts-loop-line-init
+push_all_lasts-loop-line-init t c = refl
+
+pub push_all_lasts-loop-line-preserved : goal.push_all_lasts-loop-line-preserved
+push_all_lasts-loop-line-preserved t c =
+    written (λ (l : FrozenLine). lasts (line_in l)) (λ ls. lines_lasts (map line_in ls)) (λ l ls. refl) c.args.lines.now c.loop-line.line-index
+    c.line-item.result c.loop-line.nodes.items _ _
+    c.loop-line-test.true c.line-item.is c.loop-line.invariant c.in_ok-push_lasts.ensures
+
+pub push_all_lasts-returns : goal.push_all_lasts-returns
+push_all_lasts-returns t c =
+    ended (λ (ls : List FrozenLine). lines_lasts (map line_in ls)) c.args.lines.now c.loop-line.line-index c.loop-line.nodes.items _
+    c.loop-line-test.false refl c.loop-line.invariant
+
+pub push_end_lasts-returns-in-Some : goal.push_end_lasts-returns-in-Some
+push_end_lasts-returns-in-Some t c =
+    ok_same _ _ _ _ (ap (λ x. c.args.nodes.now.items ++ lasts x) (sym (in_chord c.args.end.now c.in-Some.body c.in-Some.is))) c.push_lasts.ensures
+
+pub push_end_lasts-returns-in-None : goal.push_end_lasts-returns-in-None
+push_end_lasts-returns-in-None t c =
+    ok_same _ _ _ _ (ap (λ ns. c.args.nodes.now.items ++ ns) (sym (group_lasts c.args.end.now c.in-None.is))) c.push_member_lasts.ensures
