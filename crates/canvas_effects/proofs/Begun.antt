@@ -1,13 +1,13 @@
 -- Messages of tasks, and what lines begin with, as the code has them.
 use Rattle.std.proofs.Common.{◌≡◌, ◌∙◌, ℕ, suc, ◌≤◌, ◌<◌, ◌+◌, arith, true, false, List, [], ◌∷◌, ◌++◌, map, drop, get_or, length, Option, Some, None, Box, Global, refl, sym, ap, ap₂, subst, append_assoc, add-one, ne_eqb, drop-cons, true≢false, rules}
 use Rattle.std.specs.declared.sync.Arc.{Arc}
-use Rattle.std.specs.Prelude.{ℤ, ◌==◌, not, MatchOption}
+use Rattle.std.specs.Prelude.{ℤ, ◌==◌, not}
 use Rattle.canvas_semantics.specs.PlacedLine.{PTask, p_task, PTasks, and_p_task, PPlace, p_nowhere, p_group, p_chord, PLine, p_stop, p_step, p_group_end, p_chord_end, no_p_lines}
 use Rattle.canvas_rewrite.specs.FrozenView.{p_tasks_of, p_steps, p_lines_of, p_task_view, p_line_view, p_end_view}
 use Rattle.canvas_rewrite.specs.declared.frozen.Carried as block
 use Rattle.canvas_rewrite.specs.declared.frozen.Carried.{roll-Carried}
-use Rattle.canvas_rewrite.specs.declared.frozen.Place.{Place, roll-Place}
-use Rattle.canvas_rewrite.specs.declared.frozen.FrozenTask.{FrozenTask, out-FrozenTask}
+use Rattle.canvas_rewrite.specs.declared.frozen.Place.{roll-Place}
+use Rattle.canvas_rewrite.specs.declared.frozen.FrozenTask.{FrozenTask}
 use Rattle.canvas_rewrite.specs.declared.frozen.FrozenLine.{FrozenLine, out-FrozenLine}
 use Rattle.canvas_rewrite.specs.declared.frozen.FrozenEnd.{FrozenEnd, out-FrozenEnd}
 use Rattle.canvas_effects.specs.Carrying.{can_stand, AllStand, callbacks_ok, input_ok}
@@ -17,10 +17,10 @@ use Rattle.canvas_message.specs.Fits.{parent_ok, fits}
 use Rattle.canvas_effects.specs.Flowing.{Input, list_input}
 use Rattle.canvas_message.specs.steps.Parts.{is_stop}
 use Rattle.canvas_effects.specs.Placing.{placed}
-use Rattle.canvas_message.specs.MessageView.{place_view, place_seen, rest_seen}
+use Rattle.canvas_message.specs.MessageView.{place_view}
 use Rattle.canvas_effects.specs.steps.Walks.{at_place, tail_seen, begins_with_task, first_message, member_place, started, all_started}
 use Rattle.canvas_effects.proofs.Walked.{begins_seen}
-use Rattle.canvas_effects.proofs.Copied.{own_place, place_there, line_parts}
+use Rattle.canvas_effects.proofs.Copied.{line_parts}
 use Rattle.canvas_effects.proofs.Entered.{started_group, started_chord}
 use Rattle.canvas_message.proofs.FitLemmas.{counted}
 use Rattle.canvas_message.proofs.Seen.{line_some, end_none, end_some}
@@ -28,41 +28,33 @@ use Rattle.canvas_effects.proofs.Standing.{message_fits, called_parts, same_at, 
 
 -- ---- callbacks
 
-at_its_place : (t : FrozenTask) (p : Option Place) → place_seen p ≡ place_seen (out-FrozenTask t).place
-    → at_place (place_seen p) (p_task_view t) ≡ p_task_view t
-at_its_place t p same = ap (λ q. at_place q (p_task_view t)) (same ∙ sym (place_there t)) ∙ own_place (p_task_view t)
-
 tasks_dropped : (ts : List FrozenTask) (i : ℕ) (t : FrozenTask) → i < length ts → t ≡ get_or ts i t
     → map p_task_view (drop i ts) ≡ p_task_view t ∷ map p_task_view (drop (i + 1) ts)
 tasks_dropped ts i t lt is =
     ap (map p_task_view) (drop-cons ts i t lt) ∙ ap (λ y. p_task_view y ∷ map p_task_view (drop (suc i) ts)) (sym is)
     ∙ ap (λ k. p_task_view t ∷ map p_task_view (drop k ts)) (sym (add-one i))
 
-pub callback_fits : (ts : List FrozenTask) (i : ℕ) (t : FrozenTask) (p : Option Place) (u : Option ℕ) (x : Input) → i < length ts → t ≡ get_or ts i t
-    → place_seen p ≡ place_seen (out-FrozenTask t).place → callbacks_ok (p_tasks_of (map p_task_view (drop i ts))) ≡ true → parent_ok u ≡ true
-    → input_ok x ≡ true
-    → fits (message u (at_place (place_seen p) (p_task_view t)) x p_stop) ≡ true
-callback_fits ts i t p u x lt is same ok hu hx =
+pub callback_fits : (ts : List FrozenTask) (i : ℕ) (t : FrozenTask) (u : Option ℕ) (x : Input) → i < length ts → t ≡ get_or ts i t
+    → callbacks_ok (p_tasks_of (map p_task_view (drop i ts))) ≡ true → parent_ok u ≡ true → input_ok x ≡ true
+    → fits (message u (p_task_view t) x p_stop) ≡ true
+callback_fits ts i t u x lt is ok hu hx =
     let here : callbacks_ok (and_p_task (p_task_view t) (p_tasks_of (map p_task_view (drop (i + 1) ts)))) ≡ true =
     sym (ap (λ xs. callbacks_ok (p_tasks_of xs)) (tasks_dropped ts i t lt is)) ∙ ok in
-    ap (λ y. fits (message u y x p_stop)) (at_its_place t p same)
-    ∙ message_fits u (p_task_view t) x p_stop hu hx (called_parts (p_task_view t) (p_tasks_of (map p_task_view (drop (i + 1) ts))) here).first
+    message_fits u (p_task_view t) x p_stop hu hx (called_parts (p_task_view t) (p_tasks_of (map p_task_view (drop (i + 1) ts))) here).first
 
-pub callbacks_on : (ts : List FrozenTask) (i : ℕ) (t : FrozenTask) (p : Option Place) (u : Option ℕ) (x : Input) (before after all : List Content) (m : Content)
+pub callbacks_on : (ts : List FrozenTask) (i : ℕ) (t : FrozenTask) (u : Option ℕ) (x : Input) (before after all : List Content) (m : Content)
     → i < length ts → t ≡ get_or ts i t
-    → place_seen p ≡ place_seen (out-FrozenTask t).place
     → (callbacks_ok (p_tasks_of (map p_task_view (drop i ts))) ≡ true)
     × (before ++ messages_in (callbacks (p_tasks_of (map p_task_view (drop i ts))) x u) ≡ all)
-    → m ≡ message u (at_place (place_seen p) (p_task_view t)) x p_stop → after ≡ before ++ m ∷ []
+    → m ≡ message u (p_task_view t) x p_stop → after ≡ before ++ m ∷ []
     → (callbacks_ok (p_tasks_of (map p_task_view (drop (i + 1) ts))) ≡ true)
     × (after ++ messages_in (callbacks (p_tasks_of (map p_task_view (drop (i + 1) ts))) x u) ≡ all)
-callbacks_on ts i t p u x before after all m lt is same h made pushed =
+callbacks_on ts i t u x before after all m lt is h made pushed =
     let step = tasks_dropped ts i t lt is in
     let rest : PTasks = p_tasks_of (map p_task_view (drop (i + 1) ts)) in
-    let here : callbacks_ok (and_p_task (p_task_view t) rest) ≡ true = sym (ap (λ xs. callbacks_ok (p_tasks_of xs)) step) ∙ h.0 in
-    let its : m ≡ message u (p_task_view t) x p_stop = made ∙ ap (λ y. message u y x p_stop) (at_its_place t p same) in (
+    let here : callbacks_ok (and_p_task (p_task_view t) rest) ≡ true = sym (ap (λ xs. callbacks_ok (p_tasks_of xs)) step) ∙ h.0 in (
       (called_parts (p_task_view t) rest here).others,
-      ap (λ ms. ms ++ messages_in (callbacks rest x u)) (pushed ∙ ap (λ y. before ++ y ∷ []) its)
+      ap (λ ms. ms ++ messages_in (callbacks rest x u)) (pushed ∙ ap (λ y. before ++ y ∷ []) made)
           ∙ append_assoc before (message u (p_task_view t) x p_stop ∷ []) (messages_in (callbacks rest x u))
           ∙ ap (λ xs. before ++ messages_in (callbacks (p_tasks_of xs) x u)) (sym step) ∙ h.1,
     )
@@ -78,11 +70,6 @@ not_stop p_stop h = absurd (h refl)
 not_stop (p_step t l) h = refl
 not_stop (p_group_end g ms) h = refl
 not_stop (p_chord_end g ms b) h = refl
-
-pub some_follows : (r : Option FrozenLine) → (rest_seen r ≡ p_stop → ⊥)
-    → MatchOption r (rest_seen r ≡ p_stop) (λ l. (rest_seen r ≡ p_line_view l) × (is_stop (p_line_view l) ≡ false))
-some_follows None h = absurd (h refl)
-some_follows (Some l) h = (refl, not_stop (p_line_view l) h)
 
 pub place_put : (q : PPlace) (t : PTask) → place_of (at_place q t) ≡ q
 place_put q (p_task k call links errbacks place) = refl

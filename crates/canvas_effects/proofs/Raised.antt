@@ -48,10 +48,6 @@ pub behind_never : (ms others : List FrozenLine) (m : FrozenLine) → ms ≡ m �
 behind_never ms others m split ok h =
     let it = first_member ms others m split ok in never_last false (p_line_view m) it.ok it.ends (sym h)
 
-pub behind_none : (f : Fault) (ms : List FrozenLine) → length ms ≡ 0 → f ≡ fault_behind (p_lines_of (map p_line_view ms)) f
-behind_none f [] few = refl
-behind_none f (m ∷ ms) few = absurd cc
-
 -- ---- a line's first task
 
 pub first_there : (l : FrozenLine) (all others : List FrozenTask) (t : FrozenTask) → all ≡ (out-FrozenLine l).tasks → all ≡ t ∷ others

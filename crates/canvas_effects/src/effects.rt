@@ -1,17 +1,16 @@
 //! What the start of a plan, the end of a task and the end of a header's members make a worker do.
 
-ghost use Rattle.std.specs.Prelude.{◌≡◌, ◌++◌, true, None, IfOk, IfSome, All, map};
+ghost use Rattle.std.specs.Prelude.{◌≡◌, true, None, IfOk, IfSome, All, map};
 ghost use Rattle.std.specs.Option.{option_map};
-ghost use Rattle.canvas_task.specs.Numbers.{in_range};
 ghost use Rattle.canvas_task.specs.Apply.{IsInRange};
 ghost use Rattle.canvas_rewrite.specs.FrozenView.{p_line_view, p_task_view, p_tasks_of};
 ghost use Rattle.canvas_effects.specs.Carrying.{callbacks_ok, is_whole, place_stands, carried_ok, input_ok};
 ghost use Rattle.canvas_message.specs.Content.{number_of, links_of, errbacks_of};
-ghost use Rattle.canvas_effects.specs.Effects.{first_messages, after, callbacks, called, body_after, enter, effect_of, stores_in, messages_in, part_in, part_of};
+ghost use Rattle.canvas_effects.specs.Effects.{first_messages, after, callbacks, called, body_after, enter, effect_of, messages_in, part_in, part_of};
 ghost use Rattle.canvas_message.specs.MessageView.{carried_view, place_seen};
 ghost use Rattle.canvas_message.specs.SharedTexts.{SaysCarried};
 ghost use Rattle.canvas_message.specs.Fits.{parent_ok};
-ghost use Rattle.canvas_effects.specs.Flowing.{run, raise, list_input};
+ghost use Rattle.canvas_effects.specs.Flowing.{run, raise};
 ghost use Rattle.canvas_effects.specs.Ordered.{in_order};
 ghost use Rattle.canvas_effects.specs.Placing.{end_place};
 ghost use Rattle.canvas_effects.specs.Todos.{part_view, todo_view};

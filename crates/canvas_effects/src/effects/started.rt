@@ -1,11 +1,11 @@
 //! Lines that start, and are given up: their tasks become messages, and none is copied.
 
 ghost use Rattle.std.specs.Prelude.{◌≡◌, ◌++◌, true, false, IfOk, IfSome, MatchOption, OnOk, map};
-ghost use Rattle.canvas_rewrite.specs.FrozenView.{p_task_view, p_line_view, p_end_view, p_lines_of, place_or};
+ghost use Rattle.canvas_rewrite.specs.FrozenView.{p_task_view, p_line_view, p_end_view, place_or};
 ghost use Rattle.canvas_semantics.specs.PlacedLine.{p_chord, p_group, p_stop};
 ghost use Rattle.canvas_effects.specs.Carrying.{can_stand, AllStand, is_whole, input_ok};
 ghost use Rattle.canvas_message.specs.Fits.{fits, parent_ok};
-ghost use Rattle.canvas_message.specs.MessageView.{place_seen, rest_seen};
+ghost use Rattle.canvas_message.specs.MessageView.{rest_seen};
 ghost use Rattle.canvas_message.specs.SharedTexts.{SaysCarried};
 ghost use Rattle.canvas_effects.specs.Placing.{end_place, placed};
 ghost use Rattle.canvas_effects.specs.steps.Walks.{input_seen, begins_with_task, first_message, started, all_started};

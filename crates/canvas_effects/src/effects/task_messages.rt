@@ -1,24 +1,22 @@
 //! The messages of tasks that start.
 
-ghost use Rattle.std.specs.Prelude.{◌≡◌, ◌++◌, true, false, IfOk, IfSome, OnOk, map, if◌then◌else◌};
-ghost use Rattle.canvas_semantics.specs.Evaluation.{arguments, value};
-ghost use Rattle.canvas_semantics.specs.PlacedLine.{PLine, PPlace};
-ghost use Rattle.canvas_rewrite.specs.FrozenView.{p_tasks_of, p_steps, place_or, p_task_view, p_line_view, p_end_view};
-ghost use Rattle.canvas_rewrite.specs.declared.frozen.FrozenEnd.{out-FrozenEnd};
-ghost use Rattle.canvas_effects.specs.Carrying.{can_stand, AllStand, callbacks_ok, input_ok};
-ghost use Rattle.canvas_message.specs.Content.{call_of, place_of};
+ghost use Rattle.std.specs.Prelude.{◌≡◌, ◌++◌, true, IfOk, IfSome, OnOk, map, if◌then◌else◌};
+ghost use Rattle.canvas_semantics.specs.Evaluation.{value};
+ghost use Rattle.canvas_semantics.specs.PlacedLine.{PLine, PPlace, p_stop};
+ghost use Rattle.canvas_rewrite.specs.FrozenView.{p_tasks_of, p_task_view};
+ghost use Rattle.canvas_effects.specs.Carrying.{callbacks_ok, input_ok};
+ghost use Rattle.canvas_message.specs.Content.{place_of};
 ghost use Rattle.canvas_effects.specs.Effects.{message, callbacks, messages_in};
 ghost use Rattle.canvas_message.specs.Fits.{fits, parent_ok};
 ghost use Rattle.canvas_effects.specs.Flowing.{input_flow, parent_for};
-ghost use Rattle.canvas_message.specs.steps.Parts.{is_stop};
-ghost use Rattle.canvas_message.specs.MessageView.{place_seen, place_view, rest_seen};
+ghost use Rattle.canvas_message.specs.MessageView.{rest_seen};
 ghost use Rattle.canvas_message.specs.SharedTexts.{AreTexts, SaysCarried, place_behind};
-ghost use Rattle.canvas_effects.specs.steps.Walks.{input_seen, tail_seen, at_place, first_message, member_place, started, all_started};
+ghost use Rattle.canvas_effects.specs.steps.Walks.{input_seen};
 
 use crate::copies::{copy_task, share_if_some};
 use crate::input::Input;
 use canvas_message::{CarriedText, Message, Texts};
-use canvas_rewrite::{FrozenLine, FrozenTask, Place};
+use canvas_rewrite::{FrozenLine, FrozenTask};
 use canvas_task::{Arg, ListOf, TaskNo};
 use std::alloc::{AllocError, Global};
 use std::sync::Arc;
@@ -91,25 +89,21 @@ pub(super) fn message_from(
     })
 }
 
-/// The message of a task that is run, with its place and what follows it.
+/// The message of a copy of a task that nothing follows.
 fn message_of(
     alloc: Global,
     task: &FrozenTask,
     input: &Input,
     parent: &Option<TaskNo>,
-    place: Option<Place>,
-    rest: Option<FrozenLine>,
-    texts: Texts,
 ) -> Result<Message, AllocError>
-    requires fits { fits (message parent.now (at_place (place_seen place) (p_task_view task.now))
-        (input_seen input.now) (rest_seen rest)) ≡ true }
-    requires texts { AreTexts texts (place_seen place) (rest_seen rest) }
-    ensures { IfOk result (λ m. m
-        ≡ message parent.now (at_place (place_seen place) (p_task_view task.now))
-        (input_seen input.now) (rest_seen rest)) }
+    requires { fits (message parent.now (p_task_view task.now) (input_seen input.now) p_stop)
+        ≡ true }
+    ensures { IfOk result
+        (λ m. m ≡ message parent.now (p_task_view task.now) (input_seen input.now) p_stop) }
 {
+    let place = share_if_some(&task.place)?;
     let task = copy_task(alloc, task, place)?;
-    message_from(alloc, task, input, parent, rest, texts)
+    message_from(alloc, task, input, parent, None, Texts::none())
 }
 
 /// The messages of links or error callbacks, put behind the others.
@@ -129,9 +123,7 @@ pub(super) fn call_back(
         (input_seen input.now) parent.now)) }
 {
     for task in tasks {
-        let place = share_if_some(&task.place)?;
-        let message = message_of(alloc, task, input, parent, place, None, Texts::none())?;
-        messages.push(message)?;
+        messages.push(message_of(alloc, task, input, parent)?)?;
     }
     Ok(())
 }

@@ -1,11 +1,10 @@
-use Rattle.std.proofs.Common.{◌∙◌, ◌∷◌, ◌++◌, [], sym, ap, subst}
+use Rattle.std.proofs.Common.{◌∙◌, sym, ap, subst}
 use Rattle.canvas_rewrite.specs.FrozenView.{p_line_view, p_task_view}
 use Rattle.canvas_semantics.specs.PlacedLine.{p_nowhere}
 use Rattle.canvas_message.specs.MessageView.{rest_seen}
 use Rattle.canvas_message.specs.SharedTexts.{AreTexts}
 use Rattle.canvas_effects.specs.Carrying.{is_whole}
-use Rattle.canvas_effects.specs.Placing.{end_place}
-use Rattle.canvas_effects.specs.steps.Walks.{input_seen, started}
+use Rattle.canvas_effects.specs.steps.Walks.{input_seen}
 use Rattle.canvas_effects.proofs.Standing.{message_fits}
 use Rattle.canvas_effects.proofs.Ended.{handed}
 use Rattle.canvas_effects.proofs.effects.moved.hand_on.Goals as goal

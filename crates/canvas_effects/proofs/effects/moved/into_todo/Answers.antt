@@ -1,6 +1,5 @@
-use Rattle.std.proofs.Common.{rules, ◌≡◌, ◌∙◌, true, false, sym, ap}
+use Rattle.std.proofs.Common.{◌≡◌, ◌∙◌, true, false, sym, ap}
 use Rattle.canvas_rewrite.specs.FrozenView.{p_line_view}
-use Rattle.canvas_semantics.specs.PlacedLine.{p_stop}
 use Rattle.canvas_message.specs.Content.{number_of, place_of}
 use Rattle.canvas_message.specs.Fits.{fits, is_task_number}
 use Rattle.canvas_message.specs.MessageView.{rest_seen}
@@ -13,23 +12,23 @@ use Rattle.canvas_effects.proofs.effects.moved.into_todo.Goals as goal
 -- where something follows
 follows : (c : goal.After-line_left-rest) → is_stop (p_line_view c.line_left-rest.result.0) ≡ false
 follows c =
-    let seen : rest_seen c.message.inside.rest ≡ c.args.message.rest = search rules in
+    let seen : rest_seen c.message.inside.rest ≡ c.args.message.rest = ap (λ z. z.rest) c.message.view_is in
     not_stop _ (λ e. c.if-is_last.ensures (seen ∙ sym c.line_left-rest.ensures.line ∙ e))
 
 pub part_left-requires : goal.part_left-requires
 part_left-requires c =
-    let seen : rest_seen c.message.inside.rest ≡ c.args.message.rest = search rules in
+    let seen : rest_seen c.message.inside.rest ≡ c.args.message.rest = ap (λ z. z.rest) c.message.view_is in
     sym seen ∙ c.if-is_last.ensures
 
 pub returns-then-is_last : goal.returns-then-is_last
 returns-then-is_last c =
-    let seen : rest_seen c.message.inside.rest ≡ c.args.message.rest = search rules in
+    let seen : rest_seen c.message.inside.rest ≡ c.args.message.rest = ap (λ z. z.rest) c.message.view_is in
     c.in_ok-todo_of.ensures
     ∙ ended_last c.args.message c.args.outcome.now _ _ _ (sym seen ∙ c.if-is_last.ensures) c.new.ensures.items c.in_ok-messages.ensures c.part_left.ensures
 
 pub behind-requires-clause-rest : goal.behind-requires-clause-rest
 behind-requires-clause-rest c =
-    let fit : fits c.args.message ≡ true = search rules in
+    let fit : fits c.args.message ≡ true = sym (ap fits c.message.view_is) ∙ c.message.invariant.0 in
     rest_stands c.args.message (p_line_view c.line_left-rest.result.0) fit (sym c.line_left-rest.ensures.line) (follows c)
 
 pub behind-requires-clause-follows : goal.behind-requires-clause-follows
@@ -42,12 +41,12 @@ behind-requires-clause-texts c =
 
 pub behind-requires-clause-task : goal.behind-requires-clause-task
 behind-requires-clause-task c =
-    let fit : fits c.args.message ≡ true = search rules in
-    let task : c.message.inside.task ≡ number_of c.args.message.own = search rules in
+    let fit : fits c.args.message ≡ true = sym (ap fits c.message.view_is) ∙ c.message.invariant.0 in
+    let task : c.message.inside.task ≡ number_of c.args.message.own = ap (λ z. number_of z.own) c.message.view_is in
     ap is_task_number task ∙ (own_stepped c.args.message fit).numbered
 
 pub returns : goal.returns
 returns c =
-    let fit : fits c.args.message ≡ true = search rules in
-    let task : c.message.inside.task ≡ number_of c.args.message.own = search rules in
+    let fit : fits c.args.message ≡ true = sym (ap fits c.message.view_is) ∙ c.message.invariant.0 in
+    let task : c.message.inside.task ≡ number_of c.args.message.own = ap (λ z. number_of z.own) c.message.view_is in
     c.in_ok-behind.ensures c.args.message fit (sym c.line_left-rest.ensures.line) (sym task) c.in_ok-messages.ensures

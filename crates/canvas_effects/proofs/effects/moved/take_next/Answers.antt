@@ -1,4 +1,4 @@
-use Rattle.std.proofs.Common.{◌≡◌, ◌∙◌, false, true, None, ap, sym, rules}
+use Rattle.std.proofs.Common.{◌≡◌, ◌∙◌, None, ap, sym, rules}
 use Rattle.std.specs.Prelude.{◌==◌}
 use Rattle.canvas_rewrite.specs.FrozenView.{p_task_view}
 use Rattle.canvas_semantics.specs.PlacedLine.{p_step}

@@ -1,4 +1,4 @@
-use Rattle.std.proofs.Common.{rules, ◌≡◌, ◌∙◌, ◌∷◌}
+use Rattle.std.proofs.Common.{◌≡◌, ◌∙◌, ◌∷◌}
 use Rattle.canvas_effects.proofs.Raised.{fault_chord, behind_first, behind_never}
 use Rattle.canvas_effects.proofs.effects.raised.+fault.Goals as goal
 
@@ -9,10 +9,10 @@ fault_at_tail-returns-in-Some t c =
 
 pub fault_behind-returns-in-Some-last_task : goal.fault_behind-returns-in-Some-last_task
 fault_behind-returns-in-Some-last_task t c =
-    let split : c.args.members.now ≡ c.in-Some.member.now ∷ c.in-Some._others.now = search rules in
+    let split : c.args.members.now ≡ c.in-Some.member.now ∷ c.in-Some._others.now = c.in-Some.ensures.cases.0 in
     behind_first c.args.fault.now _ c.args.members.now _ c.in-Some.member.now c.in-Some-last_task.last.now _ split c.in-Some-last_task.ensures c.fault_at_end.ensures c.why_of.ensures
 
 pub fault_behind-returns-in-None-last_task : goal.fault_behind-returns-in-None-last_task
 fault_behind-returns-in-None-last_task t c =
-    let split : c.args.members.now ≡ c.in-Some.member.now ∷ c.in-Some._others.now = search rules in
+    let split : c.args.members.now ≡ c.in-Some.member.now ∷ c.in-Some._others.now = c.in-Some.ensures.cases.0 in
     absurd (behind_never c.args.members.now _ c.in-Some.member.now split c.requires c.in-None-last_task.ensures)

@@ -1,4 +1,4 @@
-use Rattle.std.proofs.Common.{rules, ◌≡◌, ◌∙◌, ◌∷◌, ◌++◌, map, refl, ap}
+use Rattle.std.proofs.Common.{◌≡◌, ◌∙◌, ◌∷◌, ◌++◌, map, refl, ap}
 use Rattle.canvas_rewrite.specs.FrozenView.{p_line_view}
 use Rattle.canvas_effects.specs.steps.Walks.{raised_stores, all_raised_stores, raised_messages, all_raised_messages}
 use Rattle.canvas_rewrite.proofs.PlanLines.{ok_same}
@@ -6,20 +6,24 @@ use Rattle.canvas_effects.proofs.Raised.{first_there, raised_on, first_messages,
 use Rattle.canvas_effects.proofs.Walked.{joined, put_on, put_all, whole_on}
 use Rattle.canvas_effects.proofs.effects.raised.+raise.Goals as goal
 
+pub raise_line-raise_task-requires-clause-number : goal.raise_line-raise_task-requires-clause-number
+raise_line-raise_task-requires-clause-number t c =
+    (first_there c.args.line.now _ _ c.in-Some.first.now (c.deref.ensures.value ∙ c.get.ensures) c.in-Some.ensures.cases.0 c.requires).numbered
+
 pub raise_line-raise_task-requires-clause-callbacks : goal.raise_line-raise_task-requires-clause-callbacks
 raise_line-raise_task-requires-clause-callbacks t c =
-    let split : c.deref.result.now ≡ c.in-Some.first.now ∷ c.in-Some.others.now = search rules in
+    let split : c.deref.result.now ≡ c.in-Some.first.now ∷ c.in-Some.others.now = c.in-Some.ensures.cases.0 in
     (first_there c.args.line.now _ _ c.in-Some.first.now (c.deref.ensures.value ∙ c.get.ensures) split c.requires).called_back
 
 pub raise_line-returns-in_ok-raise_task-in-Some-clause-stores : goal.raise_line-returns-in_ok-raise_task-in-Some-clause-stores
 raise_line-returns-in_ok-raise_task-in-Some-clause-stores t c =
-    let split : c.deref.result.now ≡ c.in-Some.first.now ∷ c.in-Some.others.now = search rules in
+    let split : c.deref.result.now ≡ c.in-Some.first.now ∷ c.in-Some.others.now = c.in-Some.ensures.cases.0 in
     ok_same _ _ _ _ (raised_on c.args.fault.now c.args.line.now _ c.in-Some.others.now c.in-Some.first.now c.args.stores.now.items _
     (c.deref.ensures.value ∙ c.get.ensures) split c.in_ok-raise_task-in-Some.ensures.stores) c.skip_rest.ensures
 
 pub raise_line-returns-in_ok-raise_task-in-Some-clause-messages : goal.raise_line-returns-in_ok-raise_task-in-Some-clause-messages
 raise_line-returns-in_ok-raise_task-in-Some-clause-messages t c =
-    let split : c.deref.result.now ≡ c.in-Some.first.now ∷ c.in-Some.others.now = search rules in
+    let split : c.deref.result.now ≡ c.in-Some.first.now ∷ c.in-Some.others.now = c.in-Some.ensures.cases.0 in
     ok_there c.skip_rest.result _ _
     (first_messages c.args.fault.now c.args.line.now _ _ c.in-Some.first.now _ _
     (c.deref.ensures.value ∙ c.get.ensures) split c.in_ok-raise_task-in-Some.ensures.messages)
