@@ -13,31 +13,21 @@ use canvas_celery::Run;
 use canvas_rewrite::Plan;
 use canvas_task::{ListOf, Outcome, TaskNo};
 use std::alloc::Global;
-use std::error::Error;
-use std::fmt;
+use thiserror::Error;
 
 /// Why the results are none of a plan's run.
-#[derive(Clone, Copy, Debug, Drop, PartialEq, Eq)]
+#[derive(Clone, Copy, Debug, Drop, PartialEq, Eq, Error)]
 pub enum CollectFault {
     /// Fewer or more lines than tasks.
+    #[error("BadCount")]
     BadCount,
     /// A task's result is refused.
+    #[error("{fault}")]
     Stored { task: TaskNo, fault: StoredFault },
     /// A growth was refused.
+    #[error("memory refused")]
     Memory,
 }
-
-impl fmt::Display for CollectFault {
-    fn fmt<W: fmt::Write>(&self, f: &mut fmt::Formatter<W>) -> fmt::Result {
-        match self {
-            CollectFault::BadCount => f.write_str("BadCount"),
-            CollectFault::Stored { fault, .. } => fmt::Display::fmt(fault, f),
-            CollectFault::Memory => f.write_str("memory refused"),
-        }
-    }
-}
-
-impl Error for CollectFault {}
 
 /// The row of a task's line, put behind the others.
 fn push_row(

@@ -27,43 +27,33 @@ use canvas_rewrite::Plan;
 use canvas_task::{Fault, Kind, Outcome, TaskNo, Why, in_range};
 use serde_json::Value;
 use std::alloc::Global;
-use std::error::Error;
-use std::fmt;
+use thiserror::Error;
 
 /// Why a stored result is none of the plan's task.
-#[derive(Clone, Copy, Debug, Drop, PartialEq, Eq)]
+#[derive(Clone, Copy, Debug, Drop, PartialEq, Eq, Error)]
 pub enum StoredFault {
     /// No JSON text in UTF-8, as where another serializer, or compression, is set.
+    #[error("NotJson")]
     NotJson,
     /// Another task's, or of another run.
+    #[error("OtherTask")]
     OtherTask,
     /// A state beside PENDING, RECEIVED, STARTED, RETRY, SUCCESS and FAILURE.
+    #[error("UnknownState")]
     UnknownState,
     /// Of a success: no whole number from -2^60 to 2^60.
+    #[error("NotNumber")]
     NotNumber,
     /// Of a failure: an exception that is none of the built-in tasks'.
+    #[error("UnknownException")]
     UnknownException,
     /// A ChordError that names no task of the run.
+    #[error("UnknownDependency")]
     UnknownDependency,
     /// A growth was refused.
+    #[error("memory refused")]
     Memory,
 }
-
-impl fmt::Display for StoredFault {
-    fn fmt<W: fmt::Write>(&self, f: &mut fmt::Formatter<W>) -> fmt::Result {
-        f.write_str(match self {
-            StoredFault::NotJson => "NotJson",
-            StoredFault::OtherTask => "OtherTask",
-            StoredFault::UnknownState => "UnknownState",
-            StoredFault::NotNumber => "NotNumber",
-            StoredFault::UnknownException => "UnknownException",
-            StoredFault::UnknownDependency => "UnknownDependency",
-            StoredFault::Memory => "memory refused",
-        })
-    }
-}
-
-impl Error for StoredFault {}
 
 /// The text of a value, empty where it is none.
 pub(crate) fn text_in(found: Option<&Value>) -> &str
