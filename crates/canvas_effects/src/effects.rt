@@ -60,19 +60,26 @@ pub fn after(alloc: Global, message: &Message, outcome: &Outcome) -> Result<Todo
     requires { IsInRange outcome.now }
     ensures { IfOk result (λ todo. todo_view todo ≡ after message.now outcome.now) }
 {
+    Ok(todo_after(alloc, message, outcome)?)
+}
+
+fn todo_after(alloc: Global, message: &Message, outcome: &Outcome) -> Result<Todo, AllocError>
+    requires { IsInRange outcome.now }
+    ensures { IfOk result (λ todo. todo_view todo ≡ after message.now outcome.now) }
+{
     let messages = called_back(alloc, message, outcome)?;
     match following(&message.rest) {
         Some(rest) => match outcome {
             Outcome::Success(_) => {
                 let texts = texts_of(share_text(&message.texts.carried)?);
                 let rest = copy_line(alloc, rest)?;
-                Ok(behind(alloc, rest, texts, message.task, outcome, messages)?)
+                behind(alloc, rest, texts, message.task, outcome, messages)
             }
-            Outcome::Failure(fault) => Ok(skipped_behind(alloc, rest, fault, messages)?),
+            Outcome::Failure(fault) => skipped_behind(alloc, rest, fault, messages),
         },
         None => {
             let part = part_of(&message.place, message.task)?;
-            Ok(todo_of(Vec::new(alloc), messages, part)?)
+            todo_of(Vec::new(alloc), messages, part)
         }
     }
 }

@@ -38,13 +38,20 @@ pub fn into_todo(alloc: Global, message: Message, outcome: &Outcome) -> Result<T
     requires { IsInRange outcome.now }
     ensures { IfOk result (λ todo. todo_view todo ≡ after message outcome.now) }
 {
+    Ok(given_up(alloc, message, outcome)?)
+}
+
+fn given_up(alloc: Global, message: Message, outcome: &Outcome) -> Result<Todo, AllocError>
+    requires { IsInRange outcome.now }
+    ensures { IfOk result (λ todo. todo_view todo ≡ after message outcome.now) }
+{
     let task = message.task;
     let messages = called_back(alloc, &message, outcome)?;
     if is_last(&message.rest) {
-        return Ok(todo_of(Vec::new(alloc), messages, part_left(message))?);
+        return todo_of(Vec::new(alloc), messages, part_left(message));
     }
     let (rest, texts) = line_left(alloc, message);
-    Ok(behind(alloc, rest, texts, task, outcome, messages)?)
+    behind(alloc, rest, texts, task, outcome, messages)
 }
 
 /// Whether a task comes first on a line.

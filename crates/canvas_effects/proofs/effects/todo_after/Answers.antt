@@ -1,4 +1,5 @@
 use Rattle.std.proofs.Common.{◌≡◌, ◌∙◌, true, sym, ap, ap₂, refl}
+use Rattle.std.proofs.lemmas.Result.{IfOk-weaker}
 use Rattle.canvas_rewrite.specs.FrozenView.{p_line_view}
 use Rattle.canvas_semantics.specs.PlacedLine.{PPlace, p_nowhere, p_stop}
 use Rattle.canvas_message.specs.Content.{number_of, links_of, errbacks_of, place_of}
@@ -10,7 +11,7 @@ use Rattle.canvas_effects.specs.Carrying.{is_whole}
 use Rattle.canvas_effects.specs.Effects.{after, called, messages_in, part_in, part_of}
 use Rattle.canvas_effects.proofs.Ended.{rest_stands, failed, ended_last, own_stepped}
 use Rattle.canvas_effects.proofs.Sharing.{of_shared, of_same, place_at_end}
-use Rattle.canvas_effects.proofs.effects.after.Goals as goal
+use Rattle.canvas_effects.proofs.effects.todo_after.Goals as goal
 
 pub behind-requires-clause-rest : goal.behind-requires-clause-rest
 behind-requires-clause-rest c =
@@ -46,30 +47,34 @@ skipped_behind-requires c =
     let rest : c.args.message.now.rest ≡ p_line_view c.in-Some.rest.now = sym (ap (λ z. z.rest) c.message.view_is) ∙ c.in-Some.ensures.0 in
     rest_stands c.args.message.now (p_line_view c.in-Some.rest.now) whole rest c.in-Some.ensures.1
 
-pub returns-in_ok-behind-in-Success : goal.returns-in_ok-behind-in-Success
-returns-in_ok-behind-in-Success c =
+pub returns-in_ok-rest-in-Success : goal.returns-in_ok-rest-in-Success
+returns-in_ok-rest-in-Success c =
     let m = c.args.message.now in
     let whole : fits m ≡ true = sym (ap fits c.message.view_is) ∙ c.message.invariant.0 in
     let rest : m.rest ≡ p_line_view c.in-Some.rest.now = sym (ap (λ z. z.rest) c.message.view_is) ∙ c.in-Some.ensures.0 in
     let task : c.message.inside.task ≡ number_of m.own = ap (λ z. number_of z.own) c.message.view_is in
-    c.in_ok-behind-in-Success.ensures m whole (rest ∙ sym c.in_ok-rest-in-Success.ensures) (sym task) c.in_ok-messages.ensures
+    IfOk-weaker c.behind.result _ _ (λ todo is. is m whole (rest ∙ sym c.in_ok-rest-in-Success.ensures) (sym task) c.in_ok-messages.ensures) c.behind.ensures
 
-pub returns-in_ok-skipped_behind-in-Failure : goal.returns-in_ok-skipped_behind-in-Failure
-returns-in_ok-skipped_behind-in-Failure c =
+pub returns-in-Failure : goal.returns-in-Failure
+returns-in-Failure c =
     let m = c.args.message.now in
     let whole : fits m ≡ true = sym (ap fits c.message.view_is) ∙ c.message.invariant.0 in
     let rest : m.rest ≡ p_line_view c.in-Some.rest.now = sym (ap (λ z. z.rest) c.message.view_is) ∙ c.in-Some.ensures.0 in
-    c.in_ok-skipped_behind-in-Failure.ensures
+    IfOk-weaker c.skipped_behind.result _ _
+    (λ todo is. is
     ∙ failed m (p_line_view c.in-Some.rest.now) c.in-Failure.fault _ _ _ _ whole rest c.in-Some.ensures.1 refl refl
     (c.in_ok-messages.ensures ∙ ap (λ o. messages_in (called (links_of m.own) (errbacks_of m.own) (number_of m.own) o)) c.in-Failure.is) refl
-    ∙ ap (after m) (sym c.in-Failure.is)
+    ∙ ap (after m) (sym c.in-Failure.is))
+    c.skipped_behind.ensures
 
-pub returns-in_ok-todo_of-in-None : goal.returns-in_ok-todo_of-in-None
-returns-in_ok-todo_of-in-None c =
+pub returns-in_ok-part-in-None : goal.returns-in_ok-part-in-None
+returns-in_ok-part-in-None c =
     let m = c.args.message.now in
     let rest : m.rest ≡ p_stop = sym (ap (λ z. z.rest) c.message.view_is) ∙ c.in-None.ensures in
     let task : c.message.inside.task ≡ number_of m.own = ap (λ z. number_of z.own) c.message.view_is in
     let place : place_seen c.message.inside.place ≡ place_of m.own = ap (λ z. place_of z.own) c.message.view_is in
-    c.in_ok-todo_of-in-None.ensures
+    IfOk-weaker c.todo_of.result _ _
+    (λ todo is. is
     ∙ ended_last m c.args.outcome.now _ _ _ rest c.new.ensures.items c.in_ok-messages.ensures
-    (c.in_ok-part-in-None.ensures ∙ ap₂ (λ q k. part_in (part_of q k)) place task)
+    (c.in_ok-part-in-None.ensures ∙ ap₂ (λ q k. part_in (part_of q k)) place task))
+    c.todo_of.ensures

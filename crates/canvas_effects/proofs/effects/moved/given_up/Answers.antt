@@ -1,4 +1,5 @@
 use Rattle.std.proofs.Common.{◌≡◌, ◌∙◌, true, false, sym, ap}
+use Rattle.std.proofs.lemmas.Result.{IfOk-weaker}
 use Rattle.canvas_rewrite.specs.FrozenView.{p_line_view}
 use Rattle.canvas_message.specs.Content.{number_of, place_of}
 use Rattle.canvas_message.specs.Fits.{fits, is_task_number}
@@ -7,7 +8,7 @@ use Rattle.canvas_message.specs.steps.Parts.{is_stop}
 use Rattle.canvas_effects.proofs.Begun.{not_stop}
 use Rattle.canvas_effects.proofs.Ended.{ended_last, own_stepped, rest_stands}
 use Rattle.canvas_effects.proofs.Sharing.{anywhere}
-use Rattle.canvas_effects.proofs.effects.moved.into_todo.Goals as goal
+use Rattle.canvas_effects.proofs.effects.moved.given_up.Goals as goal
 
 -- where something follows
 follows : (c : goal.After-line_left-rest) → is_stop (p_line_view c.line_left-rest.result.0) ≡ false
@@ -23,8 +24,10 @@ part_left-requires c =
 pub returns-then-is_last : goal.returns-then-is_last
 returns-then-is_last c =
     let seen : rest_seen c.message.inside.rest ≡ c.args.message.rest = ap (λ z. z.rest) c.message.view_is in
-    c.in_ok-todo_of.ensures
-    ∙ ended_last c.args.message c.args.outcome.now _ _ _ (sym seen ∙ c.if-is_last.ensures) c.new.ensures.items c.in_ok-messages.ensures c.part_left.ensures
+    IfOk-weaker c.todo_of.result _ _
+    (λ todo is. is
+    ∙ ended_last c.args.message c.args.outcome.now _ _ _ (sym seen ∙ c.if-is_last.ensures) c.new.ensures.items c.in_ok-messages.ensures c.part_left.ensures)
+    c.todo_of.ensures
 
 pub behind-requires-clause-rest : goal.behind-requires-clause-rest
 behind-requires-clause-rest c =
@@ -49,4 +52,4 @@ pub returns : goal.returns
 returns c =
     let fit : fits c.args.message ≡ true = sym (ap fits c.message.view_is) ∙ c.message.invariant.0 in
     let task : c.message.inside.task ≡ number_of c.args.message.own = ap (λ z. number_of z.own) c.message.view_is in
-    c.in_ok-behind.ensures c.args.message fit (sym c.line_left-rest.ensures.line) (sym task) c.in_ok-messages.ensures
+    IfOk-weaker c.behind.result _ _ (λ todo is. is c.args.message fit (sym c.line_left-rest.ensures.line) (sym task) c.in_ok-messages.ensures) c.behind.ensures
