@@ -8,7 +8,7 @@ use std::alloc::{AllocError, Global};
 use std::sync::Arc;
 
 /// What stands around a text in another.
-#[derive(Debug, Drop)]
+#[derive(Drop)]
 pub struct Ring {
     /// What stands before it.
     pub before: Arc<String>,
@@ -18,7 +18,7 @@ pub struct Ring {
 
 /// The text of a carried body. Where the end of the body carries a body too, the text of that one
 /// stands in it, and is shared: a ring stands around it.
-#[derive(Debug, Drop)]
+#[derive(Drop)]
 pub struct CarriedText {
     /// What stands around the core, the outermost ring first.
     pub rings: Vec<Ring>,
@@ -27,6 +27,15 @@ pub struct CarriedText {
 }
 
 impl Ring {
+    fn of(alloc: Global, before: String, behind: String) -> Result<Ring, AllocError>
+        ensures { IfOk result (λ r. ring_view r ≡ (string_bytes before, string_bytes behind)) }
+    {
+        Ok(Ring {
+            before: Arc::new(alloc, before)?,
+            behind: Arc::new(alloc, behind)?,
+        })
+    }
+
     fn share(&self) -> Result<Ring, AllocError>
         ensures { IfOk result (λ r. ring_view r ≡ ring_view self.now) }
     {
@@ -87,6 +96,21 @@ impl CarriedText {
         })
     }
 
+    /// The core with these rings around it, and within them shared ones.
+    fn within(
+        outer: Vec<Ring>,
+        rings: &[Ring],
+        core: &Arc<String>,
+    ) -> Result<CarriedText, AllocError>
+        ensures rings { IfOk result (λ t.
+            rings_of t ≡ map ring_view outer.items ++ map ring_view rings.now) }
+        ensures core { IfOk result (λ t. core_of t ≡ string_bytes core.now.value) }
+    {
+        let core = Arc::try_clone(core)?;
+        let rings = share_rings(outer, rings)?;
+        Ok(CarriedText { rings, core })
+    }
+
     /// A text in which another stands, which the two share.
     pub fn around(
         alloc: Global,
@@ -98,13 +122,10 @@ impl CarriedText {
             ≡ (string_bytes before, string_bytes behind) ∷ rings_of inner.now) }
         ensures core { IfOk result (λ t. core_of t ≡ core_of inner.now) }
     {
-        let before = Arc::new(alloc, before)?;
-        let behind = Arc::new(alloc, behind)?;
+        let ring = Ring::of(alloc, before, behind)?;
         let mut rings = Vec::with_capacity(alloc, inner.rings.len().saturating_add(1))?;
-        rings.push(Ring { before, behind })?;
-        let rings = share_rings(rings, &inner.rings)?;
-        let core = Arc::try_clone(&inner.core)?;
-        Ok(CarriedText { rings, core })
+        rings.push(ring)?;
+        CarriedText::within(rings, &inner.rings, &inner.core)
     }
 
     /// The text that stands in it, where one does: that of the body that the end of the body
@@ -115,9 +136,9 @@ impl CarriedText {
     {
         match self.rings.split_first() {
             Some((_outer, others)) => {
-                let rings = share_rings(Vec::with_capacity(alloc, others.len())?, others)?;
-                let core = Arc::try_clone(&self.core)?;
-                Ok(Some(Arc::new(alloc, CarriedText { rings, core })?))
+                let rings = Vec::with_capacity(alloc, others.len())?;
+                let text = CarriedText::within(rings, others, &self.core)?;
+                Ok(Some(Arc::new(alloc, text)?))
             }
             None => Ok(None),
         }

@@ -10,7 +10,7 @@ use std::alloc::{AllocError, Global};
 use std::sync::Arc;
 
 /// The text of a line's elements, up to the end of one of them.
-#[derive(Debug, Drop)]
+#[derive(Drop)]
 pub struct LinePiece {
     /// The text that the messages of the line share.
     pub text: Arc<ElementsText>,
@@ -19,7 +19,7 @@ pub struct LinePiece {
 }
 
 /// A text that several bodies hold.
-#[derive(Debug, Drop)]
+#[derive(Drop)]
 pub enum Piece {
     /// Of the body that a place carries.
     Carried(Arc<CarriedText>),
@@ -29,7 +29,7 @@ pub enum Piece {
 
 /// An envelope whose body is the front, then the shared piece, then the back. What isn't shared
 /// stands in one text as far as it can, which is one piece of memory.
-#[derive(Debug, Drop)]
+#[derive(Drop)]
 pub struct Pieces {
     /// The front of the body, then the properties, then the headers. Where nothing is shared the
     /// front is all of the body.
@@ -219,7 +219,7 @@ impl Pieces {
 }
 
 /// An envelope that came from elsewhere, or one in pieces.
-#[derive(Debug, Drop)]
+#[derive(Drop)]
 pub(crate) enum Sheets {
     /// Three texts.
     Whole(Envelope),

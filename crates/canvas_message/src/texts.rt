@@ -8,7 +8,7 @@ use std::alloc::AllocError;
 use std::sync::Arc;
 
 /// The front of a text, up to and with another that it shares.
-#[derive(Debug, Drop)]
+#[derive(Drop)]
 pub struct Head {
     /// What stands before the other.
     pub before: String,
@@ -18,7 +18,7 @@ pub struct Head {
 
 /// The elements of a line, its last element first, with a comma between two. The last element may
 /// hold the text of a carried body.
-#[derive(Debug, Drop)]
+#[derive(Drop)]
 pub struct ElementsText {
     /// The text up to and with that of the carried body, where it is shared.
     pub head: Option<Head>,

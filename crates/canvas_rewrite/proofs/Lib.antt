@@ -1,4 +1,5 @@
 pub mod Lines
+pub mod MappedLists
 pub mod FrozenViews
 pub mod FrozenLines
 pub mod FrozenMade

@@ -24,6 +24,9 @@ seen old new places name more ends inside =
     one_more new places name ends ∙ ap (λ ts. texts_at ts places ++ name ∷ []) more.1
     ∙ ap (λ ns. ns ++ name ∷ []) (with_more old more.0 places inside)
 
+pub inside_more : (old new : List (List ℕ)) (places : List ℕ) → Extends old new → All (λ i. i < length old) places → All (λ i. i < length new) places
+inside_more old new places more inside = subst (λ ts. All (λ i. i < length ts) places) (sym more.1) (still_inside old more.0 places inside)
+
 single : (P : ℕ → Type 0) (n : ℕ) → P n → All P (n ∷ [])
 single P n p k d lt =
     let first : k ≡ 0 = omega (arith, lt) in
@@ -36,8 +39,7 @@ one_inside texts places n low inside = All-append (λ i. i < length texts) place
 pub all_inside : (old new : List (List ℕ)) (places : List ℕ) (name : List ℕ) → Extends old new → EndsIn new name → All (λ i. i < length old) places
     → All (λ i. i < length new) (places ++ (length new - 1) ∷ [])
 all_inside old new places name more ends inside =
-    let all = subst (λ ts. All (λ i. i < length ts) places) (sym more.1) (still_inside old more.0 places inside) in
-    one_inside new places (length new - 1) (omega (arith, ends.0)) all
+    one_inside new places (length new - 1) (omega (arith, ends.0)) (inside_more old new places more inside)
 
 at_end : (texts : List (List ℕ)) (name : List ℕ) → get_or (texts ++ name ∷ []) (length texts) [] ≡ name
 at_end [] name = refl

@@ -1,4 +1,6 @@
+pub mod Walked
 pub mod Views
+pub mod Nodes
 mod Rules
 pub mod Inputs
 pub mod Blames
