@@ -18,8 +18,6 @@ mod plans;
 #[cfg(test)]
 mod queues;
 #[cfg(test)]
-mod reading;
-#[cfg(test)]
 mod registries;
 #[cfg(test)]
 mod runs;

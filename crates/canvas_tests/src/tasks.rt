@@ -1,10 +1,10 @@
-//! Numbers, names, texts and the built-in tasks.
+//! Numbers, names and texts.
 
 ghost use Rattle.std.specs.Prelude.{◌≡◌, ◌≤◌};
 
 use canvas_task::{
-    AddFault, Arg, Fault, GroupNo, Kind, ListOf, Memory, Outcome, TaskNo, Why, apply,
-    group_of_text, group_text, name_ok, outcome_of, task_of_text, task_text, word_of,
+    AddFault, Arg, Fault, GroupNo, Kind, ListOf, Memory, Outcome, TaskNo, Why, group_of_text,
+    group_text, name_ok, outcome_of, task_of_text, task_text, word_of,
 };
 use std::alloc::{AllocError, Global};
 use std::collections::BTreeMap;
@@ -44,136 +44,12 @@ pub(crate) fn named(
     Ok(kwargs)
 }
 
-/// What a task answers to two numbers at most.
-fn answer(name: &str, numbers: &[i64], kwargs: &BTreeMap<String, Arg>) -> Outcome {
-    match numbers {
-        [] => apply(name, &[], kwargs),
-        [x] => apply(name, &[Arg::Num(*x)], kwargs),
-        [x, y, ..] => apply(name, &[Arg::Num(*x), Arg::Num(*y)], kwargs),
-    }
-}
-
 /// The outcome of a call that answers so.
 fn outcome(answer: Result<i64, Kind>) -> Outcome {
     match answer {
         Ok(number) => Outcome::Success(number),
         Err(kind) => Outcome::Failure(Fault::Plain(kind)),
     }
-}
-
-/// A task, numbers, and what it answers to them.
-type Call = (&'static str, &'static [i64], Result<i64, Kind>);
-
-static CALLS: [Call; 22] = [
-    ("tasks.add", &[4, 4], Ok(8)),
-    ("tasks.add", &[1], Err(Kind::BadCall)),
-    ("tasks.mul", &[BOUND, 2], Err(Kind::Overflow)),
-    ("tasks.mul", &[BOUND, 1], Ok(BOUND)),
-    ("tasks.ident", &[1, 1], Err(Kind::BadCall)),
-    ("tasks.ident", &[BOUND], Ok(BOUND)),
-    ("tasks.ident", &[BOUND + 1], Err(Kind::Overflow)),
-    ("tasks.nope", &[], Err(Kind::NotRegistered)),
-    ("tasks.div", &[7, 2], Ok(3)),
-    ("tasks.div", &[-7, 2], Ok(-4)),
-    ("tasks.div", &[7, -2], Ok(-4)),
-    ("tasks.div", &[-7, -2], Ok(3)),
-    ("tasks.div", &[6, 2], Ok(3)),
-    ("tasks.div", &[-6, 2], Ok(-3)),
-    ("tasks.div", &[6, -2], Ok(-3)),
-    ("tasks.div", &[-6, -2], Ok(3)),
-    ("tasks.div", &[0, -5], Ok(0)),
-    ("tasks.div", &[1, 3], Ok(0)),
-    ("tasks.div", &[-1, 3], Ok(-1)),
-    ("tasks.div", &[1, -3], Ok(-1)),
-    ("tasks.div", &[-1, -3], Ok(0)),
-    ("tasks.div", &[1, 0], Err(Kind::ZeroDivision)),
-];
-
-/// The first call that is answered by something else.
-fn first_wrong_call(kwargs: &BTreeMap<String, Arg>) -> Option<(&'static str, &'static [i64])> {
-    for (name, numbers, wanted) in &CALLS {
-        if answer(name, numbers, kwargs) != outcome(*wanted) {
-            return Some((*name, *numbers));
-        }
-    }
-    None
-}
-
-/// Quotients are rounded down.
-#[test]
-fn calls_of_tasks(rt: HostRuntime) {
-    let wrong = first_wrong_call(&BTreeMap::new(rt.alloc()));
-    assert!(rt; wrong.is_none(), "{wrong:?}");
-}
-
-/// What the sum of 1 and a named 2 is.
-fn of_named(alloc: Global, name: &str) -> Option<Outcome> {
-    match named(alloc, name, 2) {
-        Ok(kwargs) => Some(answer("tasks.add", &[1], &kwargs)),
-        Err(_) => None,
-    }
-}
-
-static NAMED: [(&str, Result<i64, Kind>); 3] = [
-    ("x", Err(Kind::BadCall)),
-    ("y", Ok(3)),
-    ("z", Err(Kind::BadCall)),
-];
-
-/// The first of these names with which the sum is another.
-fn first_wrong_name(alloc: Global) -> Option<&'static str> {
-    for (name, wanted) in &NAMED {
-        if of_named(alloc, name) != Some(outcome(*wanted)) {
-            return Some(*name);
-        }
-    }
-    None
-}
-
-#[test]
-fn named_arguments(rt: HostRuntime) {
-    let wrong = first_wrong_name(rt.alloc());
-    assert!(rt; wrong.is_none(), "{wrong:?}");
-}
-
-/// What the sum of a list is.
-fn sum_of(alloc: Global, numbers: &[i64]) -> Option<Outcome> {
-    match list(alloc, numbers) {
-        Ok(list) => Some(apply("tasks.xsum", &[list], &BTreeMap::new(alloc))),
-        Err(_) => None,
-    }
-}
-
-/// The same where a number is behind the list.
-fn sum_in_front(alloc: Global, numbers: &[i64]) -> Option<Outcome> {
-    match list(alloc, numbers) {
-        Ok(list) => Some(apply("tasks.xsum", &[list, Arg::Num(3)], &BTreeMap::new(alloc))),
-        Err(_) => None,
-    }
-}
-
-static SUMS: [(&[i64], Result<i64, Kind>); 4] = [
-    (&[], Ok(0)),
-    (&[BOUND, BOUND, 1, -BOUND], Err(Kind::Overflow)),
-    (&[BOUND, BOUND, -1, -BOUND], Ok(BOUND - 1)),
-    (&[i64::MAX, i64::MAX, i64::MIN, i64::MIN, 5], Ok(3)),
-];
-
-/// The first of these lists whose sum is another.
-fn first_wrong_sum(alloc: Global) -> Option<&'static [i64]> {
-    for (numbers, wanted) in &SUMS {
-        if sum_of(alloc, numbers) != Some(outcome(*wanted)) {
-            return Some(*numbers);
-        }
-    }
-    None
-}
-
-#[test]
-fn only_the_last_sum_counts(rt: HostRuntime) {
-    let wrong = first_wrong_sum(rt.alloc());
-    assert!(rt; wrong.is_none(), "{wrong:?}");
-    assert!(rt; sum_in_front(rt.alloc(), &[1, 2]) == Some(BAD_CALL));
 }
 
 const TEN: &str = "00000000-0000-8000-8000-00000000000a";
@@ -293,31 +169,6 @@ fn prints<D: Display>(alloc: Global, said: &D, text: &str) -> bool {
     }
 }
 
-static WHYS: [(Why, &str); 3] = [
-    (
-        Why::Plain(Kind::BadCall),
-        "ChordError: Dependency 00000000-0000-8000-8000-00000000000a raised TypeError",
-    ),
-    (
-        Why::Plain(Kind::Overflow),
-        "ChordError: Dependency 00000000-0000-8000-8000-00000000000a raised OverflowError",
-    ),
-    (
-        Why::Chord,
-        "ChordError: Dependency 00000000-0000-8000-8000-00000000000a raised ChordError",
-    ),
-];
-
-/// The first of these texts that isn't that of what task 10 raised.
-fn first_wrong_chord(alloc: Global) -> Option<&'static str> {
-    for &(why, text) in &WHYS {
-        if !prints(alloc, &Fault::Chord { dep: task(10), why }, text) {
-            return Some(text);
-        }
-    }
-    None
-}
-
 static ADD_FAULTS: [(AddFault, &str); 3] = [
     (
         AddFault::BadName,
@@ -337,22 +188,11 @@ fn first_wrong_refusal(alloc: Global) -> Option<&'static str> {
     None
 }
 
-fn print_plainly(alloc: Global) -> bool {
-    prints(
-        alloc,
-        &Fault::Plain(Kind::ZeroDivision),
-        "ZeroDivisionError",
-    ) && prints(alloc, &Kind::NotRegistered, "NotRegistered")
-        && prints(alloc, &Memory, "memory refused")
-}
-
 #[test]
 fn texts(rt: HostRuntime) {
-    let wrong = first_wrong_chord(rt.alloc());
-    assert!(rt; wrong.is_none(), "{wrong:?}");
     let wrong = first_wrong_refusal(rt.alloc());
     assert!(rt; wrong.is_none(), "{wrong:?}");
-    assert!(rt; print_plainly(rt.alloc()));
+    assert!(rt; prints(rt.alloc(), &Memory, "memory refused"));
 }
 
 /// The first of these names that may be a task's, or may not.

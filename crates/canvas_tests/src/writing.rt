@@ -1,11 +1,10 @@
 //! Canvases and arguments that were composed, with their texts.
 
-use crate::reading::text_of;
 use crate::tasks::list;
 use canvas_samples::composed::calls;
 use canvas_samples::notation::is_written;
 use canvas_sig::{Canvas, Node, SigFault, TaskSig, write_arg, write_canvas};
-use canvas_task::{Arg, ListOf};
+use canvas_task::{Arg, ListOf, TextOf};
 use serde_json::Value;
 use std::alloc::{AllocError, Global};
 
@@ -70,6 +69,10 @@ fn is_made(alloc: Global, made: Result<Arg, AllocError>, text: &str) -> bool {
         Ok(arg) => is_value(alloc, &arg, text),
         Err(_) => false,
     }
+}
+
+fn text_of(alloc: Global, text: &str) -> Result<Arg, AllocError> {
+    Ok(Arg::Text(TextOf::of(String::from_str(alloc, text)?)))
 }
 
 #[test]
