@@ -90,19 +90,26 @@ pub(crate) fn callbacks_of<'a>(value: &Datum<'a>, name: &str) -> &'a [Datum<'a>]
     values_in(option_of(value, name))
 }
 
+/// Whether two values that hold no others are the same.
+fn is_same_leaf(one: &Datum<'_>, other: &Datum<'_>) -> bool {
+    match (one, other) {
+        (Datum::Null, Datum::Null) => true,
+        (Datum::Bool(one), Datum::Bool(other)) => one == other,
+        (Datum::Number(one), Datum::Number(other)) => one == other,
+        (Datum::Text(one), Datum::Text(other)) => one == other,
+        _ => false,
+    }
+}
+
 #[cycle(same)]
 fn is_same(one: &Datum<'_>, other: &Datum<'_>, left: u32) -> bool {
     if left == 0 {
         return false;
     }
     match (one, other) {
-        (Datum::Null, Datum::Null) => true,
-        (Datum::Bool(one), Datum::Bool(other)) => one == other,
-        (Datum::Number(one), Datum::Number(other)) => one == other,
-        (Datum::Text(one), Datum::Text(other)) => one == other,
         (Datum::List(one), Datum::List(other)) => are_same_items(one, other, left - 1),
         (Datum::Object(one), Datum::Object(other)) => are_same_members(one, other, left - 1),
-        _ => false,
+        _ => is_same_leaf(one, other),
     }
 }
 

@@ -24,7 +24,7 @@ pub fn of_frame(alloc: Global, frame: &str, calls: &str, report: &str) -> Result
 fn doubles(alloc: Global, count: u32) -> Result<String, Memory> {
     let mut calls = String::new(alloc);
     for i in 0..count {
-        calls.push_str(&format!(in alloc; "add:{i},{i} ")?)?;
+        write!(calls, "add:{i},{i} ")?;
     }
     Ok(calls)
 }
@@ -35,7 +35,7 @@ fn doubled(alloc: Global, count: u32, last: &str) -> Result<String, Memory> {
     for i in 0..count {
         let task = i.saturating_add(1);
         let double = i.saturating_mul(2);
-        short.push_str(&format!(in alloc; "#{task} tasks.add SUCCESS {double}\n")?)?;
+        writeln!(short, "#{task} tasks.add SUCCESS {double}")?;
     }
     short.push_str(last)?;
     Ok(short)
