@@ -6,7 +6,7 @@ use Rattle.std.proofs.lemmas.Map.Text.{is_eq-slice_cmp}
 use Rattle.std.proofs.lemmas.Slice.Eq.{bytes_eq-Decides}
 use Rattle.std.specs.Cmp.Lexicographic.{slice_cmp}
 use Rattle.std.specs.Ordering.{match_ordering, ordering_reverse}
-use Rattle.std.proofs.lemmas.List.{take_all, take_more, take-append-drop, length-append}
+use Rattle.std.proofs.lemmas.List.{take_more, take-append-drop}
 use Rattle.std.specs.BTreeMap.{insert_entry}
 use Rattle.json.specs.Token.{Token}
 use Rattle.json.specs.Json.{parse_map}
@@ -151,8 +151,5 @@ still_below (x ∷ es) e k h low = (h.0, still_below es e k h.1 low)
 -- ---- a stack
 
 -- what stands on it above where it began
-pub since_start : (now old found : List Named) (n : ℕ) → n ≡ length old → now ≡ old ++ found → take (length now - n) (drop n now) ≡ found
-since_start now old found n is stack =
-    let above : drop n now ≡ found = ap (λ k. drop k now) is ∙ ap (drop (length old)) stack ∙ drop-append_seam old found in
-    let all = ap length stack ∙ length-append old found in
-    ap (take (length now - n)) above ∙ take_all (length now - n) found (omega (arith, all, is))
+pub since_start : (now old found : List Named) (n : ℕ) → n ≡ length old → now ≡ old ++ found → drop n now ≡ found
+since_start now old found n is stack = ap (λ k. drop k now) is ∙ ap (drop (length old)) stack ∙ drop-append_seam old found
