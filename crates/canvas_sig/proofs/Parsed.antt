@@ -1,5 +1,5 @@
 -- Borrowed values, as they are read: a list that grows at its end, and members that go into a map.
-use Rattle.std.proofs.Common.{◌≡◌, ℕ, List, [], ◌∷◌, ◌++◌, Option, Some, None, Ordering, Less, Equal, Greater, nat_cmp, is_eq, Bool, true, false, bytes_eq, true≢false, Bor, refl, ap, sym, ◌∙◌, rules, zero, suc, ◌+◌, ◌-◌, ◌<◌, length, get_or, set, drop, take, arith}
+use Rattle.std.proofs.Common.{◌≡◌, ℕ, List, [], ◌∷◌, ◌++◌, Option, Some, None, Ordering, Less, Equal, Greater, nat_cmp, is_eq, Bool, true, false, bytes_eq, true≢false, Bor, refl, ap, sym, ◌∙◌, rules, zero, suc, ◌+◌, ◌<◌, length, get_or, set, drop, take, arith}
 use Rattle.std.proofs.Math.Seq.{drop-cons, drop-append_seam}
 use Rattle.std.proofs.lemmas.Cmp.{nat_list_cmp_total, tied_itself}
 use Rattle.std.proofs.lemmas.Map.Text.{is_eq-slice_cmp}
