@@ -1,12 +1,12 @@
 -- Borrowed values, as they are read: a list that grows at its end, and members that go into a map.
-use Rattle.std.proofs.Common.{◌≡◌, ℕ, List, [], ◌∷◌, ◌++◌, Option, Some, None, Ordering, Less, Equal, Greater, nat_cmp, is_eq, Bool, true, false, bytes_eq, true≢false, Bor, refl, ap, sym, ◌∙◌, rules, zero, suc, ◌+◌, ◌<◌, length, get_or, set, drop, take, arith}
+use Rattle.std.proofs.Common.{◌≡◌, ℕ, List, [], ◌∷◌, ◌++◌, Option, Some, None, Ordering, Less, Equal, Greater, nat_cmp, is_eq, Bool, true, false, bytes_eq, true≢false, Bor, refl, ap, sym, ◌∙◌, rules, zero, suc, ◌+◌, ◌-◌, ◌<◌, length, get_or, set, drop, take, arith}
 use Rattle.std.proofs.Math.Seq.{drop-cons, drop-append_seam}
 use Rattle.std.proofs.lemmas.Cmp.{nat_list_cmp_total, tied_itself}
 use Rattle.std.proofs.lemmas.Map.Text.{is_eq-slice_cmp}
 use Rattle.std.proofs.lemmas.Slice.Eq.{bytes_eq-Decides}
 use Rattle.std.specs.Cmp.Lexicographic.{slice_cmp}
 use Rattle.std.specs.Ordering.{match_ordering, ordering_reverse}
-use Rattle.std.proofs.lemmas.List.{take_more, take-append-drop}
+use Rattle.std.proofs.lemmas.List.{take_all, take_more, take-append-drop, length-append}
 use Rattle.std.specs.BTreeMap.{insert_entry}
 use Rattle.json.specs.Token.{Token}
 use Rattle.json.specs.Json.{parse_map}
@@ -151,5 +151,8 @@ still_below (x ∷ es) e k h low = (h.0, still_below es e k h.1 low)
 -- ---- a stack
 
 -- what stands on it above where it began
-pub since_start : (now old found : List Named) (n : ℕ) → n ≡ length old → now ≡ old ++ found → drop n now ≡ found
-since_start now old found n is stack = ap (λ k. drop k now) is ∙ ap (drop (length old)) stack ∙ drop-append_seam old found
+pub since_start : (now old found : List Named) (n : ℕ) → n ≡ length old → now ≡ old ++ found → take (length now - n) (drop n now) ≡ found
+since_start now old found n is stack =
+    let above : drop n now ≡ found = ap (λ k. drop k now) is ∙ ap (drop (length old)) stack ∙ drop-append_seam old found in
+    let all = ap length stack ∙ length-append old found in
+    ap (take (length now - n)) above ∙ take_all (length now - n) found (omega (arith, all, is))

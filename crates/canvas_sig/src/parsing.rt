@@ -1,6 +1,6 @@
 //! Parsing JSON (RFC 8259) into borrowed values.
 
-ghost use Rattle.std.specs.Prelude.{◌≡◌, ◌<◌, ◌≤◌, ◌∷◌, ◌++◌, [], length, take, drop, option_map, Some, None, Err, IfOk, OnOk};
+ghost use Rattle.std.specs.Prelude.{◌≡◌, ◌<◌, ◌≤◌, ◌∷◌, ◌++◌, [], length, option_map, Some, None, Err, IfOk, OnOk};
 ghost use Rattle.json.specs.Json.{value, items, members, parse_map};
 ghost use Rattle.json.specs.Reads.{token_of};
 ghost use Rattle.serde_json.specs.Data.{array, object, no_members};
@@ -9,7 +9,6 @@ ghost use Rattle.canvas_values.specs.Answers.{Gives};
 ghost use Rattle.canvas_values.specs.CanvasText.{json_of};
 ghost use Rattle.canvas_sig.specs.Datum.{view};
 ghost use Rattle.canvas_sig.specs.steps.Alone.{alone};
-ghost use Rattle.canvas_sig.specs.steps.Names.{put_all};
 ghost use Rattle.canvas_values.specs.steps.Reading.{json_reading};
 ghost use Rattle.canvas_values.specs.declared.fault.SigFault.TheVariants.{Memory};
 
@@ -141,24 +140,6 @@ fn read_items<'a>(
     Ok(Datum::List(into_bump_slice(found)))
 }
 
-/// The members that stand on the stack from a place on, in the order of their names. They are taken
-/// off it.
-fn take_members<'a>(
-    alloc: Global,
-    arena: &'a Bump,
-    stack: &mut Vec<(&'a str, Datum<'a>)>,
-    start: usize,
-) -> Result<Datum<'a>, AllocError>
-    requires { start ≤ length stack.now.items }
-    ensures members { IfOk result (λ v. view v
-        ≡ object (put_all (drop start stack.old.items) no_members)) }
-    ensures stack { OnOk result (stack.new.items ≡ take start stack.old.items) }
-{
-    let found = in_order(alloc, arena, &stack[start..])?;
-    stack.truncate(start);
-    Ok(Datum::Object(found))
-}
-
 /// An object, behind the brace that opens it.
 #[cycle(read)]
 fn read_members<'a>(
@@ -183,7 +164,9 @@ fn read_members<'a>(
         let member = read_value(alloc, arena, stack, reader, left, token)?;
         stack.push((name, member))?;
     }
-    Ok(take_members(alloc, arena, stack, start)?)
+    let found = in_order(alloc, arena, &stack[start..])?;
+    stack.truncate(start);
+    Ok(Datum::Object(found))
 }
 
 /// The one value of a text.

@@ -10,7 +10,7 @@ use Rattle.canvas_sig.proofs.Alone.{read_alone, refused_alone, refused_deep, lis
 use Rattle.canvas_sig.proofs.Conversion.{item_read, item_refused, items_over, member_read, member_refused, key_refused, members_over, nothing_before}
 use Rattle.canvas_sig.specs.Datum.{view, items_view}
 use Rattle.canvas_sig.specs.steps.Names.{put_all}
-use Rattle.canvas_sig.proofs.Parsed.{Named, since_start, view-List, put_pushed, items_before, all_before, one_more_item}
+use Rattle.canvas_sig.proofs.Parsed.{Named, since_start, view-List, view-Object, put_pushed, items_before, all_before, one_more_item}
 use Rattle.canvas_sig.proofs.parsing.+read.Goals as goal
 
 pub read_value-returns-in-Some-clause-ok : goal.read_value-returns-in-Some-clause-ok
@@ -174,6 +174,6 @@ read_members-returns-clause-ok t c =
     let old = put_all found no_members in
     let r = c.next_key.new.self in
     let all = l.invariant.3 ∙ members_over old p n l.reader r l.invariant.2 (grind arith) in
-    let here = since_start l.stack.items c.args.stack.now.items found c.len-start.result (grind arith) l.invariant.5 in
-    ap (parse_map object) all
-    ∙ ap (λ d. Some (d, r)) (sym (c.in_ok-take_members.ensures.members ∙ ap (λ es. object (put_all es no_members)) here))
+    let here = c.in_ok-found.ensures ∙ ap (λ es. put_all es no_members)
+    (since_start c.deref.result.now c.args.stack.now.items found c.len-start.result (grind arith) (c.deref.ensures.value ∙ l.invariant.5)) in
+    ap (parse_map object) all ∙ ap (λ d. Some (d, r)) (sym (ap object here) ∙ sym (view-Object c.in_ok-found.found))
