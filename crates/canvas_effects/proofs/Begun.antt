@@ -74,6 +74,11 @@ not_stop (p_chord_end g ms b) h = refl
 pub place_put : (q : PPlace) (t : PTask) → place_of (at_place q t) ≡ q
 place_put q (p_task k call links errbacks place) = refl
 
+-- where the task itself went doesn't matter
+pub place_put_again : (u : Option ℕ) (q p : PPlace) (t c : PTask) (x : Input) → c ≡ at_place q t
+    → first_message u c x p p_stop ≡ first_message u t x p p_stop
+place_put_again u q p (p_task k call links errbacks place) c x same = ap (λ y. first_message u y x p p_stop) same
+
 -- ---- places of members
 
 pub fits_size : (t : FrozenEnd) (b : FrozenLine) (p : PPlace) (ms : List FrozenLine) → (out-FrozenEnd t).body ≡ Some b → ms ≡ (out-FrozenEnd t).members

@@ -1,7 +1,6 @@
 -- The data of a list and of an object that were parsed.
 use Rattle.std.proofs.Math.Dec.{eqb-suc-zero}
-use Rattle.std.proofs.Math.Seq.{drop-cons}
-use Rattle.std.proofs.Common.{◌≡◌, ℕ, suc, ◌+◌, ◌<◌, length, get_or, drop, arith, List, [], ◌∷◌, map, Bor, refl, sym, ap, ◌∙◌}
+use Rattle.std.proofs.Common.{◌≡◌, ℕ, ◌+◌, ◌<◌, length, get_or, drop, List, [], ◌∷◌, map, Bor, refl, sym, ap, ◌∙◌}
 use Rattle.std.specs.List.{list_all}
 use Rattle.std.specs.Prelude.{◌==◌}
 use Rattle.serde_json.specs.Data.{array}
@@ -10,6 +9,7 @@ use Rattle.serde_json.specs.View.{items_of}
 use Rattle.canvas_sig.specs.Datum.{view, members_view, seen}
 use Rattle.canvas_sig.specs.declared.datum.Datum.{Datum}
 use Rattle.canvas_sig.specs.declared.datum.Datum as datum
+use Rattle.canvas_sig.proofs.Each.{next_of}
 use Rattle.canvas_sig.proofs.Parsed.{Named, view-List, view-Object}
 use Rattle.canvas_values.specs.steps.Reading.{list_reading, arg_steps}
 use Rattle.canvas_values.specs.Grammar.{named_reading, kind_ok, numbers_ok, number_ok}
@@ -50,9 +50,7 @@ pub object_contents : {B : Type 0} (f : List Data → B) (v : Datum) (m : Bor (L
 object_contents f v m is = ap (λ xs. f (map (λ e. e.1) xs)) (object_members v m is)
 
 pub next_item : (xs : List Datum) (i : ℕ) (x d : Datum) → i < length xs → get_or xs i d ≡ x → map view (drop i xs) ≡ view x ∷ map view (drop (i + 1) xs)
-next_item xs i x d lt is =
-    let up : suc i ≡ i + 1 = omega arith in
-    ap (map view) (drop-cons xs i d lt) ∙ ap (λ y. view y ∷ map view (drop (suc i) xs)) is ∙ ap (λ k. view x ∷ map view (drop k xs)) up
+next_item = next_of view
 
 empty_items : (vs : List Datum) → is_empty (array (items_of (map view vs))) ≡ (length vs == 0)
 empty_items [] = refl

@@ -1,5 +1,5 @@
 -- The argument that a JSON list stands for.
-use Rattle.std.proofs.Common.{◌≡◌, ◌<◌, length, arith, List, [], ◌∷◌, map, Vec, Global, refl, sym, ap, ◌∙◌}
+use Rattle.std.proofs.Common.{◌≡◌, ℕ, ◌+◌, ◌<◌, length, get_or, drop, arith, List, [], ◌∷◌, map, Vec, Global, refl, sym, ap, ◌∙◌}
 use Rattle.std.specs.List.{list_all}
 use Rattle.std.specs.Prelude.{true, Result, Ok, Err, IfErr, IsTrue}
 use Rattle.serde_json.specs.Data.{array}
@@ -13,6 +13,7 @@ use Rattle.canvas_values.specs.declared.fault.SigFault.TheVariants.{Memory}
 use Rattle.canvas_values.specs.steps.Reading.{list_reading, arg_steps}
 use Rattle.canvas_values.specs.Grammar.{takes_memory}
 use Rattle.canvas_values.specs.Fields.{items, is_number}
+use Rattle.canvas_sig.proofs.Each.{next_of}
 
 pub items-items_of : (ds : List Data) → items (items_of ds) ≡ ds
 items-items_of [] = refl
@@ -35,3 +36,8 @@ array_takes v vs xs (Err e) is same h =
     λ memory. let p = h memory in
     ap (λ x. takes_memory (view x)) is ∙ ap takes_memory (view-Array vs) ∙ ap (λ ys. takes_memory (array (items_of (map view ys)))) (sym same)
     ∙ list_takes xs p.0 p.1
+
+-- ---- a list's loop
+
+pub next_item : (xs : List Value) (i : ℕ) (x d : Value) → i < length xs → get_or xs i d ≡ x → map view (drop i xs) ≡ view x ∷ map view (drop (i + 1) xs)
+next_item = next_of view

@@ -14,7 +14,7 @@ use Rattle.canvas_values.specs.SignatureView.{task_view}
 use Rattle.canvas_values.specs.declared.task_sig.TaskSig.{TaskSig}
 use Rattle.canvas_values.specs.declared.task_sig.TaskSig.TheViews.{roll-TaskSig}
 use Rattle.canvas_values.specs.declared.task_sig.TaskSig.TheOpen.{TaskSig-F}
-use Rattle.canvas_sig.proofs.Each.{onto, one_more}
+use Rattle.canvas_sig.proofs.Each.{onto, next_read}
 use Rattle.canvas_values.proofs.Views as seen
 
 pub task_level_below : (n : ℕ) (d : Data) → n ≢ 0 → task_reading n d ≡ linked_with (task_reading (n - 1)) d
@@ -43,6 +43,5 @@ made f d r a k l e n i = rw (a, k, l, e, n, i) (ap Ok (sym (seen.made r.name r.a
 -- one more was read, and seen by a view
 pub next_seen : {X Y : Type 0} (view : X → Y) (f : Data → Result Y SigFault) (xs new : List X) (x : X) (d : Data) (left now : List Data)
     → new ≡ xs ++ x ∷ [] → f d ≡ Ok (view x) → left ≡ d ∷ now → onto (map view xs) (in_turn f left) ≡ onto (map view new) (in_turn f now)
-next_seen {X} {Y} view f xs new x d left now pushed read next =
-    ap (λ ds. onto (map view xs) (in_turn f ds)) next ∙ one_more f (map view xs) d now (view x) read
-    ∙ ap (λ (ys : List Y). onto ys (in_turn f now)) (sym (ap (map view) pushed ∙ map_push view xs x))
+next_seen view f xs new x d left now pushed read next =
+    next_read f (map view xs) (map view new) (view x) d left now (ap (map view) pushed ∙ map_push view xs x) read next

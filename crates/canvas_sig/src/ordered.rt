@@ -77,18 +77,6 @@ fn put_in_order<'a>(
     Ok(into_bump_slice(members))
 }
 
-/// Members as they are, in an arena.
-fn copied<'a>(
-    arena: &'a Bump,
-    found: &[(&'a str, Datum<'a>)],
-) -> Result<&'a [(&'a str, Datum<'a>)], AllocError>
-    ensures { IfOk result (λ v. v.now ≡ found.now) }
-{
-    let mut members = Vec::with_capacity(arena, found.len())?;
-    members.extend_from_slice(found)?;
-    Ok(into_bump_slice(members))
-}
-
 /// Members in the order of their names, the last of those of one name.
 pub(crate) fn in_order<'a>(
     alloc: Global,
@@ -98,7 +86,7 @@ pub(crate) fn in_order<'a>(
     ensures { IfOk result (λ v. members_view v.now ≡ put_all found.now no_members) }
 {
     if ascends(found) {
-        return copied(arena, found);
+        return Ok(arena.try_alloc_slice_copy(found)?);
     }
     if found.len() <= MOST_PUT {
         return put_in_order(arena, found);

@@ -1,13 +1,13 @@
 //! Parsing JSON (RFC 8259) into borrowed values.
 
 ghost use Rattle.std.specs.Prelude.{◌≡◌, ◌<◌, ◌≤◌, ◌∷◌, ◌++◌, [], length, option_map, Some, None, Err, IfOk, OnOk};
-ghost use Rattle.json.specs.Json.{value, items, members};
+ghost use Rattle.json.specs.Json.{value, items, members, parse_map};
 ghost use Rattle.json.specs.Reads.{token_of};
-ghost use Rattle.serde_json.specs.Data.{no_members};
+ghost use Rattle.serde_json.specs.Data.{array, object, no_members};
 ghost use Rattle.serde_json.specs.Read.{of_json, of_items, of_members, converted, read as read_text};
 ghost use Rattle.canvas_values.specs.Answers.{Gives};
 ghost use Rattle.canvas_values.specs.CanvasText.{json_of};
-ghost use Rattle.canvas_sig.specs.Datum.{view, items_view, members_view};
+ghost use Rattle.canvas_sig.specs.Datum.{view};
 ghost use Rattle.canvas_sig.specs.steps.Alone.{alone};
 ghost use Rattle.canvas_values.specs.steps.Reading.{json_reading};
 ghost use Rattle.canvas_values.specs.declared.fault.SigFault.TheVariants.{Memory};
@@ -97,14 +97,8 @@ fn read_nested<'a>(
         return Err(Unread::NotJson);
     }
     match token {
-        Token::BeginArray => Ok(Datum::List(read_items(alloc, arena, stack, reader, left - 1)?)),
-        Token::BeginObject => Ok(Datum::Object(read_members(
-            alloc,
-            arena,
-            stack,
-            reader,
-            left - 1,
-        )?)),
+        Token::BeginArray => read_items(alloc, arena, stack, reader, left - 1),
+        Token::BeginObject => read_members(alloc, arena, stack, reader, left - 1),
         _ => Err(Unread::NotJson),
     }
 }
@@ -121,6 +115,7 @@ fn push_item<'a>(found: &mut Vec<Datum<'a>, &'a Bump>, item: Datum<'a>) -> Resul
     Ok(())
 }
 
+/// A list, behind the bracket that opens it.
 #[cycle(read)]
 fn read_items<'a>(
     alloc: Global,
@@ -128,10 +123,10 @@ fn read_items<'a>(
     stack: &mut Vec<(&'a str, Datum<'a>)>,
     reader: &mut Source<'a>,
     left: usize,
-) -> Result<&'a [Datum<'a>], Unread>
-    ensures ok { IfOk result
-        (λ v. converted of_items (items (value left) (length reader.old) reader.old)
-        ≡ Some (items_view v.now, reader.new)) }
+) -> Result<Datum<'a>, Unread>
+    ensures ok { IfOk result (λ v. parse_map array
+        (converted of_items (items (value left) (length reader.old) reader.old))
+        ≡ Some (view v, reader.new)) }
     ensures shorter { OnOk result (length reader.new < length reader.old) }
     ensures stack { OnOk result (stack.new.items ≡ stack.old.items) }
     ensures err { result ≡ Err Unread.NotJson
@@ -142,9 +137,10 @@ fn read_items<'a>(
         let item = read_value(alloc, arena, stack, reader, left, token)?;
         push_item(&mut found, item)?;
     }
-    Ok(into_bump_slice(found))
+    Ok(Datum::List(into_bump_slice(found)))
 }
 
+/// An object, behind the brace that opens it.
 #[cycle(read)]
 fn read_members<'a>(
     alloc: Global,
@@ -152,11 +148,11 @@ fn read_members<'a>(
     stack: &mut Vec<(&'a str, Datum<'a>)>,
     reader: &mut Source<'a>,
     left: usize,
-) -> Result<&'a [(&'a str, Datum<'a>)], Unread>
+) -> Result<Datum<'a>, Unread>
     ensures ok { IfOk result
-        (λ v. converted (λ ms. of_members ms no_members)
-        (members (value left) (length reader.old) reader.old)
-        ≡ Some (members_view v.now, reader.new)) }
+        (λ v. parse_map object (converted (λ ms. of_members ms no_members)
+        (members (value left) (length reader.old) reader.old))
+        ≡ Some (view v, reader.new)) }
     ensures shorter { OnOk result (length reader.new < length reader.old) }
     ensures stack { OnOk result (stack.new.items ≡ stack.old.items) }
     ensures err { result ≡ Err Unread.NotJson → converted (λ ms. of_members ms no_members)
@@ -170,7 +166,7 @@ fn read_members<'a>(
     }
     let found = in_order(alloc, arena, &stack[start..])?;
     stack.truncate(start);
-    Ok(found)
+    Ok(Datum::Object(found))
 }
 
 /// The one value of a text.

@@ -1,8 +1,8 @@
 //! The messages that a run begins with, a line's after another's.
 
 ghost use Rattle.std.specs.Prelude.{◌≡◌, ◌∷◌, ◌==◌, [], false, length, map, IfOk, IfSome, MatchOption, None, OnErr, true};
-ghost use Rattle.canvas_semantics.specs.PlacedLine.{p_nowhere};
-ghost use Rattle.canvas_rewrite.specs.FrozenView.{p_end_view, p_line_view, place_or};
+ghost use Rattle.canvas_semantics.specs.PlacedLine.{p_nowhere, p_step, p_stop};
+ghost use Rattle.canvas_rewrite.specs.FrozenView.{p_end_view, p_line_view, p_task_view, place_or};
 ghost use Rattle.canvas_rewrite.specs.declared.frozen.FrozenEnd.{out-FrozenEnd};
 ghost use Rattle.canvas_effects.specs.Carrying.{AllStand, can_stand};
 ghost use Rattle.canvas_effects.specs.Effects.{first_messages};
@@ -10,13 +10,13 @@ ghost use Rattle.canvas_effects.specs.Flowing.{no_input};
 ghost use Rattle.canvas_effects.specs.Portions.{together, portions};
 ghost use Rattle.canvas_effects.specs.steps.Walks.{member_place, started};
 
-use super::started::{group_place, header_place, start_line};
+use super::started::{group_place, header_place, only_message, start_line};
 use crate::copies::copy_line;
 use crate::destination::Destination;
 use crate::destinations::share_destination;
 use crate::input::Input;
 use canvas_message::Message;
-use canvas_rewrite::{FrozenEnd, FrozenLine, Plan};
+use canvas_rewrite::{FrozenEnd, FrozenLine, FrozenTask, Plan};
 use canvas_task::Memory;
 use std::alloc::{AllocError, Global};
 use std::marker::Model;
@@ -113,7 +113,18 @@ fn of_header<'p>(alloc: Global, end: &'p FrozenEnd) -> Result<FirstMessages<'p>,
     Ok(FirstMessages { lines, place })
 }
 
-/// The messages that a line begins with from nothing, whose end goes to the place.
+/// The task that is all of a line.
+fn only_task(line: &FrozenLine) -> Option<&FrozenTask>
+    ensures { IfSome result (λ t. p_line_view line.now ≡ p_step (p_task_view t.now) p_stop) }
+{
+    match line.tasks.get().as_slice() {
+        [task] if line.tail.is_none() => Some(task),
+        _ => None,
+    }
+}
+
+/// The messages that a line begins with from nothing, whose end goes to the place. Most members are
+/// one task, and of such a line only the task is copied.
 fn portion_of(
     alloc: Global,
     line: &FrozenLine,
@@ -124,8 +135,12 @@ fn portion_of(
         ≡ started (p_line_view line.now) no_input (place_or place.now) None) }
 {
     let place = share_destination(place)?;
-    let line = copy_line(alloc, line)?;
     let mut messages = Vec::with_capacity(alloc, 1)?;
+    if let Some(task) = only_task(line) {
+        messages.push(only_message(alloc, task, place)?)?;
+        return Ok(messages);
+    }
+    let line = copy_line(alloc, line)?;
     start_line(alloc, line, place, &Input::Nothing, &None, &mut messages)?;
     Ok(messages)
 }

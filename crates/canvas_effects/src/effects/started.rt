@@ -1,18 +1,21 @@
-//! Lines that start, and are given up: their tasks become messages, and none is copied.
+//! Lines that start, and are given up: their tasks become messages, and none is copied. Only a task
+//! that is all of its line can start as a copy, where the line is lent.
 
-ghost use Rattle.std.specs.Prelude.{◌≡◌, ◌++◌, true, false, IfOk, IfSome, MatchOption, OnOk, map};
+ghost use Rattle.std.specs.Prelude.{◌≡◌, ◌++◌, true, false, None, IfOk, IfSome, MatchOption, OnOk, map};
 ghost use Rattle.canvas_rewrite.specs.FrozenView.{p_task_view, p_line_view, p_end_view, place_or};
 ghost use Rattle.canvas_semantics.specs.PlacedLine.{p_chord, p_group, p_stop};
 ghost use Rattle.canvas_effects.specs.Carrying.{can_stand, AllStand, is_whole, input_ok};
 ghost use Rattle.canvas_message.specs.Fits.{fits, parent_ok};
 ghost use Rattle.canvas_message.specs.MessageView.{rest_seen};
 ghost use Rattle.canvas_message.specs.SharedTexts.{SaysCarried};
+ghost use Rattle.canvas_effects.specs.Flowing.{no_input};
 ghost use Rattle.canvas_effects.specs.Placing.{end_place, placed};
 ghost use Rattle.canvas_effects.specs.steps.Walks.{input_seen, begins_with_task, first_message, started, all_started};
 
 use super::lasts::last_task;
 use super::moved::{begins_with_task, is_last, take_next};
 use super::task_messages::{message_from, texts_of};
+use crate::copies::copy_task;
 use crate::destination::Destination;
 use crate::destinations::{parts, with_text};
 use crate::input::Input;
@@ -46,6 +49,22 @@ fn first_message(
     }
     let rest = into_placed_rest(alloc, rest, place)?;
     message_from(alloc, first, input, parent, rest, texts)
+}
+
+/// The message of a copy of a task that is all of its line, from nothing, where the line's end goes
+/// to the destination.
+pub(super) fn only_message(
+    alloc: Global,
+    task: &FrozenTask,
+    place: Option<Destination>,
+) -> Result<Message, AllocError>
+    requires { fits (first_message None (p_task_view task.now) no_input (place_or place) p_stop)
+        ≡ true }
+    ensures { IfOk result (λ m. m
+        ≡ first_message None (p_task_view task.now) no_input (place_or place) p_stop) }
+{
+    let task = copy_task(alloc, task, None)?;
+    first_message(alloc, task, None, place, &Input::Nothing, &None)
 }
 
 /// Where the members of a chord end whose whole goes to the place: what they carry is written once

@@ -1,5 +1,6 @@
 use Rattle.std.proofs.Common.{◌≡◌, ◌-◌, ◌<◌, [], ◌∷◌, ◌++◌, length, refl, Some, None, sym, ap, ◌∙◌, arith}
 use Rattle.std.proofs.lemmas.List.{append_assoc, append-nil}
+use Rattle.std.proofs.lemmas.Result.{IfOk-weaker}
 use Rattle.json.specs.Json.{parse_map, after_end_array, read_key, items, members, value}
 use Rattle.json.specs.Reads.{token_of}
 use Rattle.json.proofs.Grammar.{value_is, read_key-shorter}
@@ -22,27 +23,25 @@ read_nested-returns-then-left-eq0-clause-err t c never =
     ap (λ n. converted of_json (value n (token_of c.args.token ∷ c.args.reader.now))) none
     ∙ refused_deep (token_of c.args.token) c.args.reader.now c.requires
 
-pub read_nested-returns-in_err-read_items-in-BeginArray-clause-err : goal.read_nested-returns-in_err-read_items-in-BeginArray-clause-err
-read_nested-returns-in_err-read_items-in-BeginArray-clause-err t c refused =
+pub read_nested-returns-in-BeginArray-clause-ok : goal.read_nested-returns-in-BeginArray-clause-ok
+read_nested-returns-in-BeginArray-clause-ok t c =
+    IfOk-weaker c.read_items.result _ _
+    (λ v is. list_opened c.args.left _ c.args.reader.now (ap token_of c.in-BeginArray.is) (omega arith) ∙ is) c.read_items.ensures.ok
+
+pub read_nested-returns-in-BeginArray-clause-err : goal.read_nested-returns-in-BeginArray-clause-err
+read_nested-returns-in-BeginArray-clause-err t c refused =
     list_opened c.args.left _ c.args.reader.now (ap token_of c.in-BeginArray.is) (omega arith)
-    ∙ ap (parse_map array) (c.read_items.ensures.err (grind arith))
+    ∙ ap (parse_map array) (c.read_items.ensures.err refused)
 
-pub read_nested-returns-in_err-read_members-in-BeginObject-clause-err : goal.read_nested-returns-in_err-read_members-in-BeginObject-clause-err
-read_nested-returns-in_err-read_members-in-BeginObject-clause-err t c refused =
+pub read_nested-returns-in-BeginObject-clause-ok : goal.read_nested-returns-in-BeginObject-clause-ok
+read_nested-returns-in-BeginObject-clause-ok t c =
+    IfOk-weaker c.read_members.result _ _
+    (λ v is. object_opened c.args.left _ c.args.reader.now (ap token_of c.in-BeginObject.is) (omega arith) ∙ is) c.read_members.ensures.ok
+
+pub read_nested-returns-in-BeginObject-clause-err : goal.read_nested-returns-in-BeginObject-clause-err
+read_nested-returns-in-BeginObject-clause-err t c refused =
     object_opened c.args.left _ c.args.reader.now (ap token_of c.in-BeginObject.is) (omega arith)
-    ∙ ap (parse_map object) (c.read_members.ensures.err (grind arith))
-
-pub read_nested-returns-in_ok-read_items-in-BeginArray-clause-ok : goal.read_nested-returns-in_ok-read_items-in-BeginArray-clause-ok
-read_nested-returns-in_ok-read_items-in-BeginArray-clause-ok t c =
-    let found = c.in_ok-read_items-in-BeginArray in
-    list_opened c.args.left _ c.args.reader.now (ap token_of c.in-BeginArray.is) (omega arith)
-    ∙ ap (parse_map array) found.ensures.ok ∙ ap (λ d. Some (d, c.read_items.new.reader)) (sym (view-List found.field-0))
-
-pub read_nested-returns-in_ok-read_members-in-BeginObject-clause-ok : goal.read_nested-returns-in_ok-read_members-in-BeginObject-clause-ok
-read_nested-returns-in_ok-read_members-in-BeginObject-clause-ok t c =
-    let found = c.in_ok-read_members-in-BeginObject in
-    object_opened c.args.left _ c.args.reader.now (ap token_of c.in-BeginObject.is) (omega arith)
-    ∙ ap (parse_map object) found.ensures.ok ∙ ap (λ d. Some (d, c.read_members.new.reader)) (sym (view-Object found.field-0))
+    ∙ ap (parse_map object) (c.read_members.ensures.err refused)
 
 pub read_nested-returns-in_default-clause-err : goal.read_nested-returns-in_default-clause-err
 read_nested-returns-in_default-clause-err t c refused =
@@ -97,8 +96,10 @@ read_items-returns-clause-ok t c =
     let l = c.items in
     let n = l.invariant.0 in
     let r = c.next_item.new.self in
-    l.invariant.2 ∙ ap (parse_map (items_before l.found.items)) (items_over p n l.reader r l.invariant.1 (grind arith))
-    ∙ ap (λ ds. Some (ds, r)) (all_before l.found.items ∙ ap (λ vs. items_view vs) (sym c.into_bump_slice.ensures))
+    let all = l.invariant.2 ∙ ap (parse_map (items_before l.found.items)) (items_over p n l.reader r l.invariant.1 (grind arith)) in
+    ap (parse_map array) all
+    ∙ ap (λ d. Some (d, r))
+    (ap array (all_before l.found.items ∙ ap (λ vs. items_view vs) (sym c.into_bump_slice.ensures)) ∙ sym (view-List c.into_bump_slice.result))
 
 pub read_members-members-init : goal.read_members-members-init
 read_members-members-init t c = (length c.args.reader.now, [], omega arith, refl, omega arith, sym (append-nil c.args.stack.now.items))
@@ -171,7 +172,8 @@ read_members-returns-clause-ok t c =
     let n = l.invariant.0 in
     let found = l.invariant.1 in
     let old = put_all found no_members in
+    let r = c.next_key.new.self in
+    let all = l.invariant.3 ∙ members_over old p n l.reader r l.invariant.2 (grind arith) in
     let here = c.in_ok-found.ensures ∙ ap (λ es. put_all es no_members)
     (since_start c.deref.result.now c.args.stack.now.items found c.len-start.result (grind arith) (c.deref.ensures.value ∙ l.invariant.5)) in
-    l.invariant.3 ∙ members_over old p n l.reader c.next_key.new.self l.invariant.2 (grind arith)
-    ∙ ap (λ ms. Some (ms, c.next_key.new.self)) (sym here)
+    ap (parse_map object) all ∙ ap (λ d. Some (d, r)) (sym (ap object here) ∙ sym (view-Object c.in_ok-found.found))
