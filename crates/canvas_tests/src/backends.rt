@@ -7,24 +7,11 @@ ghost use Rattle.canvas_task.specs.Apply.{IsInRange};
 use crate::tasks::group;
 use canvas_backend::{Backend, BackendSeat, Roster, Stored};
 use canvas_samples::sample::plan_of;
+use canvas_samples::worked::a_hundred_and_their_sum;
 use canvas_task::{Fault, GroupNo, Outcome, TaskNo, Why};
-use std::alloc::{AllocError, Global};
+use std::alloc::Global;
 use std::test::*;
 use std::thread::{Threads, for_each_mut};
-
-/// A group of a hundred tasks, then their sum.
-fn hundred(alloc: Global) -> Result<String, AllocError> {
-    let mut text = String::from_str(
-        alloc,
-        r#"{"task":"x","subtask_type":"chain","kwargs":{"tasks":[{"task":"x","subtask_type":"group","kwargs":{"tasks":["#,
-    )?;
-    text.push_str(r#"{"task":"tasks.add"}"#)?;
-    for _ in 1..100u32 {
-        text.push_str(r#",{"task":"tasks.add"}"#)?;
-    }
-    text.push_str(r#"]}},{"task":"tasks.xsum"}]}}"#)?;
-    Ok(text)
-}
 
 /// Whether a task is one that a chord waits for.
 fn waits(roster: &Roster, group: GroupNo, task: TaskNo) -> bool
@@ -208,8 +195,8 @@ fn shared_by<R: Threads + Sync>(rt: &R, alloc: Global, canvas: &str) -> Option<(
 /// How many parts of a hundred members complete, and how many outcomes the seats that returned
 /// these read, over sixteen seats in threads.
 fn in_threads<R: Threads + Sync>(rt: &R, alloc: Global) -> Option<(u32, u32)> {
-    match hundred(alloc) {
-        Ok(text) => shared_by(rt, alloc, &text),
+    match a_hundred_and_their_sum(alloc) {
+        Ok(hundred) => shared_by(rt, alloc, &hundred.text),
         Err(_) => None,
     }
 }

@@ -24,18 +24,28 @@ fn copy(alloc: Global, text: &[u8]) -> Result<ListOf<u8>, AllocError> {
     Ok(ListOf::of(bytes))
 }
 
+/// An envelope of these bytes.
+fn envelope_of(
+    alloc: Global,
+    properties: &[u8],
+    headers: &[u8],
+    body: &[u8],
+) -> Result<Envelope, AllocError> {
+    Ok(Envelope {
+        properties: copy(alloc, properties)?,
+        headers: copy(alloc, headers)?,
+        body: copy(alloc, body)?,
+    })
+}
+
+/// The message of an envelope of these bytes.
 pub(crate) fn read(
     alloc: Global,
     properties: &[u8],
     headers: &[u8],
     body: &[u8],
 ) -> Result<Message, MessageFault> {
-    let envelope = Envelope {
-        properties: copy(alloc, properties)?,
-        headers: copy(alloc, headers)?,
-        body: copy(alloc, body)?,
-    };
-    decode(alloc, &envelope)
+    decode(alloc, &envelope_of(alloc, properties, headers, body)?)
 }
 
 /// The number of a refusal, 0 where there is none.
@@ -157,7 +167,10 @@ fn cut(text: &[u8], length: usize) -> Option<&[u8]> {
 
 /// The number of a refusal of these bytes.
 fn bytes_code(alloc: Global, properties: &[u8], headers: &[u8], body: &[u8]) -> u8 {
-    number_of(&read(alloc, properties, headers, body))
+    match envelope_of(alloc, properties, headers, body) {
+        Ok(envelope) => decoded_code(alloc, &envelope),
+        Err(_) => u8::MAX,
+    }
 }
 
 /// The number of an envelope's refusal of which one text is cut so.
