@@ -13,8 +13,6 @@ mod halts;
 #[cfg(test)]
 mod malice;
 #[cfg(test)]
-mod nested;
-#[cfg(test)]
 mod own_tasks;
 #[cfg(test)]
 mod polls;

@@ -14,6 +14,8 @@ mod forged;
 #[cfg(test)]
 mod forged_tables;
 #[cfg(test)]
+mod nested;
+#[cfg(test)]
 mod plans;
 #[cfg(test)]
 mod queues;
