@@ -23,7 +23,12 @@ fn is_name(who: &str) -> bool {
 }
 
 fn is_number(who: &str) -> bool {
-    !who.is_empty() && who.as_bytes().iter().all(|byte| byte.is_ascii_digit())
+    for byte in who.as_bytes() {
+        if !byte.is_ascii_digit() {
+            return false;
+        }
+    }
+    !who.is_empty()
 }
 
 /// What stands before the point of an entry.

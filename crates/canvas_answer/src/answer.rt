@@ -24,10 +24,10 @@ pub enum Remark {
 impl Display for Remark {
     fn fmt<W: fmt::Write>(&self, f: &mut fmt::Formatter<W>) -> fmt::Result {
         match self {
-            Remark::Repeats(1) => writeln!(f, "canvas: 1 store answered Again"),
+            Remark::Repeats(1) => f.write_str("canvas: 1 store answered Again\n"),
             Remark::Repeats(count) => writeln!(f, "canvas: {count} stores answered Again"),
-            Remark::Changes(changes) => write!(f, "{changes}"),
-            Remark::Ignored(lines) => write!(f, "{lines}"),
+            Remark::Changes(changes) => changes.fmt(f),
+            Remark::Ignored(lines) => f.write_str(lines),
         }
     }
 }

@@ -11,12 +11,15 @@ pub struct OtherError {
 
 /// Whether a text is the name of a class.
 fn is_class(text: &str) -> bool {
-    match text.as_bytes() {
-        [] | [b'0'..=b'9', ..] => false,
-        bytes => bytes
-            .iter()
-            .all(|byte| byte.is_ascii_alphanumeric() || *byte == b'_'),
+    if matches!(text.as_bytes(), [] | [b'0'..=b'9', ..]) {
+        return false;
     }
+    for byte in text.as_bytes() {
+        if !byte.is_ascii_alphanumeric() && *byte != b'_' {
+            return false;
+        }
+    }
+    true
 }
 
 /// Whether the class is one of the four, or an exception by which a task doesn't fail.

@@ -9,7 +9,7 @@ ghost use Rattle.canvas_answer.specs.Normal.{IsNormalNode, IsNormalText};
 ghost use Rattle.canvas_answer.specs.Plans.{IsReadRefusal};
 
 use crate::answer::Answer;
-use crate::plan::canvas_of;
+use crate::plan::{canvas_of, lasting};
 use crate::refusal::Refusal;
 use canvas_rewrite::{node_of, normalise};
 use canvas_sig::{Canvas, write_node};
@@ -47,7 +47,7 @@ pub fn answer_normal(alloc: Global, text: &[u8]) -> Result<Answer, Refusal>
         × IsNormalText c line × AnswersAll line 0 a) }
     ensures err { IfErr result (IsReadRefusal text.now) }
 {
-    let canvas = canvas_of(alloc, text)?;
+    let canvas = lasting(canvas_of(alloc, text)?);
     match line_text(alloc, &canvas) {
         Ok(line) => Ok(Answer::whole(line.into_bytes())),
         Err(Memory) => Err(Refusal::Memory),

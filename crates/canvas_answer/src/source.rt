@@ -82,6 +82,69 @@ fn builtin_done(does: Does) -> Option<Builtin> {
     }
 }
 
+/// The built-in task that answers the calls of a name: what a stub of the name does, or the task of
+/// the name, or what the stub of each other name does.
+fn builtin_of(stubs: &[Stub], name: &str) -> Option<Builtin> {
+    if let Some(does) = stub_named(stubs, name) {
+        return builtin_done(does);
+    }
+    match Builtin::named(name) {
+        Some(task) => Some(task),
+        None => builtin_done(stub_named(stubs, "*")?),
+    }
+}
+
+/// The parameter that makes a call a TypeError with this in front of its own arguments, if it is
+/// one. None where no built-in task answers the call.
+fn blamed_in(
+    alloc: Global,
+    stubs: &[Stub],
+    sig: &TaskSig,
+    input: Input,
+) -> Result<Option<Option<AtFault>>, AllocError> {
+    match builtin_of(stubs, sig.name.get()) {
+        Some(task) => Ok(Some(at_fault(alloc, blamed(alloc, task, sig, input)?)?)),
+        None => Ok(None),
+    }
+}
+
+/// What is foreseen of a signature that has this forecast, and is this task if it is one.
+fn foreseen_of(
+    alloc: Global,
+    stubs: &[Stub],
+    forecast: Forecast,
+    task: Option<&TaskSig>,
+) -> Result<Foreseen, AllocError> {
+    let is_task = task.is_some();
+    let blame = match (forecast.expected, task) {
+        (Expected::TypeError(input), Some(sig)) => blamed_in(alloc, stubs, sig, input)?,
+        _ => None,
+    };
+    Ok(Foreseen {
+        forecast,
+        is_task,
+        blame,
+    })
+}
+
+/// What is foreseen of signatures that have these forecasts, where these are the tasks among them.
+fn foreseen_by(
+    alloc: Global,
+    stubs: &[Stub],
+    forecasts: &[Forecast],
+    tasks: &[Option<&TaskSig>],
+) -> Result<Vec<Foreseen>, AllocError> {
+    let mut found = Vec::new(alloc);
+    let mut left = tasks.iter();
+    for forecast in forecasts {
+        let Some(task) = left.next() else {
+            break;
+        };
+        found.push(foreseen_of(alloc, stubs, *forecast, *task)?)?;
+    }
+    Ok(found)
+}
+
 /// Whether a task ran and is a TypeError.
 fn is_bad_call(report: &Report, task: TaskNo, fate: Fate) -> bool {
     matches!(fate, Fate::Ran)
@@ -160,51 +223,6 @@ impl<'a, T> Source<'a, T> {
 }
 
 impl<'a, T: Tasks> Source<'a, T> {
-    /// The built-in task that answers the calls of a name: what a stub of the name does, or the
-    /// task of the name, or what the stub of each other name does.
-    fn builtin_of(&self, name: &str) -> Option<Builtin> {
-        if let Some(does) = stub_named(self.stubs, name) {
-            return builtin_done(does);
-        }
-        match Builtin::named(name) {
-            Some(task) => Some(task),
-            None => builtin_done(stub_named(self.stubs, "*")?),
-        }
-    }
-
-    /// The parameter that makes a call a TypeError with this in front of its own arguments, if it
-    /// is one. None where no built-in task answers the call.
-    fn blamed_in(
-        &self,
-        alloc: Global,
-        sig: &TaskSig,
-        input: Input,
-    ) -> Result<Option<Option<AtFault>>, AllocError> {
-        match self.builtin_of(sig.name.get()) {
-            Some(task) => Ok(Some(at_fault(alloc, blamed(alloc, task, sig, input)?)?)),
-            None => Ok(None),
-        }
-    }
-
-    /// What is foreseen of a signature that has this forecast, and is this task if it is one.
-    fn foreseen_of(
-        &self,
-        alloc: Global,
-        forecast: Forecast,
-        task: Option<&TaskSig>,
-    ) -> Result<Foreseen, AllocError> {
-        let is_task = task.is_some();
-        let blame = match (forecast.expected, task) {
-            (Expected::TypeError(input), Some(sig)) => self.blamed_in(alloc, sig, input)?,
-            _ => None,
-        };
-        Ok(Foreseen {
-            forecast,
-            is_task,
-            blame,
-        })
-    }
-
     /// What is foreseen of each signature of a canvas, in file order.
     pub(crate) fn all_foreseen(
         &self,
@@ -213,25 +231,10 @@ impl<'a, T: Tasks> Source<'a, T> {
     ) -> Result<Vec<Foreseen>, Memory> {
         let forecasts = forecasts(alloc, canvas, self.tasks)?;
         let tasks = tasks_in(alloc, canvas)?;
-        self.foreseen_by(alloc, &forecasts, &tasks)
-    }
-
-    /// The same where these are the forecasts, and the tasks among the signatures.
-    fn foreseen_by(
-        &self,
-        alloc: Global,
-        forecasts: &[Forecast],
-        tasks: &[Option<&TaskSig>],
-    ) -> Result<Vec<Foreseen>, Memory> {
-        let mut found = Vec::new(alloc);
-        let mut left = tasks.iter();
-        for forecast in forecasts {
-            let Some(task) = left.next() else {
-                break;
-            };
-            found.push(self.foreseen_of(alloc, *forecast, *task)?)?;
+        match foreseen_by(alloc, self.stubs, &forecasts, &tasks) {
+            Ok(foreseen) => Ok(foreseen),
+            Err(_) => Err(Memory),
         }
-        Ok(found)
     }
 
     /// The tasks whose call is a TypeError, each with the parameter that is at fault, if it is one.

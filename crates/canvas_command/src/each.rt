@@ -10,6 +10,7 @@ use canvas_answer::reporting::FAILED;
 use canvas_answer::source::Source;
 use canvas_report::is_failure;
 use canvas_task::Tasks;
+use std::alloc::Global;
 use std::random::RandomSource;
 use std::sync::Wait;
 use std::thread::Threads;
@@ -69,8 +70,16 @@ where
     T: Tasks + Sync,
 {
     match prepared_and_ran(rt, workers, text, tasks, setting) {
-        Err(Refusal::Canvas(fault)) => Ok((refusal_json(rt.alloc(), text, fault)?, false)),
-        other => other,
+        Ok(line) => Ok(line),
+        Err(refusal) => refused_line(rt.alloc(), text, refusal),
+    }
+}
+
+/// The line of a canvas that is refused; where it isn't the canvas, there is none.
+fn refused_line(alloc: Global, text: &[u8], refusal: Refusal) -> Result<(String, bool), Refusal> {
+    match refusal {
+        Refusal::Canvas(fault) => Ok((refusal_json(alloc, text, fault)?, false)),
+        other => Err(other),
     }
 }
 

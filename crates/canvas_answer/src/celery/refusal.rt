@@ -20,15 +20,15 @@ pub enum CeleryRefusal {
 
 impl fmt::Display for CeleryRefusal {
     fn fmt<W: fmt::Write>(&self, f: &mut fmt::Formatter<W>) -> fmt::Result {
-        match self {
-            CeleryRefusal::BadRun => write!(f, "BadRun"),
-            CeleryRefusal::TooLarge => write!(f, "TooLarge in the results"),
-            CeleryRefusal::BadCount => write!(f, "BadCount"),
+        f.write_str(match self {
+            CeleryRefusal::BadRun => "BadRun",
+            CeleryRefusal::TooLarge => "TooLarge in the results",
+            CeleryRefusal::BadCount => "BadCount",
             CeleryRefusal::Stored(task, fault) => {
                 let number = task.get();
-                write!(f, "{fault} in the result of task {number}")
+                return write!(f, "{fault} in the result of task {number}");
             }
-        }
+        })
     }
 }
 
