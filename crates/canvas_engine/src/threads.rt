@@ -1,7 +1,6 @@
 //! Runs on threads.
 mod crew;
 mod gathered;
-mod in_rounds;
 mod publishing;
 mod records;
 mod running;

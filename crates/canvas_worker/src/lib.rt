@@ -4,10 +4,12 @@
 mod counted_queue;
 mod gate;
 mod in_flight;
+mod in_rounds;
 mod record;
 mod shared;
 mod source;
 mod stop;
+mod to_end;
 mod worker;
 mod working;
 
@@ -21,6 +23,7 @@ pub use in_flight::InFlight;
 pub use record::Record;
 pub use shared::Shared;
 pub use stop::Stop;
+pub use to_end::work_to_end;
 pub use worker::Worker;
 
 /// Where a worker does nothing that is followed, and a step in front of what is followed is

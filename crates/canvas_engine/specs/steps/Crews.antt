@@ -1,44 +1,51 @@
 -- A run on threads before its first publish, and once its workers have ended and worker 0 has taken
 -- in what they left.
-use Rattle.std.specs.Prelude.{ℕ, suc, ◌≡◌, ◌≤◌, List, [], ◌∷◌, length, map, All, Option, Some, None, IfNone}
+use Rattle.std.specs.Prelude.{ℕ, suc, ◌≡◌, ◌≤◌, ◌+◌, List, [], ◌∷◌, length, map, min, All, Option, Some, None, IfNone}
+use Rattle.std.proofs.Math.ListN.{set}
 use Rattle.std.specs.Vec.{vec_capacity}
 use Rattle.canvas_task.specs.Apply.{Behaviour}
 use Rattle.canvas_history.specs.Passes.{QueueId}
 use Rattle.canvas_history.specs.Seats.{TableId}
+use Rattle.canvas_semantics.specs.Evaluation.{State}
 use Rattle.canvas_semantics.specs.Line.{Line, count_line}
 use Rattle.canvas_rewrite.specs.Planned.{IsPlan}
 use Rattle.canvas_effects.specs.Effects.{first_messages}
 use Rattle.canvas_history.specs.Roster.{Roster, roster_of}
-use Rattle.canvas_runs.specs.Following.{Pass, Seat, Makes, IsOver}
+use Rattle.canvas_runs.specs.Following.{Pass, Seat, Makes, Serves, IsOver}
 use Rattle.canvas_history.specs.Lists.{Each}
 use Rattle.canvas_runs.specs.Run.{published_all}
-use Rattle.canvas_runs.specs.Tally.{Tally as Counts}
+use Rattle.canvas_runs.specs.Tally.{Tally as Counts, greatest_count}
 use Rattle.canvas_runs.specs.Worker.{sealed}
 use Rattle.canvas_callers.specs.Crew.{Mate, SplitPasses, JoinPasses, SplitSeats, JoinSeats, first_pass, first_seat}
+use Rattle.canvas_callers.specs.Rows.{reads_from}
 use Rattle.canvas_turns.specs.Turns.{FirstsRead}
 use Rattle.canvas_worker.specs.Polls.{IsWanted}
+use Rattle.canvas_worker.specs.declared.record.Record.{Record}
 use Rattle.canvas_core.specs.declared.cause.Cause.{Cause}
 use Rattle.canvas_engine.specs.steps.Slots.{AreOfSite, IsReadySlot, SplitsOff, nothing_counted}
+use Rattle.canvas_engine.specs.declared.threads.crew.Site.{Site}
+use Rattle.canvas_engine.specs.declared.threads.records.Records.{Records}
 use Rattle.canvas_engine.specs.declared.threads.records.Tally.{Tally}
 use Rattle.canvas_by_turns.specs.declared.fault.RunFault.{RunFault}
 use Rattle.canvas_by_turns.specs.declared.fault.RunFault.TheVariants.{BadWorkers, BadTurn, Halted}
-use Rattle.canvas_engine.specs.declared.threads.gathered.Gathered.{Gathered}
+use Rattle.canvas_engine.specs.declared.threads.gathered.Base.{Base}
 use Rattle.canvas_engine.specs.declared.threads.running.Start.{Start}
 
 pub record IsStart (l : Line) (n : ℕ) (s : Start) : Type 0 where
   pub planned : IsPlan l
-  pub plan : s.site.backend.plan ≡ roster_of l
-  pub own : AreOfSite s.site s.hands
+  pub plan : s.base.site.backend.plan ≡ roster_of l
+  pub own : AreOfSite s.base.site s.base.hands
   pub count : length s.slots.items ≡ n
-  pub ready : All (IsReadySlot s.site.broker s.site.backend.id) s.slots.items
-  pub parts : SplitsOff (roster_of l) 1 (first_pass s.site.broker) (first_seat s.site.backend.id)
-      s.slots.items s.hands.pass s.hands.seat
+  pub ready : All (IsReadySlot s.base.site.broker s.base.site.backend.id) s.slots.items
+  pub parts : SplitsOff (roster_of l) 1 (first_pass s.base.site.broker)
+      (first_seat s.base.site.backend.id) s.slots.items s.base.hands.pass s.base.hands.seat
   pub envelopes : s.envelopes.items ≡ map sealed (first_messages l)
+  pub first : s.base.first ≡ length s.envelopes.items
   pub back : FirstsRead l
-  pub rows : length s.rows.items ≡ count_line l
-  pub pending : All (λ r. r ≡ None) s.rows.items
-  pub tallies : s.tallies.items ≡ nothing_counted 0 ∷ []
-  pub room : suc n ≤ vec_capacity s.tallies
+  pub rows : length s.base.rows.items ≡ count_line l
+  pub pending : All (λ r. r ≡ None) s.base.rows.items
+  pub tallies : s.base.tallies.items ≡ nothing_counted 0 ∷ []
+  pub room : suc n ≤ vec_capacity s.base.tallies
 
 -- the workers of this queue and this table, from the splits to the joins, with the first messages
 -- published between
@@ -86,7 +93,7 @@ pub record IsWellGathered (behaviour : Behaviour) (l : Line)
   pub tallies : counted ≡ nothing_counted 0 ∷ tallies_from behaviour 1 mates
 
 pub record AreGathered (behaviour : Behaviour) (l : Line) (n : ℕ) (fault : Option Cause)
-    (g : Gathered) : Type 0 where
+    (g : Base) : Type 0 where
   pub planned : IsPlan l
   pub plan : g.site.backend.plan ≡ roster_of l
   pub own : AreOfSite g.site g.hands
@@ -104,10 +111,35 @@ AreWanted behaviour plan may_want k (m ∷ ms) =
     × AreWanted behaviour plan may_want (suc k) ms
 
 abbrev pub HaveWorked : (behaviour : Behaviour) → (ℕ → ℕ → Type 0) → Line → ℕ → Option Cause
-    → Gathered → Type 0
+    → Base → Type 0
 HaveWorked behaviour may_want l n fault g =
     (h : AreGathered behaviour l n fault g)
     × AreWanted behaviour (roster_of l) may_want 1 h.crew.mates
+
+-- rows, one for each task, that this seat has read, with which it is then the other
+abbrev pub AreRead : Line → Seat → List State → Seat → Type 0
+AreRead l s rows t =
+    (length rows ≡ count_line l) × Serves (roster_of l) s (reads_from 1 rows) t
+
+-- what a run leaves whose worker 0 left this, with this seat: that one's tally has the first
+-- messages too
+abbrev pub leaves : Site → Record → Seat → ℕ → List Tally → Records
+leaves site r seat first tallies =
+    record {
+      broker = site.broker;
+      pass = r.pass;
+      backend = site.backend;
+      seat = seat;
+      workers =
+          set tallies 0 (record {
+            number = 0;
+            taken = r.taken;
+            published = min greatest_count (r.published + first);
+            first = r.first;
+            parts = r.parts;
+            dropped = r.dropped;
+          });
+    }
 
 -- the fault of a run that ended early for this cause, with rows
 abbrev pub IsHaltedFor : Cause → RunFault → Type 0

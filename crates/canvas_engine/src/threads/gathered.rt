@@ -1,40 +1,42 @@
 //! The end of a run on threads: worker 0 works on by itself, and reads the rows.
-ghost use Rattle.std.specs.Prelude.{◌≡◌, List, length, Option, Some, None, IfSome, IfOk, IfErr};
+ghost use Rattle.std.specs.Prelude.{◌≡◌, ◌<◌, List, length, Option, Some, None, IfSome, IfOk, IfErr};
 ghost use Rattle.canvas_core.specs.declared.cause.Cause.{Cause};
 ghost use Rattle.canvas_semantics.specs.Line.{Line, count_line, tree_of};
 ghost use Rattle.canvas_rewrite.specs.Planned.{IsPlan};
+ghost use Rattle.canvas_semantics.specs.Evaluation.{State};
 ghost use Rattle.canvas_semantics.specs.States.{states};
 ghost use Rattle.canvas_history.specs.Roster.{roster_of};
 ghost use Rattle.canvas_history.specs.Callers.{told};
 ghost use Rattle.canvas_worker.specs.Finished.{Finished};
-ghost use Rattle.canvas_runs.specs.Following.{Serves};
+ghost use Rattle.canvas_runs.specs.Following.{Seat, Serves};
 ghost use Rattle.canvas_callers.specs.Rows.{reads_from};
 ghost use Rattle.canvas_by_turns.specs.Correct.{AreWorkers};
+ghost use Rattle.canvas_by_turns.specs.declared.fault.RunFault.TheVariants as fault;
 ghost use Rattle.canvas_engine.specs.Evidence.{IsRun, IsThreadFault};
 ghost use Rattle.canvas_engine.specs.Headline.{OnlyWanted};
-ghost use Rattle.canvas_engine.specs.steps.Crews.{AreGathered, HaveWorked, IsHaltedFor};
+ghost use Rattle.canvas_engine.specs.steps.Crews.{AreGathered, AreRead, HaveWorked, IsHaltedFor, leaves};
+ghost use Rattle.canvas_engine.specs.steps.Slots.{AreOfSite};
 
 use crate::threads::crew::{Hands, Site};
-use crate::threads::in_rounds::InRounds;
 use crate::{Cause, Records, Report, RunFault, Tally};
 use canvas_backend::{Backend, BackendSeat};
 use canvas_rewrite::Plan;
 use canvas_task::{Fault, ListOf, Outcome, Tasks};
-use canvas_worker::{Gate, InFlight, OpenGate, Record, Shared, Stop, Worker};
-use futures::executor::block_on;
+use canvas_worker::{Gate, InFlight, OpenGate, Record, Shared, Stop, work_to_end};
 use std::alloc::{AllocGlobal, Global};
 use std::random::RandomSource;
 use std::sync::Wait;
 
-/// What a run has once its workers have ended and worker 0 has taken in what they left.
+/// What a run has besides its workers' places: before they begin, and once they have ended.
 #[derive(Drop)]
-pub(crate) struct Gathered {
+pub(crate) struct Base {
     pub site: Site,
+    /// Worker 0's, with what it has taken in.
     pub hands: Hands,
-    /// How many messages were published before the workers began.
+    /// How many messages are published before the workers begin.
     pub first: usize,
     pub rows: Vec<Option<Outcome>>,
-    /// Worker 0's, still to be counted, and the others'.
+    /// Worker 0's, still to be counted, and the others', once they have ended.
     pub tallies: Vec<Tally>,
 }
 
@@ -56,24 +58,77 @@ fn read_rows(backend: &Backend, seat: &mut BackendSeat, plan: &Plan, rows: &mut 
 fn work_alone<R: Wait + RandomSource + AllocGlobal, T: Tasks>(
     rt: &R,
     alloc: Global,
-    shared: &Shared<'_, T, OpenGate>,
+    site: &Site,
+    tasks: &T,
+    stop: &Stop,
     hands: Hands,
 ) -> Option<Record>
-    requires plan { (l : Line) × IsPlan l × (shared.now.backend.now.plan ≡ roster_of l) }
-    requires own { (hands.pass.of ≡ shared.now.broker.now)
-        × (hands.seat.of ≡ shared.now.backend.now.id) }
-    ensures { IfSome result (Finished (T.behaviour shared.now.tasks.now) (λ _ _. ⊥)
-        shared.now.backend.now.plan 0 hands.pass hands.seat) }
+    requires plan { (l : Line) × IsPlan l × (site.now.backend.plan ≡ roster_of l) }
+    requires own { AreOfSite site.now hands }
+    ensures { IfSome result (Finished (T.behaviour tasks.now) (λ _ _. ⊥) site.now.backend.plan 0
+        hands.pass hands.seat) }
 {
     let Hands { pass, seat } = hands;
-    let worker = Worker::new(rt, alloc, shared, 0, pass, seat);
-    match block_on(rt, InRounds { future: worker }) {
-        Ok(left) => Some(left),
-        Err(_) => None,
+    let shared = Shared {
+        broker: &site.broker,
+        backend: &site.backend,
+        tasks,
+        gate: &OpenGate,
+        stop,
+        flight: &InFlight::new(0),
+    };
+    work_to_end(rt, alloc, &shared, 0, pass, seat)
+}
+
+/// What a run leaves whose worker 0 left this, with what that has counted.
+fn records_of(site: Site, left: Record, first: usize, tallies: Vec<Tally>) -> Records
+    requires { 0 < length tallies.items }
+    ensures { result ≡ leaves site left left.seat first tallies.items }
+{
+    let mut workers = tallies;
+    workers[0] = Tally::of(0, &left).with_published(first);
+    Records {
+        broker: site.broker,
+        pass: left.pass,
+        backend: site.backend,
+        seat: left.seat,
+        workers: ListOf::of(workers),
     }
 }
 
-impl Gathered {
+/// Reads each task once, and hands out what the run leaves.
+fn finish(
+    plan: &Plan,
+    site: Site,
+    mut left: Record,
+    first: usize,
+    mut rows: Vec<Option<Outcome>>,
+    tallies: Vec<Tally>,
+) -> Result<(Report, Records), RunFault>
+    requires own { left.seat.of ≡ site.backend.id }
+    requires plan { site.backend.plan ≡ roster_of plan.now }
+    requires rows { length rows.items ≡ count_line plan.now }
+    requires tallies { 0 < length tallies.items }
+    ensures ok { IfOk result (λ r. (left.fault ≡ None) × (t : Seat) × (t.of ≡ site.backend.id)
+        × AreRead plan.now left.seat r.0.rows t
+        × (r.1 ≡ leaves site left t first tallies.items)) }
+    ensures err { IfErr result (λ f. (cause : Cause) × (rows : List State) × (t : Seat)
+        × (f ≡ fault.Halted cause (Some (record { rows = rows })))
+        × AreRead plan.now left.seat rows t) }
+{
+    read_rows(&site.backend, &mut left.seat, plan, &mut rows);
+    match left.fault {
+        Some(cause) => Err(RunFault::halted_with(cause, rows)),
+        None => {
+            let report = Report {
+                rows: ListOf::of(rows),
+            };
+            Ok((report, records_of(site, left, first, tallies)))
+        }
+    }
+}
+
+impl Base {
     /// The fault of a run that ended early, with the rows that it has.
     pub(crate) fn halt<T: Tasks>(
         self,
@@ -91,7 +146,7 @@ impl Gathered {
     {
         // For the clauses alone.
         let _tasks = tasks;
-        let Gathered {
+        let Base {
             site,
             mut hands,
             mut rows,
@@ -123,50 +178,16 @@ impl Gathered {
     {
         // For the clauses alone.
         let _gate = gate;
-        let Gathered {
+        let Base {
             site,
             hands,
             first,
-            mut rows,
-            mut tallies,
+            rows,
+            tallies,
         } = self;
-        let shared = Shared {
-            broker: &site.broker,
-            backend: &site.backend,
-            tasks,
-            gate: &OpenGate,
-            stop,
-            flight: &InFlight::new(0),
-        };
-        let Some(left) = work_alone(rt, alloc, &shared, hands) else {
-            stop.ask();
-            return Err(RunFault::halted(Cause::Memory));
-        };
-        let own = Tally::of(0, &left).with_published(first);
-        let Record {
-            pass,
-            mut seat,
-            fault,
-            ..
-        } = left;
-        let Site { broker, backend } = site;
-        read_rows(&backend, &mut seat, plan, &mut rows);
-        match fault {
-            Some(cause) => Err(RunFault::halted_with(cause, rows)),
-            None => {
-                tallies[0] = own;
-                let report = Report {
-                    rows: ListOf::of(rows),
-                };
-                let records = Records {
-                    broker,
-                    pass,
-                    backend,
-                    seat,
-                    workers: ListOf::of(tallies),
-                };
-                Ok((report, records))
-            }
+        match work_alone(rt, alloc, &site, tasks, stop, hands) {
+            Some(left) => finish(plan, site, left, first, rows, tallies),
+            None => Err(RunFault::halted(Cause::Memory)),
         }
     }
 }

@@ -1,4 +1,5 @@
 //! A future that is polled many times in a row.
+
 ghost use Rattle.futures.specs.Poll.{OnPending, IfReady};
 ghost use Rattle.futures.specs.Task.{Covers, Keeps};
 

@@ -1,16 +1,20 @@
 //! Runs on threads.
-ghost use Rattle.std.specs.Prelude.{◌≡◌, IfOk, IfErr};
+ghost use Rattle.std.specs.Prelude.{◌≡◌, ◌≤◌, suc, [], ◌∷◌, IfOk, IfErr};
+ghost use Rattle.std.specs.Vec.{vec_capacity};
 ghost use Rattle.canvas_semantics.specs.Line.{tree_of};
 ghost use Rattle.canvas_rewrite.specs.Planned.{IsPlan};
 ghost use Rattle.canvas_history.specs.Callers.{told};
+ghost use Rattle.canvas_history.specs.Roster.{roster_of};
+ghost use Rattle.canvas_callers.specs.Crew.{first_pass, first_seat};
 ghost use Rattle.canvas_semantics.specs.States.{states};
 ghost use Rattle.canvas_by_turns.specs.Correct.{AreWorkers};
 ghost use Rattle.canvas_engine.specs.Evidence.{IsRun, IsThreadFault};
 ghost use Rattle.canvas_engine.specs.Headline.{Headline, OnlyWanted};
 ghost use Rattle.canvas_engine.specs.steps.Crews.{HaveWorked, IsStart};
+ghost use Rattle.canvas_engine.specs.steps.Slots.{nothing_counted};
 
 use crate::threads::crew::{Hands, Site, are_done, fault_of, join_all, split_all, tally_all};
-use crate::threads::gathered::Gathered;
+use crate::threads::gathered::Base;
 use crate::threads::publishing::publish_all;
 use crate::threads::slot::Slot;
 use crate::threads::workers::work_on_threads;
@@ -21,8 +25,8 @@ use canvas_by_turns::{first_envelopes, new_rows};
 use canvas_message::Letter;
 use canvas_rewrite::Plan;
 use canvas_semantics::MOST_WORKERS;
-use canvas_task::{Fault, Memory, Outcome, Tasks};
-use canvas_worker::{Gate, InFlight, Shared, Stop};
+use canvas_task::{Fault, Memory, Tasks};
+use canvas_worker::{Gate, Stop};
 use std::alloc::{AllocGlobal, Global};
 use std::random::RandomSource;
 use std::sync::Wait;
@@ -31,12 +35,30 @@ use std::thread::Threads;
 /// What a run has before its first publish.
 #[derive(Drop)]
 pub(crate) struct Start {
-    site: Site,
-    hands: Hands,
+    base: Base,
     slots: Vec<Slot>,
     envelopes: Vec<Letter>,
-    rows: Vec<Option<Outcome>>,
-    tallies: Vec<Tally>,
+}
+
+/// The queue and the table of a run, with worker 0's pass and seat.
+fn open(alloc: Global, plan: &Plan) -> Result<(Site, Hands), Memory>
+    ensures plan { IfOk result (λ r. r.0.backend.plan ≡ roster_of plan.now) }
+    ensures pass { IfOk result (λ r. r.1.pass ≡ first_pass r.0.broker) }
+    ensures seat { IfOk result (λ r. r.1.seat ≡ first_seat r.0.backend.id) }
+{
+    let (broker, pass) = Broker::new(alloc)?;
+    let (backend, seat) = Backend::new(alloc, plan)?;
+    Ok((Site { broker, backend }, Hands { pass, seat }))
+}
+
+/// Worker 0's tally, with room for those of so many more.
+fn first_tally(alloc: Global, workers: u32) -> Result<Vec<Tally>, Memory>
+    ensures first { IfOk result (λ tallies. tallies.items ≡ nothing_counted 0 ∷ []) }
+    ensures room { IfOk result (λ tallies. suc workers ≤ vec_capacity tallies) }
+{
+    let mut tallies = Vec::with_capacity(alloc, workers as usize + 1)?;
+    tallies.push(Tally::none(0))?;
+    Ok(tallies)
 }
 
 /// All that a run reserves: its rows and tallies, its first envelopes, its queue and its table with
@@ -47,21 +69,21 @@ fn reserve<R: Wait>(rt: &R, alloc: Global, plan: &Plan, workers: u32) -> Result<
     // For the proof alone, as in `new_rows`.
     let _none: Option<Fault> = None;
     let rows = new_rows(alloc, plan)?;
-    let mut tallies = Vec::with_capacity(alloc, workers as usize + 1)?;
-    tallies.push(Tally::none(0))?;
+    let tallies = first_tally(alloc, workers)?;
     let envelopes = first_envelopes(alloc, plan)?;
-    let (broker, pass) = Broker::new(alloc)?;
-    let (backend, seat) = Backend::new(alloc, plan)?;
-    let site = Site { broker, backend };
-    let mut hands = Hands { pass, seat };
+    let (site, mut hands) = open(alloc, plan)?;
     let slots = split_all(rt, alloc, &site, &mut hands, workers)?;
-    Ok(Start {
+    let base = Base {
         site,
         hands,
-        slots,
-        envelopes,
+        first: envelopes.len(),
         rows,
         tallies,
+    };
+    Ok(Start {
+        base,
+        slots,
+        envelopes,
     })
 }
 
@@ -76,7 +98,7 @@ fn gather<R, T, G>(
     gate: &G,
     stop: &Stop,
     start: Start,
-) -> Result<(Gathered, Option<Cause>), RunFault>
+) -> Result<(Base, Option<Cause>), RunFault>
 where
     R: Threads + Wait + RandomSource + AllocGlobal + Sync,
     T: Tasks + Sync,
@@ -89,42 +111,24 @@ where
         (IsThreadFault workers (states (T.behaviour tasks.now) (tree_of plan.now))) }
 {
     let Start {
-        site,
-        mut hands,
+        mut base,
         mut slots,
         envelopes,
-        rows,
-        mut tallies,
     } = start;
-    let first = envelopes.len();
-    let flight = InFlight::new(first as u64);
-    match publish_all(rt, &site.broker, &mut hands.pass, envelopes) {
+    match publish_all(rt, &base.site.broker, &mut base.hands.pass, envelopes) {
         Ok(()) => (),
-        Err(Memory) => return Err(RunFault::halted_with(Cause::Memory, rows)),
+        Err(Memory) => return Err(RunFault::halted_with(Cause::Memory, base.rows)),
     }
-    let shared = Shared {
-        broker: &site.broker,
-        backend: &site.backend,
-        tasks,
-        gate,
-        stop,
-        flight: &flight,
-    };
-    work_on_threads(rt, alloc, &shared, &mut slots);
+    work_on_threads(
+        rt, alloc, &base.site, base.first, tasks, gate, stop, &mut slots,
+    );
     if !are_done(&slots) {
         return Err(RunFault::halted(Cause::Memory));
     }
-    tally_all(&slots, &mut tallies);
+    tally_all(&slots, &mut base.tallies);
     let fault = fault_of(&slots);
-    join_all(rt, &site, &mut hands, slots);
-    let gathered = Gathered {
-        site,
-        hands,
-        first,
-        rows,
-        tallies,
-    };
-    Ok((gathered, fault))
+    join_all(rt, &base.site, &mut base.hands, slots);
+    Ok((base, fault))
 }
 
 fn run_started<R, T, G>(
@@ -149,9 +153,9 @@ where
         (IsThreadFault workers (states (T.behaviour tasks.now) (tree_of plan.now))) }
 {
     match gather(rt, alloc, plan, tasks, workers, gate, stop, start) {
-        Ok((gathered, early)) => match early {
-            None => gathered.conclude(rt, alloc, plan, tasks, workers, gate, stop),
-            Some(cause) => Err(gathered.halt(plan, tasks, workers, cause)),
+        Ok((base, early)) => match early {
+            None => base.conclude(rt, alloc, plan, tasks, workers, gate, stop),
+            Some(cause) => Err(base.halt(plan, tasks, workers, cause)),
         },
         Err(fault) => Err(fault),
     }

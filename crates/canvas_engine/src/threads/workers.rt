@@ -6,11 +6,10 @@ ghost use Rattle.canvas_rewrite.specs.Planned.{IsPlan};
 ghost use Rattle.canvas_history.specs.Roster.{roster_of};
 ghost use Rattle.canvas_engine.specs.steps.Slots.{IsReadySlot, RanSlot, AllRan};
 
-use crate::threads::in_rounds::InRounds;
+use crate::threads::crew::Site;
 use crate::threads::slot::{Post, Slot};
 use canvas_task::Tasks;
-use canvas_worker::{Gate, Shared, Worker};
-use futures::executor::block_on;
+use canvas_worker::{Gate, InFlight, Shared, Stop, work_to_end};
 use std::alloc::{AllocGlobal, Global};
 use std::mem;
 use std::random::RandomSource;
@@ -30,10 +29,8 @@ where
 {
     match mem::replace(&mut slot.post, Post::Lost) {
         Post::Ready(pass, seat) => {
-            let worker = Worker::new(rt, alloc, shared, slot.number, pass, seat);
-            match block_on(rt, InRounds { future: worker }) {
-                Ok(left) => slot.post = Post::Done(left),
-                Err(_) => shared.stop.ask(),
+            if let Some(left) = work_to_end(rt, alloc, shared, slot.number, pass, seat) {
+                slot.post = Post::Done(left);
             }
         }
         Post::Done(_) => unreachable!(),
@@ -42,27 +39,31 @@ where
 }
 
 /// Runs each worker on a thread of its own, or on this one where none can be made: there they work
-/// one after the other, each until no message is in flight.
+/// one after the other, each until no message is in flight. So many were published before.
 pub(crate) fn work_on_threads<R, T, G>(
     rt: &R,
     alloc: Global,
-    shared: &Shared<'_, T, G>,
+    site: &Site,
+    first: usize,
+    tasks: &T,
+    gate: &G,
+    stop: &Stop,
     slots: &mut [Slot],
 )
 where
     R: Threads + Wait + RandomSource + AllocGlobal + Sync,
     T: Tasks + Sync,
     G: Gate + Sync,
-    requires plan { (l : Line) × IsPlan l × (shared.now.backend.now.plan ≡ roster_of l) }
-    requires ready { All (IsReadySlot shared.now.broker.now shared.now.backend.now.id) slots.old }
-    ensures { AllRan (T.behaviour shared.now.tasks.now) (G.may_want shared.now.gate.now)
-        shared.now.backend.now.plan slots.old slots.new }
+    requires plan { (l : Line) × IsPlan l × (site.now.backend.plan ≡ roster_of l) }
+    requires ready { All (IsReadySlot site.now.broker site.now.backend.id) slots.old }
+    ensures { AllRan (T.behaviour tasks.now) (G.may_want gate.now) site.now.backend.plan slots.old
+        slots.new }
 {
     if slots.is_empty() {
         return;
     }
-    let (broker, backend, tasks) = (shared.broker, shared.backend, shared.tasks);
-    let (gate, stop, flight) = (shared.gate, shared.stop, shared.flight);
+    let (broker, backend) = (&site.broker, &site.backend);
+    let flight = &InFlight::new(first as u64);
     let each = |_: usize, slot: &mut Slot|
         requires { ((l : Line) × IsPlan l × (backend.now.plan ≡ roster_of l))
             × IsReadySlot broker.now backend.now.id slot.now }

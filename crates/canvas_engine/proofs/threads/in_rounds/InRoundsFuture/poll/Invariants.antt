@@ -1,5 +1,5 @@
 use Rattle.futures.specs.Task.{Keeps}
-use Rattle.canvas_engine.proofs.threads.in_rounds.InRoundsFuture.poll.Given as goal
+use Rattle.canvas_worker.proofs.in_rounds.InRoundsFuture.poll.Given as goal
 
 abbrev pub invariant-loop : goal.invariant-loop
 invariant-loop g l =
