@@ -232,7 +232,7 @@ impl Core {
         Ok(())
     }
 
-    /// The phase behind the first store, with the envelope that is kept until it is acknowledged.
+    /// A phase inside a script, with the envelope that is kept until it is acknowledged.
     fn keep(&mut self, answered: (Phase, Letter))
         ensures value { self.new
             ≡ record {
@@ -330,8 +330,7 @@ impl Core {
             } }
     {
         self.dropped = self.dropped.saturating_add(1);
-        self.phase = Phase::Acking;
-        self.kept = Some(envelope);
         self.task = None;
+        self.keep((Phase::Acking, envelope));
     }
 }

@@ -6,7 +6,7 @@ ghost use Rattle.canvas_message.specs.Fits.{how_many};
 ghost use Rattle.canvas_effects.specs.Placing.{last_task};
 ghost use Rattle.canvas_message.specs.MessageView.{place_seen, rest_seen};
 ghost use Rattle.canvas_runs.specs.Book.{task_known, tasks_known, place_known, line_known, members_known, message_known, parent_known, has_size};
-ghost use Rattle.canvas_core.specs.steps.Lasts.{or_zero, last_number, member_is_known};
+ghost use Rattle.canvas_core.specs.steps.Lasts.{or_zero, last_number};
 
 use crate::Book;
 use canvas_message::Message;
@@ -144,18 +144,11 @@ fn members_known<B: Book>(book: &B, group: GroupNo, members: &[FrozenLine]) -> b
         ≡ members_known (B.book book.now) group (p_lines_of (map p_line_view members.now)) }
 {
     for member in members {
-        if !member_known(book, group, member) {
+        if !ends_member(book, group, member) || !line_known(book, member) {
             return false;
         }
     }
     true
-}
-
-#[cycle(known)]
-fn member_known<B: Book>(book: &B, group: GroupNo, member: &FrozenLine) -> bool
-    ensures { result ≡ member_is_known (B.book book.now) group (p_line_view member.now) }
-{
-    ends_member(book, group, member) && line_known(book, member)
 }
 
 fn rest_known<B: Book>(book: &B, rest: &Option<FrozenLine>) -> bool
