@@ -1,5 +1,5 @@
 -- A run from its first publish to its end, and the rows that it leaves.
-use Rattle.std.proofs.Common.{◌≡◌, ◌≤◌, ◌⊎◌, inl, inr, ℕ, zero, suc, Bool, true, All, List, [], ◌∷◌, ◌++◌, map, length, get_or, Some, None, Result, Ok, Err, OnOk, IfOk, IfErr, refl, sym, ap, ◌∙◌, subst, append-nil, arith}
+use Rattle.std.proofs.Common.{◌≡◌, ◌≤◌, ◌⊎◌, inl, inr, ℕ, zero, suc, Bool, true, All, List, [], ◌∷◌, ◌++◌, map, length, get_or, Some, None, Result, Ok, Err, OnOk, IfErr, refl, sym, ap, ◌∙◌, subst, append-nil, arith}
 use Rattle.std.specs.Prelude.{slice_get}
 use Rattle.std.proofs.lemmas.Bool.{false≢true}
 use Rattle.std.proofs.lemmas.Option.{slice_get_within}
@@ -29,7 +29,7 @@ use Rattle.canvas_core.specs.declared.cause.Cause.{Cause}
 use Rattle.canvas_core.specs.declared.cause.Cause.TheVariants.{Memory, Stopped}
 use Rattle.canvas_by_turns.specs.Correct.{IsAsked, IsWholeRun, IsWholeWithin, IsWholeAgain, IsRunFault, IsFaultWithin}
 use Rattle.canvas_message.specs.declared.envelope.Envelope.{Envelope}
-use Rattle.canvas_by_turns.specs.Traced.{IsTraced, sent_after}
+use Rattle.canvas_by_turns.specs.Traced.{IsTraced}
 use Rattle.canvas_by_turns.specs.steps.Noting.{Noted, kept}
 use Rattle.canvas_by_turns.specs.steps.AgainRuns.{IsAgainWithin, IsKeptWithin, IsCutAgain, IsAgainFault}
 use Rattle.canvas_by_turns.specs.steps.Stages.{rows_of, IsNew, AreNew, IsCoreAt, Given, Reached, IsHalfway, IsEarlyEnd, IsRunThrough}

@@ -150,10 +150,8 @@ fn copied(alloc: Global, entries: &[(TaskNo, When)]) -> Result<Vec<(TaskNo, When
     ensures copy { IfOk result (λ copy. copy.items ≡ entries.now) }
     ensures few { length entries.now ≤ greatest_count }
 {
-    let mut copy = Vec::with_capacity(alloc, entries.len())?;
-    for entry in entries {
-        copy.push(*entry)?;
-    }
+    let mut copy = Vec::new(alloc);
+    copy.extend_from_slice(entries)?;
     Ok(copy)
 }
 

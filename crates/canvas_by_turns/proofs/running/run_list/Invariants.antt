@@ -1,4 +1,4 @@
-use Rattle.std.proofs.Common.{ℕ, List, take, []}
+use Rattle.std.proofs.Common.{ℕ, take, []}
 use Rattle.canvas_by_turns.specs.steps.Stages.{Given, Reached, HasReached}
 use Rattle.canvas_by_turns.proofs.running.run_list.Given as goal
 

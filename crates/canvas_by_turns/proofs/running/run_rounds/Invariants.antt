@@ -1,4 +1,4 @@
-use Rattle.std.proofs.Common.{ℕ, List, ◌++◌}
+use Rattle.std.proofs.Common.{ℕ, ◌++◌}
 use Rattle.canvas_turns.specs.Turns.{rounds}
 use Rattle.canvas_by_turns.specs.steps.Stages.{Given, HasReached}
 use Rattle.canvas_by_turns.proofs.running.run_rounds.Given as goal
