@@ -1,11 +1,12 @@
 use Rattle.std.proofs.Common.{◌≡◌, ◌∙◌, false, None, sym, ap, map, subst, rules, arith}
 use Rattle.std.proofs.lemmas.Result.{err_from_is_err_and}
-use Rattle.std.specs.Prelude.{codes}
+use Rattle.std.specs.Prelude.{codes, unwrap_or, Ok}
+use Rattle.serde_json.specs.Data.{null}
 use Rattle.canvas_task.specs.Entries.{named}
 use Rattle.canvas_sig.specs.Datum.{view, value_at}
 use Rattle.canvas_values.specs.Answers.{Gives, Fails, ◌or_else◌, unless, in_turn}
-use Rattle.canvas_values.specs.Fields.{option, listed, tasks, as_list}
-use Rattle.canvas_values.specs.Grammar.{own_fault}
+use Rattle.canvas_values.specs.Fields.{option, listed, tasks, as_list, object_members, text_of, is_true}
+use Rattle.canvas_values.specs.Grammar.{own_fault, arg_reading, named_reading}
 use Rattle.canvas_rewrite.specs.FrozenView.{p_task_view, p_line_view}
 use Rattle.canvas_message.specs.FrozenGrammar.{task_of, group_of, but_a_place}
 use Rattle.canvas_codec.specs.steps.FrozenReading.{if_numbered, place_with, task_with, group_with, chord_with, header_fault, elements_with, link_reading, step_reading, last_reading, line_reading}
@@ -21,21 +22,36 @@ read_task-returns t c =
     ap (λ o. unless o (task_with (link_reading c.args.left) (line_reading c.args.left) (view c.args.value.now))) none
     ∙ task_read (link_reading c.args.left) (line_reading c.args.left)
     (view c.args.value.now) c.in_ok-no.no c.of.result c.of-2.result c.of-3.result c.is_true.result c.of-4.result c.of-5.result c.in_ok-place.place
-    (search rules) (search rules) (search rules) (search rules) (search rules) (search rules) (search rules) (search rules)
+    (ap (λ d. if_numbered (task_of d)) (sym c.option_of.ensures) ∙ c.in_ok-no.ensures) (sym (ap (in_turn arg_reading) (c.listed.ensures ∙ ap
+    (λ o. listed (unwrap_or o null)) c.get.ensures)) ∙ c.in_ok-args.ensures ∙ ap Ok (sym c.of-2.ensures))
+    (ap (λ o. in_turn named_reading (object_members (unwrap_or o null))) (sym c.get-2.ensures) ∙ c.in_ok-kwargs.ensures ∙ ap Ok (sym c.of-3.ensures))
+    (ap (in_turn (link_reading c.args.left)) (sym (c.as_list.ensures ∙ ap as_list c.option_of-2.ensures)) ∙ c.in_ok-links.ensures ∙ ap (λ ts. Ok
+    (map p_task_view ts)) (sym c.of-4.ensures))
+    (ap (in_turn (link_reading c.args.left)) (sym (c.as_list-2.ensures ∙ ap as_list c.option_of-3.ensures)) ∙ c.in_ok-errbacks.ensures ∙ ap
+    (λ ts. Ok (map p_task_view ts)) (sym c.of-5.ensures))
+    (ap (λ d. place_with (line_reading c.args.left) d (option (codes "chord") (view c.args.value.now))) (sym c.option_of-group.ensures)
+    ∙ ap (λ d. place_with (line_reading c.args.left) (value_at c.option_of-group.result) d) (sym c.option_of-4.ensures) ∙ c.in_ok-place.ensures)
+    (ap (λ o. text_of (unwrap_or o null)) (sym c.get-3.ensures) ∙ sym c.in_ok-name.ensures ∙ sym c.of.ensures)
+    (ap (λ o. is_true (unwrap_or o null)) (sym c.get-4.ensures) ∙ sym c.is_true.ensures)
 
 pub read_group-returns : goal.read_group-returns
 read_group-returns t c =
     let none : own_fault false (view c.args.value.now) ≡ None = sym c.own_fault.ensures ∙ c.in_ok-refuse.ensures.ok in
     ap (λ o. unless o (group_with (line_reading c.args.left) (view c.args.value.now))) none
-    ∙ group_read (line_reading c.args.left) (view c.args.value.now) c.in_ok-group.group c.of.result (search rules) (search rules)
+    ∙ group_read (line_reading c.args.left) (view c.args.value.now) c.in_ok-group.group c.of.result
+    (ap (λ d. if_numbered (group_of d)) (sym c.option_of.ensures) ∙ c.in_ok-group.ensures)
+    (ap (in_turn (line_reading c.args.left)) (sym (c.listed.ensures ∙ ap listed c.kwarg_of.ensures)) ∙ c.in_ok-members.ensures
+    ∙ ap (λ ls. Ok (map p_line_view ls)) (sym c.of.ensures))
 
 pub read_chord-returns : goal.read_chord-returns
 read_chord-returns t c =
     let none : (own_fault false (view c.args.value.now) or_else header_fault (view c.args.value.now)) ≡ None = neither _ _
     (sym c.own_fault.ensures ∙ c.in_ok-refuse.ensures.ok) (sym c.header_fault.ensures ∙ c.in_ok-refuse-2.ensures.ok) in
     ap (λ o. unless o (chord_with (line_reading c.args.left) (view c.args.value.now))) none
-    ∙ chord_read (line_reading c.args.left) (view c.args.value.now) c.in_ok-group.group c.of.result c.in_ok-body.body (search rules)
-    (search rules) (search rules)
+    ∙ chord_read (line_reading c.args.left) (view c.args.value.now) c.in_ok-group.group c.of.result c.in_ok-body.body
+    (ap (λ d. if_numbered (group_of d)) (sym c.option_of.ensures) ∙ c.in_ok-group.ensures)
+    (ap (in_turn (line_reading c.args.left)) (sym (c.listed.ensures ∙ ap listed c.kwarg_of.ensures)) ∙ c.in_ok-members.ensures
+    ∙ ap (λ ls. Ok (map p_line_view ls)) (sym c.of.ensures)) (search rules)
 
 pub read_chain-returns-in-empty : goal.read_chain-returns-in-empty
 read_chain-returns-in-empty t c =
@@ -111,7 +127,8 @@ read_task-returns-in_err-args t c =
     rw (told.1, told.2) (refused_unless c.in_err-args.field-0.0 _ (task_with (link_reading c.args.left) (line_reading c.args.left)
     (view c.args.value.now)) own
     (refused_args (link_reading c.args.left) (line_reading c.args.left) (view c.args.value.now) c.in_err-args.field-0.0 c.in_ok-no.no (ap
-    (λ d. if_numbered (task_of d)) (sym c.option_of.ensures) ∙ c.in_ok-no.ensures) (search rules)))
+    (λ d. if_numbered (task_of d)) (sym c.option_of.ensures) ∙ c.in_ok-no.ensures) (subst (λ ds. Fails c.in_err-args.field-0.0
+    (in_turn arg_reading ds)) (c.listed.ensures ∙ ap (λ o. listed (unwrap_or o null)) c.get.ensures) c.in_err-args.ensures)))
 
 pub read_task-returns-in_err-kwargs : goal.read_task-returns-in_err-kwargs
 read_task-returns-in_err-kwargs t c =
@@ -122,7 +139,9 @@ read_task-returns-in_err-kwargs t c =
     (view c.args.value.now)) own
     (refused_kwargs (link_reading c.args.left) (line_reading c.args.left)
     (view c.args.value.now) c.in_err-kwargs.field-0.0 c.in_ok-no.no c.in_ok-args.args.items (ap (λ d. if_numbered (task_of d))
-    (sym c.option_of.ensures) ∙ c.in_ok-no.ensures) (search rules) (search rules)))
+    (sym c.option_of.ensures) ∙ c.in_ok-no.ensures) (sym (ap (in_turn arg_reading) (c.listed.ensures ∙ ap (λ o. listed
+    (unwrap_or o null)) c.get.ensures)) ∙ c.in_ok-args.ensures)
+    (subst (λ o. Fails c.in_err-kwargs.field-0.0 (in_turn named_reading (object_members (unwrap_or o null)))) c.get-2.ensures c.in_err-kwargs.ensures)))
 
 pub read_task-returns-in_err-links : goal.read_task-returns-in_err-links
 read_task-returns-in_err-links t c =
@@ -133,7 +152,9 @@ read_task-returns-in_err-links t c =
     (view c.args.value.now)) own
     (refused_links (link_reading c.args.left) (line_reading c.args.left)
     (view c.args.value.now) c.in_err-links.field-0.0 c.in_ok-no.no c.in_ok-args.args.items (named c.in_ok-kwargs.kwargs.entries) (ap
-    (λ d. if_numbered (task_of d)) (sym c.option_of.ensures) ∙ c.in_ok-no.ensures) (search rules) (search rules)
+    (λ d. if_numbered (task_of d)) (sym c.option_of.ensures) ∙ c.in_ok-no.ensures) (sym (ap (in_turn arg_reading) (c.listed.ensures ∙ ap
+    (λ o. listed (unwrap_or o null)) c.get.ensures)) ∙ c.in_ok-args.ensures)
+    (ap (λ o. in_turn named_reading (object_members (unwrap_or o null))) (sym c.get-2.ensures) ∙ c.in_ok-kwargs.ensures)
     (subst (λ ds. Fails c.in_err-links.field-0.0 (in_turn (link_reading c.args.left) ds))
     (c.as_list.ensures ∙ ap as_list c.option_of-2.ensures) c.in_err-links.ensures)))
 
@@ -146,7 +167,9 @@ read_task-returns-in_err-errbacks t c =
     (view c.args.value.now)) own
     (refused_errbacks (link_reading c.args.left) (line_reading c.args.left)
     (view c.args.value.now) c.in_err-errbacks.field-0.0 c.in_ok-no.no c.in_ok-args.args.items (named c.in_ok-kwargs.kwargs.entries) _ (ap
-    (λ d. if_numbered (task_of d)) (sym c.option_of.ensures) ∙ c.in_ok-no.ensures) (search rules) (search rules)
+    (λ d. if_numbered (task_of d)) (sym c.option_of.ensures) ∙ c.in_ok-no.ensures) (sym (ap (in_turn arg_reading) (c.listed.ensures ∙ ap
+    (λ o. listed (unwrap_or o null)) c.get.ensures)) ∙ c.in_ok-args.ensures)
+    (ap (λ o. in_turn named_reading (object_members (unwrap_or o null))) (sym c.get-2.ensures) ∙ c.in_ok-kwargs.ensures)
     (ap (in_turn (link_reading c.args.left)) (sym (c.as_list.ensures ∙ ap as_list c.option_of-2.ensures)) ∙ c.in_ok-links.ensures) (subst
     (λ ds. Fails c.in_err-errbacks.field-0.0 (in_turn (link_reading c.args.left) ds))
     (c.as_list-2.ensures ∙ ap as_list c.option_of-3.ensures) c.in_err-errbacks.ensures)))
@@ -160,7 +183,9 @@ read_task-returns-in_err-place t c =
     (view c.args.value.now)) own
     (refused_place (link_reading c.args.left) (line_reading c.args.left)
     (view c.args.value.now) c.in_err-place.field-0.0 c.in_ok-no.no c.in_ok-args.args.items (named c.in_ok-kwargs.kwargs.entries) _ _ (ap
-    (λ d. if_numbered (task_of d)) (sym c.option_of.ensures) ∙ c.in_ok-no.ensures) (search rules) (search rules)
+    (λ d. if_numbered (task_of d)) (sym c.option_of.ensures) ∙ c.in_ok-no.ensures) (sym (ap (in_turn arg_reading) (c.listed.ensures ∙ ap
+    (λ o. listed (unwrap_or o null)) c.get.ensures)) ∙ c.in_ok-args.ensures)
+    (ap (λ o. in_turn named_reading (object_members (unwrap_or o null))) (sym c.get-2.ensures) ∙ c.in_ok-kwargs.ensures)
     (ap (in_turn (link_reading c.args.left)) (sym (c.as_list.ensures ∙ ap as_list c.option_of-2.ensures)) ∙ c.in_ok-links.ensures) (ap (in_turn
     (link_reading c.args.left)) (sym (c.as_list-2.ensures ∙ ap as_list c.option_of-3.ensures)) ∙ c.in_ok-errbacks.ensures)
     (subst (λ d. Fails c.in_err-place.field-0.0 (place_with (line_reading c.args.left) d (option (codes "chord") (view c.args.value.now)))) c.option_of-group.ensures
