@@ -4,13 +4,13 @@ use Rattle.std.specs.Prelude.{codes}
 use Rattle.serde_json.specs.Data.{Data}
 use Rattle.canvas_task.specs.declared.arg.Arg.{Arg}
 use Rattle.canvas_values.specs.Answers.{◌>>=◌, ◌or_else◌, Fails, unless, in_turn}
-use Rattle.canvas_values.specs.Fields.{option, args, kwargs, tasks, header, body, link, link_error, listed, object_members as members, as_list}
+use Rattle.canvas_values.specs.Fields.{option, args, kwargs, link, link_error, listed, object_members as members, as_list}
 use Rattle.canvas_values.specs.Grammar.{arg_reading, named_reading}
 use Rattle.canvas_values.specs.declared.fault.SigFault.{SigFault}
 use Rattle.canvas_values.specs.declared.fault.SigFault.TheVariants.{Memory}
 use Rattle.canvas_semantics.specs.PlacedLine.{PTask, PLine}
-use Rattle.canvas_message.specs.FrozenGrammar.{task_of, group_of}
-use Rattle.canvas_codec.specs.steps.FrozenReading.{if_numbered, place_with, task_with, group_with, chord_with}
+use Rattle.canvas_message.specs.FrozenGrammar.{task_of}
+use Rattle.canvas_codec.specs.steps.FrozenReading.{if_numbered, place_with, task_with}
 
 pub refused_first : {A B : Type 0} (e : SigFault) (r : Result A SigFault) (g : A → Result B SigFault) → Fails e r → Fails e (r >>= g)
 refused_first Memory r g h = tt
