@@ -1,12 +1,10 @@
 -- One level of reading.
-use Rattle.std.proofs.Common.{◌≡◌, ◌≢◌, ℕ, zero, suc, ◌-◌, Result, Err, refl, sym, ap, arith}
+use Rattle.std.proofs.Common.{◌≡◌, ◌≢◌, ℕ, zero, suc, ◌-◌, refl, sym, ap, arith}
 use Rattle.std.specs.Prelude.{if◌then◌else◌, true, false}
 use Rattle.serde_json.specs.Data.{Data}
 use Rattle.canvas_values.specs.Fields.{listed, tasks, subtype}
-use Rattle.canvas_values.specs.Answers.{Fails, unless}
+use Rattle.canvas_values.specs.Answers.{unless}
 use Rattle.canvas_values.specs.Grammar.{own_fault, primitive_of}
-use Rattle.canvas_values.specs.declared.fault.SigFault.{SigFault}
-use Rattle.canvas_values.specs.declared.fault.SigFault.TheVariants.{Memory}
 use Rattle.canvas_codec.specs.steps.FrozenReading.{task_as, step_as, last_as, elements_with, link_reading, step_reading, last_reading, line_reading}
 use Rattle.canvas_message.specs.FrozenGrammar.{is_chain}
 
@@ -30,7 +28,3 @@ line_level_below (suc n) d h =
     let e : suc n - 1 ≡ n = omega arith in
     ap (λ m. if is_chain d then unless (own_fault false d) (elements_with (step_reading m) (last_reading m) (listed (tasks d)))
     else last_as (link_reading m) (line_reading m) (primitive_of (subtype d)) d) (sym e)
-
-pub fails_with : {Y : Type 0} (e : SigFault) (r : Result Y SigFault) → r ≡ Err e → Fails e r
-fails_with Memory r h = tt
-fails_with e r h = h

@@ -1,4 +1,5 @@
 pub mod WireRows
+pub mod Refused
 pub mod RoundTrip
 pub mod CleanLines
 pub mod Wholes

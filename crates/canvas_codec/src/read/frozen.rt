@@ -81,7 +81,6 @@ pub(crate) fn read_link(alloc: Global, value: &Datum<'_>, left: u32) -> Result<F
 
 /// The task that a value stands for; `linked` says that it is a link or an error callback.
 #[cycle(read)]
-#[tactic(auto, using(crate::proofs::Levels::fails_with))]
 fn read_task(
     alloc: Global,
     value: &Datum<'_>,
@@ -189,7 +188,6 @@ pub(crate) fn read_line(alloc: Global, value: &Datum<'_>, left: u32) -> Result<F
 }
 
 #[cycle(read)]
-#[tactic(auto, using(crate::proofs::Levels::fails_with))]
 fn read_chain(alloc: Global, value: &Datum<'_>, left: u32) -> Result<FrozenLine, SigFault>
     ensures { Gives p_line_view result (unless (own_fault false (view value.now)) (elements_with
         (step_reading left) (last_reading left) (listed (tasks (view value.now))))) }
@@ -286,7 +284,6 @@ fn read_last_as(
 }
 
 #[cycle(read)]
-#[tactic(auto, using(crate::proofs::Levels::fails_with))]
 fn read_group(alloc: Global, value: &Datum<'_>, left: u32) -> Result<FrozenEnd, SigFault>
     ensures { Gives p_end_view result (unless (own_fault false (view value.now))
         (group_with (line_reading left) (view value.now))) }
@@ -302,7 +299,6 @@ fn read_group(alloc: Global, value: &Datum<'_>, left: u32) -> Result<FrozenEnd, 
 }
 
 #[cycle(read)]
-#[tactic(auto, using(crate::proofs::Levels::fails_with))]
 fn read_chord(alloc: Global, value: &Datum<'_>, left: u32) -> Result<FrozenEnd, SigFault>
     ensures { Gives p_end_view result (unless
         (own_fault false (view value.now) or_else header_fault (view value.now))
