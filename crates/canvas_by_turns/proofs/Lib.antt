@@ -4,6 +4,7 @@ pub mod StageAsks
 pub mod StageTurns
 pub mod StageAgain
 pub mod Sending
+pub mod Delivering
 pub mod EntryPlaces
 pub mod RoundTurns
 pub mod Opening

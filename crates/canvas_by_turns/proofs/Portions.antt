@@ -18,3 +18,15 @@ portion_sealed old new ms left others all h split made =
 pub portion_read : (P : Content → Type 0) (left : List (List Content)) (ms : List Content) (others : List (List Content)) {Q : Type 0}
     → (Each P (together left) → Q) → left ≡ ms ∷ others → Each P ms → Each P (together others) → Q
 portion_read P left ms others h split here there = h (subst (λ l. Each P (together l)) (sym split) (each_append P ms (together others) here there))
+
+-- ---- one message of a portion
+
+pub message_sealed : (old new : List Envelope) (e : Envelope) (m : Content) (left others : List Content) (all : List Envelope)
+    → old ++ map sealed left ≡ all → left ≡ m ∷ others → new ≡ old ++ e ∷ [] → e ≡ sealed m → new ++ map sealed others ≡ all
+message_sealed old new e m left others all h split made is =
+    ap (λ es. es ++ map sealed others) made ∙ append_assoc old (e ∷ []) (map sealed others)
+    ∙ ap (λ d. old ++ d ∷ map sealed others) is ∙ ap (λ l. old ++ map sealed l) (sym split) ∙ h
+
+pub message_read : (P : Content → Type 0) (left : List Content) (m : Content) (others : List Content) {Q : Type 0}
+    → (Each P left → Q) → left ≡ m ∷ others → P m → Each P others → Q
+message_read P left m others h split here there = h (subst (Each P) (sym split) (here, there))

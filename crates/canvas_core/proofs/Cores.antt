@@ -6,6 +6,7 @@ pub mod ScriptsMade
 pub mod CorePasts
 pub mod EndLaw
 pub mod ShownAsks
+pub mod Settling
 pub mod Resting
 pub mod Counts
 pub mod Opened
