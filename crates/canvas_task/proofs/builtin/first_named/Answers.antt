@@ -7,13 +7,15 @@ use Rattle.canvas_task.proofs.builtin.first_named.Goals as goal
 
 pub returns-then-eq : goal.returns-then-eq
 returns-then-eq c =
-    called_here task_name c.args.name.now c.args.tasks.now c.loop-task.task-index _ _ (drop_more c.args.tasks.now c.loop-task.task-index Add c.loop-task-test.true)
-    (ap (λ w. bytes_eq w c.args.name.now) (sym c.name.ensures) ∙ sym c.eq.ensures ∙ c.if-eq.true) c.loop-task.invariant
+    let at = drop_more c.args.tasks.now c.loop-task.task-index Add c.loop-task-test.true in
+    let told = ap (λ w. bytes_eq w c.args.name.now) (sym c.name.ensures) ∙ sym c.eq.ensures ∙ c.if-eq.true in
+    called_here task_name c.args.name.now c.args.tasks.now c.loop-task.task-index _ _ at told c.loop-task.invariant
 
 pub loop-task-preserved : goal.loop-task-preserved
 loop-task-preserved c =
-    called_later task_name c.args.name.now c.args.tasks.now c.loop-task.task-index _ _ (drop_more c.args.tasks.now c.loop-task.task-index Add c.loop-task-test.true)
-    (ap (λ w. bytes_eq w c.args.name.now) (sym c.name.ensures) ∙ sym c.eq.ensures ∙ c.if-eq.false) c.loop-task.invariant
+    let at = drop_more c.args.tasks.now c.loop-task.task-index Add c.loop-task-test.true in
+    let told = ap (λ w. bytes_eq w c.args.name.now) (sym c.name.ensures) ∙ sym c.eq.ensures ∙ c.if-eq.false in
+    called_later task_name c.args.name.now c.args.tasks.now c.loop-task.task-index _ _ at told c.loop-task.invariant
 
 pub returns : goal.returns
 returns c = called_nowhere task_name c.args.name.now c.args.tasks.now c.loop-task.task-index _ c.loop-task-test.false c.loop-task.invariant
