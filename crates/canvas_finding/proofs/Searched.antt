@@ -10,10 +10,14 @@ use Rattle.canvas_finding.specs.declared.listing.Place.{Place}
 
 module _ (test : Sighted → Bool) (all : Option Sighted) (ps rest : List Place) (p : Place) where
   pub found_here : all ≡ find test (map shown ps) → ps ≡ p ∷ rest → test (shown p) ≡ true → Some (shown p) ≡ all
-  found_here kept is so = let here : find test (shown p ∷ map shown rest) ≡ Some (shown p) = rw so refl in sym (kept ∙ ap (λ w. find test (map shown w)) is ∙ here)
+  found_here kept is so =
+      let here : find test (shown p ∷ map shown rest) ≡ Some (shown p) = rw so refl in
+      sym (kept ∙ ap (λ w. find test (map shown w)) is ∙ here)
 
   pub found_later : all ≡ find test (map shown ps) → ps ≡ p ∷ rest → test (shown p) ≡ false → all ≡ find test (map shown rest)
-  found_later kept is not_so = let later : find test (shown p ∷ map shown rest) ≡ find test (map shown rest) = rw not_so refl in kept ∙ ap (λ w. find test (map shown w)) is ∙ later
+  found_later kept is not_so =
+      let later : find test (shown p ∷ map shown rest) ≡ find test (map shown rest) = rw not_so refl in
+      kept ∙ ap (λ w. find test (map shown w)) is ∙ later
 
 -- one more task, or group, than there may be, and one that may be
 module _ (s : Sighted) (ss : List Sighted) (t g : ℕ) where

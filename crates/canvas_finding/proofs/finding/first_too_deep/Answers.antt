@@ -1,4 +1,4 @@
-use Rattle.std.proofs.Common.{◌∙◌, sym, ap, Some, false}
+use Rattle.std.proofs.Common.{◌∙◌, ap, Some, false}
 use Rattle.std.specs.Option.{option_map}
 use Rattle.canvas_sig.specs.Datum.{view}
 use Rattle.canvas_finding.specs.Places.{shown}

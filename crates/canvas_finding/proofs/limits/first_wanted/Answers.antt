@@ -5,8 +5,10 @@ use Rattle.canvas_finding.proofs.limits.first_wanted.Goals as goal
 
 pub returns-then-is_wanted : goal.returns-then-is_wanted
 returns-then-is_wanted c =
-    found_here (is_wanted c.args.wanted) _ _ _ c.in-Some.place c.loop-place.invariant c.in-Some.ensures.steps.0 (sym c.is_wanted.ensures ∙ c.if-is_wanted.true)
+    let told = sym c.is_wanted.ensures ∙ c.if-is_wanted.true in
+    found_here (is_wanted c.args.wanted) _ _ _ c.in-Some.place c.loop-place.invariant c.in-Some.ensures.steps.0 told
 
 pub loop-place-preserved : goal.loop-place-preserved
 loop-place-preserved c =
-    found_later (is_wanted c.args.wanted) _ _ _ c.in-Some.place c.loop-place.invariant c.in-Some.ensures.steps.0 (sym c.is_wanted.ensures ∙ c.if-is_wanted.false)
+    let told = sym c.is_wanted.ensures ∙ c.if-is_wanted.false in
+    found_later (is_wanted c.args.wanted) _ _ _ c.in-Some.place c.loop-place.invariant c.in-Some.ensures.steps.0 told
