@@ -11,3 +11,4 @@ pub mod Measures
 pub mod Nested
 pub mod Placed
 pub mod Named
+pub mod Searched
