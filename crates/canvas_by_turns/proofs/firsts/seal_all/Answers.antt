@@ -10,6 +10,6 @@ loop-message-preserved c =
     let others = c.next.new.self.rest.items in
     let split : left ≡ c.in-Some.message ∷ others = search rules in (
       message_sealed l.envelopes.items c.push.new.self.items c.in_ok-envelope.envelope c.in-Some.message left others _ l.invariant.0 split
-      c.in_ok-push.ensures.items c.in_ok-envelope.ensures.value,
+          c.in_ok-push.ensures.items c.in_ok-envelope.ensures.value,
       message_read ReadsAs left c.in-Some.message others l.invariant.1 split c.in_ok-envelope.ensures.back,
     )

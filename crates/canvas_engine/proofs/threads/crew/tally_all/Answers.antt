@@ -16,7 +16,7 @@ loop-slot-preserved c =
     let l = c.loop-slot in
     let one = one_fewer c.args.slots.now l.slot-index c.slot-item.result c.loop-slot-test.true c.slot-item.is in (
       one_tallied c.args.slots.now l.slot-index c.slot-item.result c.loop-slot-test.true c.slot-item.is
-      l.tallies.items c.push.new.self.items c.tally.result _ c.tally.ensures c.in-Ok.ensures.items l.invariant.0,
+          l.tallies.items c.push.new.self.items c.tally.result _ c.tally.ensures c.in-Ok.ensures.items l.invariant.0,
       omega (arith, one, l.invariant.1, c.in-Ok.ensures.len, c.in-Ok.ensures.capacity),
     )
 
