@@ -1,6 +1,7 @@
 -- The group or chord of each task that is the last of a member.
-use Rattle.std.proofs.Common.{◌≡◌, ◌≢◌, ◌∙◌, ◌==◌, ◌||◌, ◌+◌, ◌-◌, ◌<◌, ◌≤◌, ℕ, zero, suc, Bool, true, false, true≢false, IsTrue, cond, List, [], ◌∷◌, length, length-set, set, slice_get, Option, Some, None, refl, sym, ap, subst, ⊎_elim, eq-eqb, ne_eqb, get_or, arith}
-use Rattle.std.proofs.lemmas.Option.{slice_get_cases}
+use Rattle.std.proofs.Common.{◌≡◌, ◌≢◌, ◌∙◌, ◌==◌, ◌||◌, ◌+◌, ◌-◌, ◌<◌, ◌≤◌, ℕ, zero, suc, Bool, true, false, true≢false, IsTrue, cond, List, [], ◌∷◌, length, length-set, set, drop, slice_get, Option, Some, None, refl, sym, ap, subst, ⊎_elim, eq-eqb, ne_eqb, get_or, arith}
+use Rattle.std.proofs.lemmas.List.{at_drop_more, at_drop_all}
+use Rattle.std.proofs.lemmas.Option.{slice_get_cases, slice_get_read}
 use Rattle.std.specs.List.{list_any}
 use mathlib.Core.Logic.{dite}
 use native.Mathlib.Decide.{ℕ_discrete}
@@ -16,6 +17,16 @@ use Rattle.canvas_backend.proofs.Places.{placed_inside, placed_else}
 pub length_moved : (homes : List (Option ℕ)) (g : ℕ) (ts : List ℕ) → length (moved_in homes g ts) ≡ length homes
 length_moved homes g [] = refl
 length_moved homes g (t ∷ ts) = length_moved (set homes (t - 1) (Some g)) g ts ∙ length-set homes (t - 1) (Some g)
+
+-- one more turn of the loop that writes them, and the loop's end
+pub moved_on : (ts : List ℕ) (i t n g : ℕ) (homes all : List (Option ℕ)) → i < length ts → t ≡ get_or ts i t → n ≡ t
+    → moved_in homes g (drop i ts) ≡ all → moved_in (set homes (n - 1) (Some g)) g (drop (i + 1) ts) ≡ all
+moved_on ts i t n g homes all inside is same so_far =
+    ap (λ m. moved_in (set homes (m - 1) (Some g)) g (drop (i + 1) ts)) (same ∙ is)
+    ∙ sym (at_drop_more (moved_in homes g) ts i t inside) ∙ so_far
+
+pub moved_all : (ts : List ℕ) (i g : ℕ) (homes all : List (Option ℕ)) → length ts ≤ i → moved_in homes g (drop i ts) ≡ all → homes ≡ all
+moved_all ts i g homes all past so_far = sym (at_drop_all (moved_in homes g) ts i past) ∙ so_far
 
 -- a task that is written at has the group, and another what it had
 set_home : (homes : List (Option ℕ)) (g i t : ℕ) → i < length homes → home_at (set homes i (Some g)) t ≡ cond (suc i == t) (Some g) (home_at homes t)
@@ -121,3 +132,25 @@ line_more l n g homes plan is h =
 
 pub line_all : (l : Line) (n : ℕ) (homes : List (Option ℕ)) → n ≡ line_groups l → HomesTo (roster_of l) n homes → AreHomes (roster_of l) homes
 line_all l n homes all h = homes_all (roster_of l) n homes (omega (arith, entries_length l)) h
+
+-- what a look-up in the homes tells
+home_there : (homes : List (Option ℕ)) (i : ℕ) (h : Option ℕ) → i < length homes → h ≡ get_or homes i h → home_at homes (suc i) ≡ h
+home_there homes i h inside is = ap home_or (slice_get_read homes _ i h refl inside is)
+
+home_past : (homes : List (Option ℕ)) (i : ℕ) → length homes ≤ i → home_at homes (suc i) ≡ None
+home_past homes i past =
+    ⊎_elim (λ (l : (x : Option ℕ) × (i < length homes) × (slice_get homes i ≡ Some x) × (get_or homes i x ≡ x)). absurd (omega (arith, past, l.1)))
+    (λ (r : (length homes ≤ i) × (slice_get homes i ≡ None)). ap home_or r.1) (slice_get_cases homes i).1
+
+module _ (plan told : Roster) (homes xs : List (Option ℕ)) (g t n : ℕ) (are : AreHomes plan homes) (is : plan ≡ told) (same : xs ≡ homes)
+    (at : n ≡ t) (least : 1 ≤ n) where
+  looked : is_member told g t ≡ is_home (home_at xs (suc (n - 1))) g
+  looked =
+      let step : suc (n - 1) ≡ t = omega (arith, at, least) in
+      subst (λ (z : Roster × List (Option ℕ) × ℕ). is_member z.0 g t ≡ is_home (home_at z.1 z.2) g) (λ j. (is j, sym same j, sym step j)) (are g t)
+
+  pub has_home : (h : Option ℕ) → n - 1 < length xs → h ≡ get_or xs (n - 1) h → is_home h g ≡ is_member told g t
+  has_home h inside there = sym (looked ∙ ap (λ o. is_home o g) (home_there xs (n - 1) h inside there))
+
+  pub no_home : length xs ≤ n - 1 → false ≡ is_member told g t
+  no_home past = sym (looked ∙ ap (λ o. is_home o g) (home_past xs (n - 1) past))

@@ -1,6 +1,7 @@
 -- A batch of takes keeps the rule.
-use Rattle.std.proofs.Common.{◌≡◌, ℕ, zero, suc, ◌<◌, ◌≤◌, List, [], ◌∷◌, ◌++◌, Some, length, set, refl, sym, ap, ◌∙◌, subst, append_assoc, append-nil, arith}
+use Rattle.std.proofs.Common.{◌≡◌, ℕ, zero, suc, ◌<◌, ◌≤◌, ◌+◌, List, [], ◌∷◌, ◌++◌, Some, length, set, drop, get_or, refl, sym, ap, ◌∙◌, subst, append_assoc, append-nil, arith}
 use Rattle.std.proofs.lemmas.Bool.{false≢true}
+use Rattle.std.proofs.lemmas.List.{drop_more, drop-set-lt}
 use mathlib.Core.Option.{some, some-ne-none}
 use lib.ListN.{get_elem?}
 use Rattle.crossbeam_queue.specs.Fifo.{PopsMany}
@@ -22,6 +23,21 @@ first_rest (x ∷ xs) h = (x, xs, refl)
 pub no_rest : {A : Type 0} (xs : List A) → length xs ≡ 0 → xs ≡ []
 no_rest [] h = refl
 no_rest (x ∷ xs) h = absurd (omega (arith, h))
+
+-- a batch whose next item is read, and is written over
+module _ {E : Type 0} (xs : List (Item E)) (i : ℕ) (x y : Item E) (inside : i < length xs) (is : x ≡ get_or xs i x) where
+  read_on : envelopes (drop i xs) ≡ envelopes (x ∷ drop (i + 1) (set xs i y))
+  read_on = ap envelopes (drop_more xs i x inside ∙ (λ j. sym is j ∷ sym (drop-set-lt (i + 1) xs i y (omega arith)) j))
+
+  pub read_queued : (e : E) → x ≡ Queued e → envelopes (drop i xs) ≡ e ∷ envelopes (drop (i + 1) (set xs i y))
+  read_queued e queued = read_on ∙ ap (λ z. envelopes (z ∷ drop (i + 1) (set xs i y))) queued
+
+  pub read_mark : ((e : E) → x ≡ Queued e → ⊥) → envelopes (drop i xs) ≡ envelopes (drop (i + 1) (set xs i y))
+  read_mark other = read_on ∙ skips x (drop (i + 1) (set xs i y)) other
+    where
+      skips : (z : Item E) (zs : List (Item E)) → ((e : E) → z ≡ Queued e → ⊥) → envelopes (z ∷ zs) ≡ envelopes zs
+      skips Mark zs none = refl
+      skips (Queued e) zs none = absurd (none e refl)
 
 module _ {E : Type 0} where
   takes_append_owed : (owed : List (QueueEntry E)) (log : List (QueueEntry E)) (p : ℕ) (x : E) (es : List E)

@@ -1,5 +1,6 @@
 -- What became of a line's tasks, by the parts of the line.
-use Rattle.std.proofs.Common.{◌≡◌, ◌∙◌, ℕ, List, [], ◌∷◌, ◌++◌, map, Some, None, Box, Global, refl, sym, ap, append_assoc, append-nil}
+use Rattle.std.proofs.Common.{◌≡◌, ◌∙◌, ◌+◌, ◌<◌, ◌≤◌, ℕ, List, [], ◌∷◌, ◌++◌, map, drop, length, get_or, Some, None, Box, Global, refl, sym, ap, append_assoc, append-nil}
+use Rattle.std.proofs.lemmas.List.{at_drop_more, at_drop_all}
 use Rattle.canvas_semantics.specs.Tree.{Task, and_task}
 use Rattle.canvas_semantics.specs.Evaluation.{State, Rows, with_states, state_of}
 use Rattle.canvas_semantics.specs.States.{rows_from}
@@ -87,3 +88,31 @@ pub at_plan : (l m : Line) (ss ts : List State) (before found : Fates) (c : Came
     → ss ≡ ts → m ≡ l → found ≡ seen (rows_from 1 ts) (members l) l c
 at_plan l m ss ts before found c none is same_rows same_line =
     is ∙ (λ i. none i ++ seen (rows_from 1 (same_rows i)) (members l) (same_line i) c)
+
+number_in : (t : FrozenTask) → no_of (task_in t) ≡ (out-FrozenTask t).no
+number_in t = ap (λ p. no_of (strip_task p)) (ftask.fold_out-FrozenTask PCarried PLine PLine PTask PPlace
+    carried_step p_end_step p_line_step p_task_step place_step t)
+
+-- one more turn of the loop over the tasks in front of a line's end, and the loop's end
+module _ (rows : Rows) (ts : List FrozenTask) (i : ℕ) where
+  pub tasks_on : (t : FrozenTask) (before found all : Fates) (came comes behind : Came) → i < length ts → t ≡ get_or ts i t
+      → found ≡ before ++ seen_task rows (task_in t) came
+      → comes ≡ after came (out-FrozenTask t).no (state_of (out-FrozenTask t).no rows)
+      → (before ++ tasks_seen rows (map task_in (drop i ts)) came ≡ all) × (came_behind rows (map task_in (drop i ts)) came ≡ behind)
+      → (found ++ tasks_seen rows (map task_in (drop (i + 1) ts)) comes ≡ all)
+      × (came_behind rows (map task_in (drop (i + 1) ts)) comes ≡ behind)
+  tasks_on t before found all came comes behind inside is pushed next so_far =
+      let left : List Task = map task_in (drop (i + 1) ts) in
+      let one : Fates = seen_task rows (task_in t) came in
+      let then : Came = after came (no_of (task_in t)) (state_of (no_of (task_in t)) rows) in
+      let comes_then : comes ≡ then = next ∙ ap (λ k. after came k (state_of k rows)) (sym (number_in t)) in (
+        (λ j. pushed j ++ tasks_seen rows left (comes_then j)) ∙ append_assoc before one (tasks_seen rows left then)
+        ∙ ap (λ ns. before ++ ns) (sym (at_drop_more (λ us. tasks_seen rows (map task_in us) came) ts i t inside
+        ∙ ap (λ u. tasks_seen rows (map task_in (u ∷ drop (i + 1) ts)) came) (sym is))) ∙ so_far.0,
+        ap (came_behind rows left) comes_then
+        ∙ sym (at_drop_more (λ us. came_behind rows (map task_in us) came) ts i t inside
+        ∙ ap (λ u. came_behind rows (map task_in (u ∷ drop (i + 1) ts)) came) (sym is)) ∙ so_far.1,
+      )
+
+  pub behind_all : (came behind : Came) → length ts ≤ i → came_behind rows (map task_in (drop i ts)) came ≡ behind → came ≡ behind
+  behind_all came behind past so_far = sym (at_drop_all (λ us. came_behind rows (map task_in us) came) ts i past) ∙ so_far

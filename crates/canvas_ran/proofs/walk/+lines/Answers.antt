@@ -1,4 +1,4 @@
-use Rattle.std.proofs.Common.{◌∙◌, ◌++◌, map, ap, sym}
+use Rattle.std.proofs.Common.{refl, ◌∙◌, ◌++◌, map, ap, sym}
 use Rattle.canvas_rewrite.specs.FrozenView.{task_in, line_in, end_in}
 use Rattle.canvas_semantics.specs.Evaluation.{with_states}
 use Rattle.canvas_semantics.specs.Line.{members}
@@ -7,6 +7,7 @@ use Rattle.canvas_ran.specs.Seen.{into_body, seen}
 use Rattle.canvas_ran.specs.steps.SeenLists.{came_behind, tasks_seen, lines_seen}
 use Rattle.canvas_rewrite.proofs.PlanLines.{ok_same}
 use Rattle.canvas_rewrite.proofs.NameLines.{one_after}
+use Rattle.canvas_effects.proofs.Walked.{put_on, put_all}
 use Rattle.canvas_ran.proofs.Walks.{seen_none, seen_some, seen_group, seen_chord}
 use Rattle.canvas_ran.proofs.walk.+lines.Goals as goal
 
@@ -58,3 +59,14 @@ push_end-returns-in-Some t c =
     ∙ ap (λ ns. c.args.found.now.items ++ ns)
     (sym (seen_chord rows table c.args.end.now c.args.came.now c.in-Some.body c.in-Some.is)))
     c.push_line.ensures
+
+pub push_lines-loop-line-preserved : goal.push_lines-loop-line-preserved
+push_lines-loop-line-preserved t c =
+    put_on (λ ls. lines_seen (rows_from 1 c.args.rows.now) (members c.args.plan.now) (map line_in ls) c.args.came.now)
+    c.args.lines.now c.loop-line.line-index c.line-item.result _ c.loop-line.found.items c.push_line.new.found.items _
+    c.loop-line-test.true c.line-item.is refl c.loop-line.invariant c.in_ok-push_line.ensures
+
+pub push_lines-returns : goal.push_lines-returns
+push_lines-returns t c =
+    put_all (λ ls. lines_seen (rows_from 1 c.args.rows.now) (members c.args.plan.now) (map line_in ls) c.args.came.now)
+    c.args.lines.now c.loop-line.line-index c.loop-line.found.items _ c.loop-line-test.false refl c.loop-line.invariant

@@ -1,4 +1,4 @@
-use Rattle.std.proofs.Common.{◌∙◌, ◌++◌, ◌∷◌, [], map, ap, sym}
+use Rattle.std.proofs.Common.{refl, ◌∙◌, ◌++◌, ◌∷◌, [], map, ap, sym}
 use Rattle.canvas_rewrite.specs.FrozenView.{task_in}
 use Rattle.canvas_semantics.specs.Evaluation.{state_of}
 use Rattle.canvas_semantics.specs.States.{rows_from}
@@ -7,6 +7,7 @@ use Rattle.canvas_ran.specs.steps.SeenLists.{callbacks_seen}
 use Rattle.canvas_rewrite.specs.declared.frozen.FrozenTask.{out-FrozenTask}
 use Rattle.canvas_rewrite.proofs.PlanLines.{ok_same}
 use Rattle.canvas_rewrite.proofs.NameLines.{two}
+use Rattle.canvas_effects.proofs.Walked.{put_on, put_all}
 use Rattle.canvas_ran.proofs.Walks.{task_seen}
 use Rattle.canvas_ran.proofs.walk.+tasks.Goals as goal
 
@@ -26,3 +27,14 @@ push_task-returns t c =
     []) fate) c.in_ok-push_callbacks.ensures links errbacks
     ∙ ap (λ ns. before ++ ns) (sym (task_seen rows c.args.task.now came)))
     c.push_callbacks-2.ensures
+
+pub push_callbacks-loop-task-preserved : goal.push_callbacks-loop-task-preserved
+push_callbacks-loop-task-preserved t c =
+    put_on (λ ts. callbacks_seen (rows_from 1 c.args.rows.now) (map task_in ts)) c.args.tasks.now c.loop-task.task-index c.task-item.result
+    _ c.loop-task.found.items c.push_task.new.found.items _
+    c.loop-task-test.true c.task-item.is refl c.loop-task.invariant c.in_ok-push_task.ensures
+
+pub push_callbacks-returns : goal.push_callbacks-returns
+push_callbacks-returns t c =
+    put_all (λ ts. callbacks_seen (rows_from 1 c.args.rows.now) (map task_in ts)) c.args.tasks.now c.loop-task.task-index
+    c.loop-task.found.items _ c.loop-task-test.false refl c.loop-task.invariant
