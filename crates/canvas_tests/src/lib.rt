@@ -1,4 +1,4 @@
-//! Tests over tables of texts. They stand here, so that no crate is proved a second time for them.
+//! Tests of calls and of runs. They stand here, so that no crate is proved a second time for them.
 #![tactic(auto)]
 
 #[cfg(test)]
@@ -14,11 +14,15 @@ mod forged;
 #[cfg(test)]
 mod forged_tables;
 #[cfg(test)]
+mod missing_rows;
+#[cfg(test)]
 mod nested;
 #[cfg(test)]
 mod plans;
 #[cfg(test)]
 mod queues;
+#[cfg(test)]
+mod refused;
 #[cfg(test)]
 mod registries;
 #[cfg(test)]

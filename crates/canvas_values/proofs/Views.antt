@@ -22,7 +22,7 @@ pub made : (n : List ℕ) (a : List Arg) (k : List (List ℕ × Arg)) (i : Bool)
     ≡ parts n a k i (map task_view ls) (map task_view es)
 made n a k i ls es = search (rules, sig.the_lemmas)
 
-pub same_parts : {n n' : List ℕ} {a a' : List Arg} {k k' : List (List ℕ × Arg)} {i i' : Bool} {ls ls' es es' : List Task}
+same_parts : {n n' : List ℕ} {a a' : List Arg} {k k' : List (List ℕ × Arg)} {i i' : Bool} {ls ls' es es' : List Task}
     → n ≡ n' → a ≡ a' → k ≡ k' → i ≡ i' → ls ≡ ls' → es ≡ es' → parts n a k i ls es ≡ parts n' a' k' i' ls' es'
 same_parts {n} {n'} {a} {a'} {k} {k'} {i} {i'} {ls} {ls'} {es} {es'} hn ha hk hi hl he =
     ap (λ x. parts x a k i ls es) hn ∙ ap (λ x. parts n' x k i ls es) ha ∙ ap (λ x. parts n' a' x i ls es) hk

@@ -1,8 +1,8 @@
 //! One worker that is stopped before each of its polls.
 
-use crate::by_hand::{Left, work};
-use crate::gates::Counting;
-use crate::states::{FAILING, first_envelopes, spelled_plan};
+use crate::runs::by_hand::{Left, work};
+use crate::runs::gates::Counting;
+use crate::runs::states::{FAILING, first_envelopes, spelled_plan};
 use canvas_rewrite::Plan;
 use canvas_worker::Cause;
 use std::alloc::AllocGlobal;

@@ -1,7 +1,7 @@
 //! Runs of texts that are stopped: before they begin, by their gate, and between the end of their
 //! workers and worker 0's own work; and runs whose executor fails.
 
-use crate::gates::{Stopping, Way};
+use crate::runs::gates::{Stopping, Way};
 use canvas_engine::{RunFault, TextFault, run_text_threads};
 use canvas_samples::worked::{a_failed_member, a_hundred_and_their_sum};
 use canvas_task::BuiltinTasks;

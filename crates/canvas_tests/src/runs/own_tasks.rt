@@ -3,7 +3,7 @@
 
 ghost use Rattle.std.specs.Prelude.{◌+ℤ◌, Ok};
 
-use crate::states::{spelled_plan, tallies};
+use crate::runs::states::{spelled_plan, tallies};
 use canvas_engine::run_text_threads;
 use canvas_rewrite::Plan;
 use canvas_samples::spelled;

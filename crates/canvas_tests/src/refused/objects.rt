@@ -4,7 +4,8 @@
 ghost use Rattle.std.specs.Prelude.{◌≡◌, IfSome};
 ghost use Rattle.canvas_core.specs.Asks.{FoundInRange};
 
-use crate::states::{envelope_of, first_envelopes};
+use crate::envelopes;
+use crate::runs::states::first_envelopes;
 use canvas_backend::{Backend, BackendSeat, PlainBackend, Stored};
 use canvas_broker::{Broker, BrokerPass, PlainBroker};
 use canvas_message::{Envelope, Letter};
@@ -18,7 +19,7 @@ use std::collections::BTreeMap;
 use std::sync::Wait;
 
 fn envelope(alloc: Global) -> Result<Envelope, Memory> {
-    envelope_of(alloc, "properties", "headers", "body")
+    Ok(envelopes::envelope(alloc, "properties", "headers", "body")?)
 }
 
 fn letter(alloc: Global) -> Result<Letter, Memory> {

@@ -1,8 +1,8 @@
 //! How many polls a worker takes, what it asks its gate, and for whom it stays.
 
-use crate::by_hand::{Left, work};
-use crate::gates::Counting;
-use crate::states::{first_envelopes, spelled_plan};
+use crate::runs::by_hand::{Left, work};
+use crate::runs::gates::Counting;
+use crate::runs::states::{first_envelopes, spelled_plan};
 use canvas_rewrite::Plan;
 use canvas_worker::Cause;
 use std::alloc::AllocGlobal;

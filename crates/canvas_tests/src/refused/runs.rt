@@ -1,10 +1,10 @@
 //! Runs that may be refused memory. What rows a run has is in its contract: here it comes to an
 //! end, and has rows where it may not be without.
 
-use crate::by_hand::work;
-use crate::gates::Counting;
-use crate::own_tasks::Called;
-use crate::states::{Canvas, FAILING, first_envelopes, spelled_plan, tallies};
+use crate::runs::by_hand::work;
+use crate::runs::gates::Counting;
+use crate::runs::own_tasks::Called;
+use crate::runs::states::{Canvas, FAILING, first_envelopes, spelled_plan, tallies};
 use canvas_engine::{
     RunFault, Tally, TextFault, When, read_turns, run_text, run_text_threads, run_turns,
     run_turns_again,

@@ -1,8 +1,9 @@
 //! Messages that nobody of ours wrote, put in a worker's queue.
 
-use crate::by_hand::{Left, work};
-use crate::forgeries::{CALLBACK, Change, FORMS, MEMBER, NAMES, RESTS};
-use crate::states::{FAILING, envelope_of, push_first, spelled_plan};
+use crate::envelopes::envelope;
+use crate::runs::by_hand::{Left, work};
+use crate::runs::forgeries::{CALLBACK, Change, FORMS, MEMBER, NAMES, RESTS};
+use crate::runs::states::{FAILING, push_first, spelled_plan};
 use canvas_message::Letter;
 use canvas_rewrite::Plan;
 use canvas_task::Memory;
@@ -31,9 +32,9 @@ fn push_changed(all: &mut String, text: &str, change: &Change) -> Result<bool, A
 fn letter_of(alloc: Global, message: &str) -> Option<Letter> {
     let (properties, rest) = message.split_once('\n')?;
     let (headers, body) = rest.split_once('\n')?;
-    match envelope_of(alloc, properties, headers, body) {
+    match envelope(alloc, properties, headers, body) {
         Ok(envelope) => Letter::new(alloc, envelope).ok(),
-        Err(Memory) => None,
+        Err(_) => None,
     }
 }
 

@@ -2,10 +2,14 @@
 //! `./refuse-memory` runs each of these tests with each growth refused in turn, one in a run; in
 //! the gate there is none. So a call that is refused for no growth fails both.
 
-use crate::refused_objects::{core, plain_queue, plain_table, queue, registry, table};
-use crate::refused_parts::{arguments, effects, messages, plans, signatures};
-use crate::refused_runs::{CANVASES, How, runs, turns};
-use crate::states::{Canvas, FAILING, spelled_plan};
+mod objects;
+mod parts;
+mod runs;
+
+use crate::refused::objects::{core, plain_queue, plain_table, queue, registry, table};
+use crate::refused::parts::{arguments, effects, messages, plans, signatures};
+use crate::refused::runs::{CANVASES, How, runs, turns};
+use crate::runs::states::{Canvas, FAILING, spelled_plan};
 use canvas_rewrite::Plan;
 use canvas_task::Memory;
 use std::alloc::{AllocGlobal, Global};

@@ -1,5 +1,5 @@
 use Rattle.std.proofs.Common.{◌≡◌}
-use Rattle.canvas_run_tests.proofs.by_hand.publish_all.Given as goal
+use Rattle.canvas_tests.proofs.runs.by_hand.publish_all.Given as goal
 
 abbrev pub invariant-loop-envelope : goal.invariant-loop-envelope
 invariant-loop-envelope g l =

@@ -3,9 +3,8 @@
 use canvas_codec::seal;
 use canvas_effects::first_messages;
 use canvas_engine::{RunFault, Tally, run};
-use canvas_message::{Envelope, Letter};
+use canvas_message::Letter;
 use canvas_rewrite::Plan;
-use canvas_samples::frozen_texts::bytes_of;
 use canvas_samples::sample::plan_of;
 use canvas_samples::spelled;
 use canvas_task::{ListOf, Memory, Tasks};
@@ -49,20 +48,6 @@ pub(crate) fn first_envelopes(alloc: Global, plan: &Plan) -> Result<Vec<Letter>,
         Ok(()) => Ok(envelopes),
         Err(Memory) => Err(Memory),
     }
-}
-
-/// An envelope whose texts are in the notation of frozen texts.
-pub(crate) fn envelope_of(
-    alloc: Global,
-    properties: &str,
-    headers: &str,
-    body: &str,
-) -> Result<Envelope, Memory> {
-    Ok(Envelope {
-        properties: bytes_of(alloc, properties)?,
-        headers: bytes_of(alloc, headers)?,
-        body: bytes_of(alloc, body)?,
-    })
 }
 
 /// What the workers of a run on threads count.
