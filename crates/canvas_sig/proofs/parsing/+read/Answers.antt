@@ -314,3 +314,13 @@ read_members-members-smaller t c =
     c.in_ok-name.ensures ∙ ap (λ k. Some (option_map (λ s. s.now) k, c.next_key.new.self)) c.in-Some.is in
     let first : c.next_key.new.self ≡ token_of c.in_ok-token.token ∷ c.next_token.new.self = c.in_ok-token.ensures in
     omega (arith, read_key-shorter c.members.reader (Some c.in-Some.name.now) c.next_key.new.self named, ap length first, c.in_ok-member.ensures.not_longer)
+
+pub read_members-returns-clause-shorter : goal.read_members-returns-clause-shorter
+read_members-returns-clause-shorter t c =
+    let closed : read_key c.members.reader ≡ Some (None, c.next_key.new.self) =
+    c.in_ok-name.ensures ∙ ap (λ k. Some (option_map (λ s. s.now) k, c.next_key.new.self)) c.in_default.is in
+    omega (arith, read_key-shorter c.members.reader None c.next_key.new.self closed, c.members.invariant.4)
+
+pub read_value-returns-in-Some-clause-not_longer : goal.read_value-returns-in-Some-clause-not_longer
+read_value-returns-in-Some-clause-not_longer t c =
+    omega arith
