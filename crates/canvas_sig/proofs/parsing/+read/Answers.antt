@@ -213,13 +213,16 @@ pub read_items-returns-in_err-item-clause-stack : goal.read_items-returns-in_err
 read_items-returns-in_err-item-clause-stack t c = rw ((err_from_is_err_and c.from_residual-in_err-item.result c.from_residual-in_err-item.ensures.1).1) tt
 
 pub read_items-returns-in_err-push_item-clause-ok : goal.read_items-returns-in_err-push_item-clause-ok
-read_items-returns-in_err-push_item-clause-ok t c = rw ((err_from_is_err_and c.from_residual-in_err-push_item.result c.from_residual-in_err-push_item.ensures.1).1) tt
+read_items-returns-in_err-push_item-clause-ok t c =
+    rw ((err_from_is_err_and c.from_residual-in_err-push_item.result c.from_residual-in_err-push_item.ensures.1).1) tt
 
 pub read_items-returns-in_err-push_item-clause-shorter : goal.read_items-returns-in_err-push_item-clause-shorter
-read_items-returns-in_err-push_item-clause-shorter t c = rw ((err_from_is_err_and c.from_residual-in_err-push_item.result c.from_residual-in_err-push_item.ensures.1).1) tt
+read_items-returns-in_err-push_item-clause-shorter t c =
+    rw ((err_from_is_err_and c.from_residual-in_err-push_item.result c.from_residual-in_err-push_item.ensures.1).1) tt
 
 pub read_items-returns-in_err-push_item-clause-stack : goal.read_items-returns-in_err-push_item-clause-stack
-read_items-returns-in_err-push_item-clause-stack t c = rw ((err_from_is_err_and c.from_residual-in_err-push_item.result c.from_residual-in_err-push_item.ensures.1).1) tt
+read_items-returns-in_err-push_item-clause-stack t c =
+    rw ((err_from_is_err_and c.from_residual-in_err-push_item.result c.from_residual-in_err-push_item.ensures.1).1) tt
 
 pub read_members-returns-in_err-name-clause-ok : goal.read_members-returns-in_err-name-clause-ok
 read_members-returns-in_err-name-clause-ok t c = rw ((err_from_is_err_and c.from_residual.result c.from_residual.ensures.1).1) tt
@@ -234,7 +237,8 @@ pub read_members-returns-in_err-token-clause-ok : goal.read_members-returns-in_e
 read_members-returns-in_err-token-clause-ok t c = rw ((err_from_is_err_and c.from_residual-in_err-token.result c.from_residual-in_err-token.ensures.1).1) tt
 
 pub read_members-returns-in_err-token-clause-shorter : goal.read_members-returns-in_err-token-clause-shorter
-read_members-returns-in_err-token-clause-shorter t c = rw ((err_from_is_err_and c.from_residual-in_err-token.result c.from_residual-in_err-token.ensures.1).1) tt
+read_members-returns-in_err-token-clause-shorter t c =
+    rw ((err_from_is_err_and c.from_residual-in_err-token.result c.from_residual-in_err-token.ensures.1).1) tt
 
 pub read_members-returns-in_err-token-clause-stack : goal.read_members-returns-in_err-token-clause-stack
 read_members-returns-in_err-token-clause-stack t c = rw ((err_from_is_err_and c.from_residual-in_err-token.result c.from_residual-in_err-token.ensures.1).1) tt
@@ -243,10 +247,12 @@ pub read_members-returns-in_err-member-clause-ok : goal.read_members-returns-in_
 read_members-returns-in_err-member-clause-ok t c = rw ((err_from_is_err_and c.from_residual-in_err-member.result c.from_residual-in_err-member.ensures.1).1) tt
 
 pub read_members-returns-in_err-member-clause-shorter : goal.read_members-returns-in_err-member-clause-shorter
-read_members-returns-in_err-member-clause-shorter t c = rw ((err_from_is_err_and c.from_residual-in_err-member.result c.from_residual-in_err-member.ensures.1).1) tt
+read_members-returns-in_err-member-clause-shorter t c =
+    rw ((err_from_is_err_and c.from_residual-in_err-member.result c.from_residual-in_err-member.ensures.1).1) tt
 
 pub read_members-returns-in_err-member-clause-stack : goal.read_members-returns-in_err-member-clause-stack
-read_members-returns-in_err-member-clause-stack t c = rw ((err_from_is_err_and c.from_residual-in_err-member.result c.from_residual-in_err-member.ensures.1).1) tt
+read_members-returns-in_err-member-clause-stack t c =
+    rw ((err_from_is_err_and c.from_residual-in_err-member.result c.from_residual-in_err-member.ensures.1).1) tt
 
 pub read_members-returns-in_err-push-clause-ok : goal.read_members-returns-in_err-push-clause-ok
 read_members-returns-in_err-push-clause-ok t c = rw ((err_from_is_err_and c.from_residual-in_err-push.result c.from_residual-in_err-push.ensures.1).1) tt
@@ -261,7 +267,8 @@ pub read_members-returns-in_err-found-clause-ok : goal.read_members-returns-in_e
 read_members-returns-in_err-found-clause-ok t c = rw ((err_from_is_err_and c.from_residual-in_err-found.result c.from_residual-in_err-found.ensures.1).1) tt
 
 pub read_members-returns-in_err-found-clause-shorter : goal.read_members-returns-in_err-found-clause-shorter
-read_members-returns-in_err-found-clause-shorter t c = rw ((err_from_is_err_and c.from_residual-in_err-found.result c.from_residual-in_err-found.ensures.1).1) tt
+read_members-returns-in_err-found-clause-shorter t c =
+    rw ((err_from_is_err_and c.from_residual-in_err-found.result c.from_residual-in_err-found.ensures.1).1) tt
 
 pub read_members-returns-in_err-found-clause-stack : goal.read_members-returns-in_err-found-clause-stack
 read_members-returns-in_err-found-clause-stack t c = rw ((err_from_is_err_and c.from_residual-in_err-found.result c.from_residual-in_err-found.ensures.1).1) tt

@@ -121,7 +121,8 @@ read_chord-returns-in_err-new t c =
 
 pub read_checked-returns-in-Some : goal.read_checked-returns-in-Some
 read_checked-returns-in-Some t c =
-    fails_with c.in-Some.fault _ (ap (λ o. unless o (tree_as (task_reading c.args.left) (tree_reading c.args.left) (primitive_of (subtype (view c.args.members.now.value.now))) (view c.args.members.now.value.now))) (sym c.first_fault.ensures ∙ c.in-Some.is))
+    fails_with c.in-Some.fault _ (ap (λ o. unless o (tree_as (task_reading c.args.left) (tree_reading c.args.left) (primitive_of (subtype
+    (view c.args.members.now.value.now))) (view c.args.members.now.value.now))) (sym c.first_fault.ensures ∙ c.in-Some.is))
 
 pub read_all-loop-value-init : goal.read_all-loop-value-init
 read_all-loop-value-init t c =
@@ -129,7 +130,8 @@ read_all-loop-value-init t c =
 
 pub read_all-returns : goal.read_all-returns
 read_all-returns t c =
-    c.loop-value.invariant ∙ all_seen tree_view view (tree_reading c.args.left) c.loop-value.nodes.items c.args.values.now c.loop-value.value-index c.loop-value-test.false
+    c.loop-value.invariant ∙ all_seen tree_view view
+    (tree_reading c.args.left) c.loop-value.nodes.items c.args.values.now c.loop-value.value-index c.loop-value-test.false
 
 pub read_node-returns-then-left-eq0 : goal.read_node-returns-then-left-eq0
 read_node-returns-then-left-eq0 t c =
@@ -145,16 +147,20 @@ read_node-returns t c =
 pub read_checked-returns-in-None : goal.read_checked-returns-in-None
 read_checked-returns-in-None t c =
     subst (Gives tree_view c.read_as.result)
-    (sym (ap (λ o. unless o (tree_as (task_reading c.args.left) (tree_reading c.args.left) (primitive_of (subtype (view c.args.members.now.value.now))) (view c.args.members.now.value.now))) (sym c.first_fault.ensures ∙ c.in-None.is)
-    ∙ ap (λ p. tree_as (task_reading c.args.left) (tree_reading c.args.left) p (view c.args.members.now.value.now)) (sym (c.primitive_of.ensures ∙ ap primitive_of c.requires.kind_found))))
+    (sym (ap (λ o. unless o (tree_as (task_reading c.args.left) (tree_reading c.args.left) (primitive_of (subtype
+    (view c.args.members.now.value.now))) (view c.args.members.now.value.now))) (sym c.first_fault.ensures ∙ c.in-None.is)
+    ∙ ap (λ p. tree_as (task_reading c.args.left) (tree_reading c.args.left) p (view c.args.members.now.value.now)) (sym (c.primitive_of.ensures
+    ∙ ap primitive_of c.requires.kind_found))))
     c.read_as.ensures
 
 pub read_chain-returns : goal.read_chain-returns
 read_chain-returns t c =
-    ap (λ r. r >>= λ ts. Ok (chain (trees_of ts))) (sym (ap (in_turn (tree_reading c.args.left)) (c.listed.ensures ∙ ap listed c.kwarg.ensures)) ∙ c.in_ok-nodes.ensures)
+    ap (λ r. r >>= λ ts. Ok (chain (trees_of ts))) (sym (ap (in_turn (tree_reading c.args.left)) (c.listed.ensures ∙ ap listed c.kwarg.ensures))
+    ∙ c.in_ok-nodes.ensures)
     ∙ ap (λ ns. Ok (chain (trees_of (map tree_view ns)))) (sym c.of.ensures) ∙ ap Ok (sym (view-Chain c.of.result))
 
 pub read_group-returns : goal.read_group-returns
 read_group-returns t c =
-    ap (λ r. r >>= λ ts. Ok (group 0 (trees_of ts))) (sym (ap (in_turn (tree_reading c.args.left)) (c.listed.ensures ∙ ap listed c.kwarg.ensures)) ∙ c.in_ok-nodes.ensures)
+    ap (λ r. r >>= λ ts. Ok (group 0 (trees_of ts))) (sym (ap (in_turn (tree_reading c.args.left)) (c.listed.ensures ∙ ap listed c.kwarg.ensures))
+    ∙ c.in_ok-nodes.ensures)
     ∙ ap (λ ns. Ok (group 0 (trees_of (map tree_view ns)))) (sym c.of.ensures) ∙ ap Ok (sym (view-Group c.of.result))

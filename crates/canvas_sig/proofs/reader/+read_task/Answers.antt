@@ -17,8 +17,10 @@ read_task-returns t c =
     (record { name = c.of.result; args = c.of-2.result; kwargs = c.of-3.result; immutable = c.is_true.result; links = c.of-4.result; errbacks = c.of-5.result })
     (sym (ap (in_turn arg_reading) (c.listed.ensures ∙ ap listed c.requires.args_found)) ∙ c.in_ok-args.ensures ∙ ap Ok (sym c.of-2.ensures))
     (ap (λ d. in_turn named_reading (object_members d)) (sym c.requires.kwargs_found) ∙ c.in_ok-kwargs.ensures ∙ ap Ok (sym c.of-3.ensures))
-    (ap (in_turn (task_reading c.args.left)) (sym (c.as_list.ensures ∙ ap as_list c.requires.link_found)) ∙ c.in_ok-links.ensures ∙ ap (λ ts. Ok (map task_view ts)) (sym c.of-4.ensures))
-    (ap (in_turn (task_reading c.args.left)) (sym (c.as_list-2.ensures ∙ ap as_list c.requires.link_error_found)) ∙ c.in_ok-errbacks.ensures ∙ ap (λ ts. Ok (map task_view ts)) (sym c.of-5.ensures))
+    (ap (in_turn (task_reading c.args.left)) (sym (c.as_list.ensures ∙ ap as_list c.requires.link_found)) ∙ c.in_ok-links.ensures ∙ ap (λ ts. Ok
+    (map task_view ts)) (sym c.of-4.ensures))
+    (ap (in_turn (task_reading c.args.left)) (sym (c.as_list-2.ensures ∙ ap as_list c.requires.link_error_found)) ∙ c.in_ok-errbacks.ensures ∙ ap
+    (λ ts. Ok (map task_view ts)) (sym c.of-5.ensures))
     (ap text_of (sym c.requires.name_found) ∙ sym c.in_ok-name.ensures ∙ sym c.of.ensures)
     (ap is_true (sym c.requires.flag_found) ∙ sym c.is_true.ensures)
 
@@ -69,18 +71,21 @@ read_task-read_all_linked-requires-2 t c =
 
 pub read_checked_link-returns-in-Some : goal.read_checked_link-returns-in-Some
 read_checked_link-returns-in-Some t c =
-    fails_with c.in-Some.fault _ (ap (λ o. unless o (task_with (task_reading c.args.left) (view c.args.members.now.value.now))) (sym c.first_fault.ensures ∙ c.in-Some.is))
+    fails_with c.in-Some.fault _ (ap (λ o. unless o (task_with (task_reading c.args.left) (view c.args.members.now.value.now)))
+    (sym c.first_fault.ensures ∙ c.in-Some.is))
 
 pub read_checked_link-returns-in-None : goal.read_checked_link-returns-in-None
 read_checked_link-returns-in-None t c =
-    subst (Gives task_view c.read_task.result) (sym (ap (λ o. unless o (task_with (task_reading c.args.left) (view c.args.members.now.value.now))) (sym c.first_fault.ensures ∙ c.in-None.is)))
+    subst (Gives task_view c.read_task.result) (sym (ap (λ o. unless o (task_with (task_reading c.args.left) (view c.args.members.now.value.now)))
+    (sym c.first_fault.ensures ∙ c.in-None.is)))
     c.read_task.ensures
 
 pub read_task-returns-in_err-args : goal.read_task-returns-in_err-args
 read_task-returns-in_err-args t c =
     let told = err_from_is_err_and c.from_residual.result c.from_residual.ensures.1 in
     let fault = c.in_err-args.field-0.0 in
-    rw (told.1, told.2) (fails_first fault _ _ (subst (λ ds. Fails fault (in_turn arg_reading ds)) (c.listed.ensures ∙ ap listed c.requires.args_found) c.in_err-args.ensures))
+    rw (told.1, told.2) (fails_first fault _ _ (subst (λ ds. Fails fault (in_turn arg_reading ds)) (c.listed.ensures
+    ∙ ap listed c.requires.args_found) c.in_err-args.ensures))
 
 pub read_task-returns-in_err-kwargs : goal.read_task-returns-in_err-kwargs
 read_task-returns-in_err-kwargs t c =
@@ -98,7 +103,8 @@ read_task-returns-in_err-links t c =
     (sym (ap (in_turn arg_reading) (c.listed.ensures ∙ ap listed c.requires.args_found)) ∙ c.in_ok-args.ensures)
     (fails_behind fault _ (named c.in_ok-kwargs.kwargs.entries) _
     (ap (λ d. in_turn named_reading (object_members d)) (sym c.requires.kwargs_found) ∙ c.in_ok-kwargs.ensures)
-    (fails_first fault _ _ (subst (λ ds. Fails fault (in_turn (task_reading c.args.left) ds)) (c.as_list.ensures ∙ ap as_list c.requires.link_found) c.in_err-links.ensures))))
+    (fails_first fault _ _ (subst (λ ds. Fails fault (in_turn (task_reading c.args.left) ds)) (c.as_list.ensures
+    ∙ ap as_list c.requires.link_found) c.in_err-links.ensures))))
 
 pub read_task-returns-in_err-errbacks : goal.read_task-returns-in_err-errbacks
 read_task-returns-in_err-errbacks t c =
@@ -110,7 +116,8 @@ read_task-returns-in_err-errbacks t c =
     (ap (λ d. in_turn named_reading (object_members d)) (sym c.requires.kwargs_found) ∙ c.in_ok-kwargs.ensures)
     (fails_behind fault _ _ _
     (ap (in_turn (task_reading c.args.left)) (sym (c.as_list.ensures ∙ ap as_list c.requires.link_found)) ∙ c.in_ok-links.ensures)
-    (fails_first fault _ _ (subst (λ ds. Fails fault (in_turn (task_reading c.args.left) ds)) (c.as_list-2.ensures ∙ ap as_list c.requires.link_error_found) c.in_err-errbacks.ensures)))))
+    (fails_first fault _ _ (subst (λ ds. Fails fault (in_turn (task_reading c.args.left) ds)) (c.as_list-2.ensures
+    ∙ ap as_list c.requires.link_error_found) c.in_err-errbacks.ensures)))))
 
 pub read_task-returns-in_err-name : goal.read_task-returns-in_err-name
 read_task-returns-in_err-name t c =
@@ -123,7 +130,8 @@ read_all_linked-loop-value-init t c =
 
 pub read_all_linked-returns : goal.read_all_linked-returns
 read_all_linked-returns t c =
-    c.loop-value.invariant ∙ all_seen task_view view (task_reading c.args.left) c.loop-value.tasks.items c.args.values.now c.loop-value.value-index c.loop-value-test.false
+    c.loop-value.invariant ∙ all_seen task_view view
+    (task_reading c.args.left) c.loop-value.tasks.items c.args.values.now c.loop-value.value-index c.loop-value-test.false
 
 pub read_linked-returns-then-left-eq0 : goal.read_linked-returns-then-left-eq0
 read_linked-returns-then-left-eq0 t c =
