@@ -1,12 +1,12 @@
 -- One level of reading.
-use Rattle.std.proofs.Common.{◌≡◌, ◌≢◌, ℕ, zero, suc, ◌-◌, List, [], ◌∷◌, ◌++◌, map, Result, Ok, Err, refl, sym, ap, ◌∙◌, arith}
+use Rattle.std.proofs.Common.{◌≡◌, ◌≢◌, ℕ, zero, suc, ◌-◌, ◌≤◌, length, drop, List, [], ◌∷◌, ◌++◌, map, Result, Ok, Err, refl, sym, ap, subst, ◌∙◌, arith}
 use Rattle.std.specs.Prelude.{codes}
-use Rattle.std.proofs.lemmas.List.{map_push}
+use Rattle.std.proofs.lemmas.List.{map_push, append-nil, drop_all}
 use Rattle.serde_json.specs.Data.{Data}
 use Rattle.canvas_values.specs.declared.fault.SigFault.{SigFault}
 use Rattle.canvas_values.specs.declared.fault.SigFault.TheVariants.{Memory}
 use Rattle.canvas_values.specs.Fields.{field, args, kwargs, link, link_error, listed, object_members, as_list, text_of, is_true}
-use Rattle.canvas_values.specs.Answers.{Fails, in_turn}
+use Rattle.canvas_values.specs.Answers.{◌>>=◌, Fails, in_turn}
 use Rattle.canvas_values.specs.Grammar.{arg_reading, named_reading}
 use Rattle.canvas_values.specs.steps.Reading.{task_with, linked_with, task_reading, tree_with, tree_reading}
 use Rattle.canvas_semantics.specs.Tree.{Task}
@@ -45,3 +45,32 @@ pub next_seen : {X Y : Type 0} (view : X → Y) (f : Data → Result Y SigFault)
     → new ≡ xs ++ x ∷ [] → f d ≡ Ok (view x) → left ≡ d ∷ now → onto (map view xs) (in_turn f left) ≡ onto (map view new) (in_turn f now)
 next_seen view f xs new x d left now pushed read next =
     next_read f (map view xs) (map view new) (view x) d left now (ap (map view) pushed ∙ map_push view xs x) read next
+
+pub fails_first : {A B : Type 0} (e : SigFault) (r : Result A SigFault) (g : A → Result B SigFault) → Fails e r → Fails e (r >>= g)
+fails_first Memory r g h = tt
+fails_first e r g h = ap (λ x. x >>= g) h
+
+pub fails_behind : {A B : Type 0} (e : SigFault) (r : Result A SigFault) (x : A) (g : A → Result B SigFault) → r ≡ Ok x → Fails e (g x)
+    → Fails e (r >>= g)
+fails_behind e r x g is h = subst (λ y. Fails e (y >>= g)) (sym is) h
+
+-- reading stops at one that fails
+pub stops_seen : {X Y : Type 0} (view : X → Y) (f : Data → Result Y SigFault) (xs : List X) (e : SigFault) (d : Data) (left now : List Data)
+    → Fails e (f d) → left ≡ d ∷ now → Fails e (onto (map view xs) (in_turn f left))
+stops_seen view f xs e d left now fails next =
+    subst (λ ds. Fails e (onto (map view xs) (in_turn f ds))) (sym next) (fails_first e _ _ (fails_first e _ _ fails))
+
+nothing_before : {Y : Type 0} (r : Result (List Y) SigFault) → r ≡ onto [] r
+nothing_before (Ok ys) = refl
+nothing_before (Err e) = refl
+
+-- before the first, nothing was read
+pub none_seen : {X Y : Type 0} (view : X → Y) (f : Data → Result Y SigFault) (ds : List Data) (new : List X) → new ≡ []
+    → in_turn f ds ≡ onto (map view new) (in_turn f ds)
+none_seen view f ds new none = nothing_before (in_turn f ds) ∙ ap (λ xs. onto (map view xs) (in_turn f ds)) (sym none)
+
+-- behind the last, all was read
+pub all_seen : {X Y Z : Type 0} (view : X → Y) (see : Z → Data) (f : Data → Result Y SigFault) (new : List X) (vs : List Z) (i : ℕ)
+    → length vs ≤ i → onto (map view new) (in_turn f (map see (drop i vs))) ≡ Ok (map view new)
+all_seen view see f new vs i past =
+    ap (λ xs. onto (map view new) (in_turn f (map see xs))) (drop_all i vs past) ∙ ap Ok (append-nil (map view new))

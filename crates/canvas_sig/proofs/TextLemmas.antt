@@ -1,6 +1,6 @@
 -- The first refusal of a text, from what reading gave.
 use Rattle.std.proofs.Common.{◌≡◌, ◌≢◌, suc, Bool, true, false, Option, Some, None, Result, Ok, Err, refl, sym, ap, ap₂, ◌∙◌, arith}
-use Rattle.std.specs.Prelude.{if◌then◌else◌, length, nat_lt, IfOk, IfErr, MatchResult}
+use Rattle.std.specs.Prelude.{if◌then◌else◌, length, nat_lt, IfOk, OnOk, IfErr, MatchResult}
 use Rattle.serde_json.specs.Data.{Data}
 use Rattle.serde_json.specs.Read.{max_depth, read as read_json}
 use Rattle.std.specs.Str.{is_utf8}
@@ -105,3 +105,19 @@ refused bytes e h =
 pub fails_refused : (bytes : Text) (e : SigFault) → Fails e (signature_reading bytes) → e ≢ Memory → text_reading bytes ≡ Err e
 fails_refused bytes Memory h other = absurd (other refl)
 fails_refused bytes e h other = refused bytes e h
+
+-- where the text isn't too large, its JSON says what is read
+pub signature_of : (bytes : Text) → nat_lt most_bytes (length bytes) ≡ false
+    → signature_reading bytes ≡ json_reading (json_of bytes) >>= λ d. tree_reading (suc max_depth) d
+signature_of bytes short = ap (λ b. unless (fault_if b TooLarge) (json_reading (json_of bytes) >>= λ d. tree_reading (suc max_depth) d)) short
+
+pub too_large : (bytes : Text) → nat_lt most_bytes (length bytes) ≡ true → signature_reading bytes ≡ Err TooLarge
+too_large bytes large = ap (λ b. unless (fault_if b TooLarge) (json_reading (json_of bytes) >>= λ d. tree_reading (suc max_depth) d)) large
+
+pub holds_at_memory : {A P : Type 0} (r : Result A SigFault) → P → IfErr r (λ e. e ≡ Memory → P)
+holds_at_memory (Ok x) p = tt
+holds_at_memory (Err e) p = λ is. p
+
+pub holds_on_ok : {A P : Type 0} (r : Result A SigFault) → P → OnOk r P
+holds_on_ok (Ok x) p = p
+holds_on_ok (Err e) p = tt

@@ -1,6 +1,6 @@
-use Rattle.std.proofs.Common.{◌≡◌, ◌-◌, ◌<◌, [], ◌∷◌, ◌++◌, length, refl, Some, None, sym, ap, ◌∙◌, arith}
+use Rattle.std.proofs.Common.{◌≡◌, ◌-◌, ◌<◌, [], ◌∷◌, ◌++◌, length, refl, Some, None, option_map, sym, ap, subst, ◌∙◌, arith}
 use Rattle.std.proofs.lemmas.List.{append_assoc, append-nil}
-use Rattle.std.proofs.lemmas.Result.{IfOk-weaker}
+use Rattle.std.proofs.lemmas.Result.{IfOk-weaker, err_from_is_err_and}
 use Rattle.json.specs.Json.{parse_map, after_end_array, read_key, items, members, value}
 use Rattle.json.specs.Reads.{token_of}
 use Rattle.json.proofs.Grammar.{value_is, read_key-shorter}
@@ -9,6 +9,7 @@ use Rattle.serde_json.specs.Read.{of_json, of_items, of_members, converted}
 use Rattle.canvas_sig.proofs.Alone.{read_alone, refused_alone, refused_deep, list_opened, object_opened}
 use Rattle.canvas_sig.proofs.Conversion.{item_read, item_refused, items_over, member_read, member_refused, key_refused, members_over, nothing_before}
 use Rattle.canvas_sig.specs.Datum.{view, items_view}
+use Rattle.canvas_sig.specs.steps.Source.{Item}
 use Rattle.canvas_sig.specs.steps.Names.{put_all}
 use Rattle.canvas_sig.proofs.Parsed.{Named, since_start, view-List, view-Object, put_pushed, items_before, all_before, one_more_item}
 use Rattle.canvas_sig.proofs.parsing.+read.Goals as goal
@@ -177,3 +178,156 @@ read_members-returns-clause-ok t c =
     let here = c.in_ok-found.ensures ∙ ap (λ es. put_all es no_members)
     (since_start c.deref.result.now c.args.stack.now.items found c.len-start.result (grind arith) (c.deref.ensures.value ∙ l.invariant.5)) in
     ap (parse_map object) all ∙ ap (λ d. Some (d, r)) (sym (ap object here) ∙ sym (view-Object c.in_ok-found.found))
+
+pub read_items-read_value-requires : goal.read_items-read_value-requires
+read_items-read_value-requires t c = (omega (arith, c.decreases), tt)
+
+pub read_members-read_value-requires : goal.read_members-read_value-requires
+read_members-read_value-requires t c = (omega (arith, c.decreases), tt)
+
+pub read_nested-read_items-requires : goal.read_nested-read_items-requires
+read_nested-read_items-requires t c = (omega (arith, c.decreases, c.if-left-eq0.false), tt)
+
+pub read_nested-read_members-requires : goal.read_nested-read_members-requires
+read_nested-read_members-requires t c = (omega (arith, c.decreases, c.if-left-eq0.false), tt)
+
+pub read_value-read_nested-requires : goal.read_value-read_nested-requires
+read_value-read_nested-requires t c = (omega (arith, c.decreases), sym c.alone.ensures ∙ ap (option_map view) c.in-None.is)
+
+pub read_items-returns-in_err-token-clause-ok : goal.read_items-returns-in_err-token-clause-ok
+read_items-returns-in_err-token-clause-ok t c = rw ((err_from_is_err_and c.from_residual.result c.from_residual.ensures.1).1) tt
+
+pub read_items-returns-in_err-token-clause-shorter : goal.read_items-returns-in_err-token-clause-shorter
+read_items-returns-in_err-token-clause-shorter t c = rw ((err_from_is_err_and c.from_residual.result c.from_residual.ensures.1).1) tt
+
+pub read_items-returns-in_err-token-clause-stack : goal.read_items-returns-in_err-token-clause-stack
+read_items-returns-in_err-token-clause-stack t c = rw ((err_from_is_err_and c.from_residual.result c.from_residual.ensures.1).1) tt
+
+pub read_items-returns-in_err-item-clause-ok : goal.read_items-returns-in_err-item-clause-ok
+read_items-returns-in_err-item-clause-ok t c = rw ((err_from_is_err_and c.from_residual-in_err-item.result c.from_residual-in_err-item.ensures.1).1) tt
+
+pub read_items-returns-in_err-item-clause-shorter : goal.read_items-returns-in_err-item-clause-shorter
+read_items-returns-in_err-item-clause-shorter t c = rw ((err_from_is_err_and c.from_residual-in_err-item.result c.from_residual-in_err-item.ensures.1).1) tt
+
+pub read_items-returns-in_err-item-clause-stack : goal.read_items-returns-in_err-item-clause-stack
+read_items-returns-in_err-item-clause-stack t c = rw ((err_from_is_err_and c.from_residual-in_err-item.result c.from_residual-in_err-item.ensures.1).1) tt
+
+pub read_items-returns-in_err-push_item-clause-ok : goal.read_items-returns-in_err-push_item-clause-ok
+read_items-returns-in_err-push_item-clause-ok t c =
+    rw ((err_from_is_err_and c.from_residual-in_err-push_item.result c.from_residual-in_err-push_item.ensures.1).1) tt
+
+pub read_items-returns-in_err-push_item-clause-shorter : goal.read_items-returns-in_err-push_item-clause-shorter
+read_items-returns-in_err-push_item-clause-shorter t c =
+    rw ((err_from_is_err_and c.from_residual-in_err-push_item.result c.from_residual-in_err-push_item.ensures.1).1) tt
+
+pub read_items-returns-in_err-push_item-clause-stack : goal.read_items-returns-in_err-push_item-clause-stack
+read_items-returns-in_err-push_item-clause-stack t c =
+    rw ((err_from_is_err_and c.from_residual-in_err-push_item.result c.from_residual-in_err-push_item.ensures.1).1) tt
+
+pub read_members-returns-in_err-name-clause-ok : goal.read_members-returns-in_err-name-clause-ok
+read_members-returns-in_err-name-clause-ok t c = rw ((err_from_is_err_and c.from_residual.result c.from_residual.ensures.1).1) tt
+
+pub read_members-returns-in_err-name-clause-shorter : goal.read_members-returns-in_err-name-clause-shorter
+read_members-returns-in_err-name-clause-shorter t c = rw ((err_from_is_err_and c.from_residual.result c.from_residual.ensures.1).1) tt
+
+pub read_members-returns-in_err-name-clause-stack : goal.read_members-returns-in_err-name-clause-stack
+read_members-returns-in_err-name-clause-stack t c = rw ((err_from_is_err_and c.from_residual.result c.from_residual.ensures.1).1) tt
+
+pub read_members-returns-in_err-token-clause-ok : goal.read_members-returns-in_err-token-clause-ok
+read_members-returns-in_err-token-clause-ok t c = rw ((err_from_is_err_and c.from_residual-in_err-token.result c.from_residual-in_err-token.ensures.1).1) tt
+
+pub read_members-returns-in_err-token-clause-shorter : goal.read_members-returns-in_err-token-clause-shorter
+read_members-returns-in_err-token-clause-shorter t c =
+    rw ((err_from_is_err_and c.from_residual-in_err-token.result c.from_residual-in_err-token.ensures.1).1) tt
+
+pub read_members-returns-in_err-token-clause-stack : goal.read_members-returns-in_err-token-clause-stack
+read_members-returns-in_err-token-clause-stack t c = rw ((err_from_is_err_and c.from_residual-in_err-token.result c.from_residual-in_err-token.ensures.1).1) tt
+
+pub read_members-returns-in_err-member-clause-ok : goal.read_members-returns-in_err-member-clause-ok
+read_members-returns-in_err-member-clause-ok t c = rw ((err_from_is_err_and c.from_residual-in_err-member.result c.from_residual-in_err-member.ensures.1).1) tt
+
+pub read_members-returns-in_err-member-clause-shorter : goal.read_members-returns-in_err-member-clause-shorter
+read_members-returns-in_err-member-clause-shorter t c =
+    rw ((err_from_is_err_and c.from_residual-in_err-member.result c.from_residual-in_err-member.ensures.1).1) tt
+
+pub read_members-returns-in_err-member-clause-stack : goal.read_members-returns-in_err-member-clause-stack
+read_members-returns-in_err-member-clause-stack t c =
+    rw ((err_from_is_err_and c.from_residual-in_err-member.result c.from_residual-in_err-member.ensures.1).1) tt
+
+pub read_members-returns-in_err-push-clause-ok : goal.read_members-returns-in_err-push-clause-ok
+read_members-returns-in_err-push-clause-ok t c = rw ((err_from_is_err_and c.from_residual-in_err-push.result c.from_residual-in_err-push.ensures.1).1) tt
+
+pub read_members-returns-in_err-push-clause-shorter : goal.read_members-returns-in_err-push-clause-shorter
+read_members-returns-in_err-push-clause-shorter t c = rw ((err_from_is_err_and c.from_residual-in_err-push.result c.from_residual-in_err-push.ensures.1).1) tt
+
+pub read_members-returns-in_err-push-clause-stack : goal.read_members-returns-in_err-push-clause-stack
+read_members-returns-in_err-push-clause-stack t c = rw ((err_from_is_err_and c.from_residual-in_err-push.result c.from_residual-in_err-push.ensures.1).1) tt
+
+pub read_members-returns-in_err-found-clause-ok : goal.read_members-returns-in_err-found-clause-ok
+read_members-returns-in_err-found-clause-ok t c = rw ((err_from_is_err_and c.from_residual-in_err-found.result c.from_residual-in_err-found.ensures.1).1) tt
+
+pub read_members-returns-in_err-found-clause-shorter : goal.read_members-returns-in_err-found-clause-shorter
+read_members-returns-in_err-found-clause-shorter t c =
+    rw ((err_from_is_err_and c.from_residual-in_err-found.result c.from_residual-in_err-found.ensures.1).1) tt
+
+pub read_members-returns-in_err-found-clause-stack : goal.read_members-returns-in_err-found-clause-stack
+read_members-returns-in_err-found-clause-stack t c = rw ((err_from_is_err_and c.from_residual-in_err-found.result c.from_residual-in_err-found.ensures.1).1) tt
+
+pub read_value-returns-in-None-clause-ok : goal.read_value-returns-in-None-clause-ok
+read_value-returns-in-None-clause-ok t c = c.read_nested.ensures.ok
+
+pub read_value-returns-in-None-clause-stack : goal.read_value-returns-in-None-clause-stack
+read_value-returns-in-None-clause-stack t c = c.read_nested.ensures.stack
+
+pub read_value-returns-in-None-clause-err : goal.read_value-returns-in-None-clause-err
+read_value-returns-in-None-clause-err t c = c.read_nested.ensures.err
+
+pub read_nested-returns-in-BeginArray-clause-shorter : goal.read_nested-returns-in-BeginArray-clause-shorter
+read_nested-returns-in-BeginArray-clause-shorter t c = c.read_items.ensures.shorter
+
+pub read_nested-returns-in-BeginArray-clause-stack : goal.read_nested-returns-in-BeginArray-clause-stack
+read_nested-returns-in-BeginArray-clause-stack t c = c.read_items.ensures.stack
+
+pub read_nested-returns-in-BeginObject-clause-shorter : goal.read_nested-returns-in-BeginObject-clause-shorter
+read_nested-returns-in-BeginObject-clause-shorter t c = c.read_members.ensures.shorter
+
+pub read_nested-returns-in-BeginObject-clause-stack : goal.read_nested-returns-in-BeginObject-clause-stack
+read_nested-returns-in-BeginObject-clause-stack t c = c.read_members.ensures.stack
+
+pub read_nested-returns-then-left-eq0-clause-ok : goal.read_nested-returns-then-left-eq0-clause-ok
+read_nested-returns-then-left-eq0-clause-ok t c = tt
+
+pub read_nested-returns-then-left-eq0-clause-shorter : goal.read_nested-returns-then-left-eq0-clause-shorter
+read_nested-returns-then-left-eq0-clause-shorter t c = tt
+
+pub read_nested-returns-then-left-eq0-clause-stack : goal.read_nested-returns-then-left-eq0-clause-stack
+read_nested-returns-then-left-eq0-clause-stack t c = tt
+
+pub read_items-returns-clause-stack : goal.read_items-returns-clause-stack
+read_items-returns-clause-stack t c = c.items.invariant.4
+
+pub read_value-returns-in-Some-clause-stack : goal.read_value-returns-in-Some-clause-stack
+read_value-returns-in-Some-clause-stack t c = refl
+
+pub read_items-items-smaller : goal.read_items-items-smaller
+read_items-items-smaller t c =
+    let going : Item c.items.reader (Some (token_of c.in-Some.token)) c.next_item.new.self =
+    subst (λ r. Item c.items.reader (option_map token_of r) c.next_item.new.self) c.in-Some.is c.in_ok-token.ensures in
+    omega (arith, ap length going.1, c.in_ok-item.ensures.not_longer)
+
+pub read_members-members-smaller : goal.read_members-members-smaller
+read_members-members-smaller t c =
+    let named : read_key c.members.reader ≡ Some (Some c.in-Some.name.now, c.next_key.new.self) =
+    c.in_ok-name.ensures ∙ ap (λ k. Some (option_map (λ s. s.now) k, c.next_key.new.self)) c.in-Some.is in
+    let first : c.next_key.new.self ≡ token_of c.in_ok-token.token ∷ c.next_token.new.self = c.in_ok-token.ensures in
+    omega (arith, read_key-shorter c.members.reader (Some c.in-Some.name.now) c.next_key.new.self named, ap length first, c.in_ok-member.ensures.not_longer)
+
+pub read_members-returns-clause-shorter : goal.read_members-returns-clause-shorter
+read_members-returns-clause-shorter t c =
+    let closed : read_key c.members.reader ≡ Some (None, c.next_key.new.self) =
+    c.in_ok-name.ensures ∙ ap (λ k. Some (option_map (λ s. s.now) k, c.next_key.new.self)) c.in_default.is in
+    omega (arith, read_key-shorter c.members.reader None c.next_key.new.self closed, c.members.invariant.4)
+
+pub read_value-returns-in-Some-clause-not_longer : goal.read_value-returns-in-Some-clause-not_longer
+read_value-returns-in-Some-clause-not_longer t c =
+    omega arith
