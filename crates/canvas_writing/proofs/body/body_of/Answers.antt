@@ -67,22 +67,28 @@ pub returns-in_err-front-clause-utf8 : goal.returns-in_err-front-clause-utf8
 returns-in_err-front-clause-utf8 c = IfOk-from_err c.from_residual.result _ c.from_residual.ensures.0
 
 pub returns-in_err-put_opening-clause-value : goal.returns-in_err-put_opening-clause-value
-returns-in_err-put_opening-clause-value c = IfOk-from_err c.from_residual-in_err-put_opening.result _ c.from_residual-in_err-put_opening.ensures.0
+returns-in_err-put_opening-clause-value c =
+    IfOk-from_err c.from_residual-in_err-put_opening.result _ c.from_residual-in_err-put_opening.ensures.0
 
 pub returns-in_err-put_opening-clause-utf8 : goal.returns-in_err-put_opening-clause-utf8
-returns-in_err-put_opening-clause-utf8 c = IfOk-from_err c.from_residual-in_err-put_opening.result _ c.from_residual-in_err-put_opening.ensures.0
+returns-in_err-put_opening-clause-utf8 c =
+    IfOk-from_err c.from_residual-in_err-put_opening.result _ c.from_residual-in_err-put_opening.ensures.0
 
 pub returns-in_err-piece-in-Some-clause-value : goal.returns-in_err-piece-in-Some-clause-value
-returns-in_err-piece-in-Some-clause-value c = IfOk-from_err c.from_residual-in_err-piece-in-Some.result _ c.from_residual-in_err-piece-in-Some.ensures.0
+returns-in_err-piece-in-Some-clause-value c =
+    IfOk-from_err c.from_residual-in_err-piece-in-Some.result _ c.from_residual-in_err-piece-in-Some.ensures.0
 
 pub returns-in_err-piece-in-Some-clause-utf8 : goal.returns-in_err-piece-in-Some-clause-utf8
-returns-in_err-piece-in-Some-clause-utf8 c = IfOk-from_err c.from_residual-in_err-piece-in-Some.result _ c.from_residual-in_err-piece-in-Some.ensures.0
+returns-in_err-piece-in-Some-clause-utf8 c =
+    IfOk-from_err c.from_residual-in_err-piece-in-Some.result _ c.from_residual-in_err-piece-in-Some.ensures.0
 
 pub returns-in_err-piece-in-None-clause-value : goal.returns-in_err-piece-in-None-clause-value
-returns-in_err-piece-in-None-clause-value c = IfOk-from_err c.from_residual-in_err-piece-in-None.result _ c.from_residual-in_err-piece-in-None.ensures.0
+returns-in_err-piece-in-None-clause-value c =
+    IfOk-from_err c.from_residual-in_err-piece-in-None.result _ c.from_residual-in_err-piece-in-None.ensures.0
 
 pub returns-in_err-piece-in-None-clause-utf8 : goal.returns-in_err-piece-in-None-clause-utf8
-returns-in_err-piece-in-None-clause-utf8 c = IfOk-from_err c.from_residual-in_err-piece-in-None.result _ c.from_residual-in_err-piece-in-None.ensures.0
+returns-in_err-piece-in-None-clause-utf8 c =
+    IfOk-from_err c.from_residual-in_err-piece-in-None.result _ c.from_residual-in_err-piece-in-None.ensures.0
 
 pub returns-in_ok-piece-in-Some-clause-utf8 : goal.returns-in_ok-piece-in-Some-clause-utf8
 returns-in_ok-piece-in-Some-clause-utf8 c = 

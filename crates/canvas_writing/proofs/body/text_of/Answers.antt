@@ -19,7 +19,9 @@ pub returns-in_err-text-in-Some-known : goal.returns-in_err-text-in-Some-known
 returns-in_err-text-in-Some-known c = IfOk-from_err c.from_residual.result _ c.from_residual.ensures.0
 
 pub returns-in_err-text-in-None-known : goal.returns-in_err-text-in-None-known
-returns-in_err-text-in-None-known c = IfOk-from_err c.from_residual-in_err-text-in-None-known.result _ c.from_residual-in_err-text-in-None-known.ensures.0
+returns-in_err-text-in-None-known c =
+    IfOk-from_err c.from_residual-in_err-text-in-None-known.result _ c.from_residual-in_err-text-in-None-known.ensures.0
 
 pub returns-in_err-new-in-None-known : goal.returns-in_err-new-in-None-known
-returns-in_err-new-in-None-known c = IfOk-from_err c.from_residual-in_err-new-in-None-known.result _ c.from_residual-in_err-new-in-None-known.ensures.0
+returns-in_err-new-in-None-known c =
+    IfOk-from_err c.from_residual-in_err-new-in-None-known.result _ c.from_residual-in_err-new-in-None-known.ensures.0

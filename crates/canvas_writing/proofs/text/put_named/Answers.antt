@@ -12,13 +12,15 @@ pub returns-in_err-put_comma : goal.returns-in_err-put_comma
 returns-in_err-put_comma c = IfOk-from_err c.from_residual.result _ c.from_residual.ensures.0
 
 pub returns-in_err-put_string : goal.returns-in_err-put_string
-returns-in_err-put_string c = IfOk-from_err c.from_residual-in_err-put_string.result _ c.from_residual-in_err-put_string.ensures.0
+returns-in_err-put_string c =
+    IfOk-from_err c.from_residual-in_err-put_string.result _ c.from_residual-in_err-put_string.ensures.0
 
 pub returns-in_err-put : goal.returns-in_err-put
 returns-in_err-put c = IfOk-from_err c.from_residual-in_err-put.result _ c.from_residual-in_err-put.ensures.0
 
 pub returns-in_err-put_arg : goal.returns-in_err-put_arg
-returns-in_err-put_arg c = IfOk-from_err c.from_residual-in_err-put_arg.result _ c.from_residual-in_err-put_arg.ensures.0
+returns-in_err-put_arg c =
+    IfOk-from_err c.from_residual-in_err-put_arg.result _ c.from_residual-in_err-put_arg.ensures.0
 
 pub loop-name-init : goal.loop-name-init
 loop-name-init c = 

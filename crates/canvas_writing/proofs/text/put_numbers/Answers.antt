@@ -5,4 +5,5 @@ pub returns-in_err-put_comma : goal.returns-in_err-put_comma
 returns-in_err-put_comma c = IfOk-from_err c.from_residual.result _ c.from_residual.ensures.0
 
 pub returns-in_err-put_number : goal.returns-in_err-put_number
-returns-in_err-put_number c = IfOk-from_err c.from_residual-in_err-put_number.result _ c.from_residual-in_err-put_number.ensures.0
+returns-in_err-put_number c =
+    IfOk-from_err c.from_residual-in_err-put_number.result _ c.from_residual-in_err-put_number.ensures.0
