@@ -20,3 +20,7 @@ module _ {X Y : Type 0} where
 -- before the first turn, where the loop begins behind some that stand there
 pub put_none : {Y : Type 0} (old front new rest all : List Y) → new ≡ old ++ front → front ++ rest ≡ all → new ++ rest ≡ old ++ all
 put_none old front new rest all written is = ap (λ ys. ys ++ rest) written ∙ append_assoc old front rest ∙ ap (λ ys. old ++ ys) is
+
+-- one piece of what stands behind
+pub put_behind : {Y : Type 0} (old piece rest new all : List Y) → new ≡ old ++ piece → old ++ (piece ++ rest) ≡ all → new ++ rest ≡ all
+put_behind old piece rest new all put is = ap (λ ys. ys ++ rest) put ∙ append_assoc old piece rest ∙ is

@@ -1,4 +1,5 @@
 use Rattle.std.proofs.Common.{◌∙◌, [], ◌∷◌, ◌++◌, List, map, codes, Some, None, append-nil, sym, ap, refl}
+use Rattle.std.proofs.lemmas.Result.{IfOk-from_err}
 use Rattle.json.specs.Token.{Token, begin_array, end_object, key}
 use Rattle.serde_json.specs.Data.{string}
 use Rattle.canvas_wire.specs.steps.Tokens.{data_tokens, rest_tokens, member_tokens}
@@ -162,3 +163,95 @@ pub write_last-returns-in-None : goal.write_last-returns-in-None
 write_last-returns-in-None t c =
     after_ok c.write_rest-in-None.result c.args.out.now c.write_opening.new.out c.write_rest-in-None.new.out _ _ _ c.in_ok-write_opening.ensures
     c.write_rest-in-None.ensures (group_written c.args.size c.args.end.now c.in-None.is)
+
+pub write_chain_before-returns-in_err-write_opening : goal.write_chain_before-returns-in_err-write_opening
+write_chain_before-returns-in_err-write_opening t c = IfOk-from_err c.from_residual.result _ c.from_residual.ensures.0
+
+pub write_chain_before-returns-in_err-key : goal.write_chain_before-returns-in_err-key
+write_chain_before-returns-in_err-key t c =
+    IfOk-from_err c.from_residual-in_err-key.result _ c.from_residual-in_err-key.ensures.0
+
+pub write_chain_before-returns-in_err-begin_array : goal.write_chain_before-returns-in_err-begin_array
+write_chain_before-returns-in_err-begin_array t c =
+    IfOk-from_err c.from_residual-in_err-begin_array.result _ c.from_residual-in_err-begin_array.ensures.0
+
+pub write_chain_before-returns-in_err-write_task : goal.write_chain_before-returns-in_err-write_task
+write_chain_before-returns-in_err-write_task t c =
+    IfOk-from_err c.from_residual-in_err-write_task.result _ c.from_residual-in_err-write_task.ensures.0
+
+pub write_chord-returns-in_err-key-in-Some-chord : goal.write_chord-returns-in_err-key-in-Some-chord
+write_chord-returns-in_err-key-in-Some-chord t c = IfOk-from_err c.from_residual.result _ c.from_residual.ensures.0
+
+pub write_last-returns-in_err-write_opening : goal.write_last-returns-in_err-write_opening
+write_last-returns-in_err-write_opening t c = IfOk-from_err c.from_residual.result _ c.from_residual.ensures.0
+
+pub write_last-returns-in_err-key-in-Some : goal.write_last-returns-in_err-key-in-Some
+write_last-returns-in_err-key-in-Some t c =
+    IfOk-from_err c.from_residual-in_err-key-in-Some.result _ c.from_residual-in_err-key-in-Some.ensures.0
+
+pub write_last-returns-in_err-write_line-in-Some : goal.write_last-returns-in_err-write_line-in-Some
+write_last-returns-in_err-write_line-in-Some t c =
+    IfOk-from_err c.from_residual-in_err-write_line-in-Some.result _ c.from_residual-in_err-write_line-in-Some.ensures.0
+
+pub write_line-returns-in_err-write_chain_before-in-Some : goal.write_line-returns-in_err-write_chain_before-in-Some
+write_line-returns-in_err-write_chain_before-in-Some t c =
+    IfOk-from_err c.from_residual.result _ c.from_residual.ensures.0
+
+pub write_line-returns-in_err-write_last-in-Some : goal.write_line-returns-in_err-write_last-in-Some
+write_line-returns-in_err-write_last-in-Some t c =
+    IfOk-from_err c.from_residual-in_err-write_last-in-Some.result _ c.from_residual-in_err-write_last-in-Some.ensures.0
+
+pub write_line-returns-in_err-write_chain_before-in-None : goal.write_line-returns-in_err-write_chain_before-in-None
+write_line-returns-in_err-write_chain_before-in-None t c =
+    IfOk-from_err c.from_residual-in_err-write_chain_before-in-None.result _ c.from_residual-in_err-write_chain_before-in-None.ensures.0
+
+pub write_link-returns-in_err-key : goal.write_link-returns-in_err-key
+write_link-returns-in_err-key t c = IfOk-from_err c.from_residual.result _ c.from_residual.ensures.0
+
+pub write_link-returns-in_err-begin_array : goal.write_link-returns-in_err-begin_array
+write_link-returns-in_err-begin_array t c =
+    IfOk-from_err c.from_residual-in_err-begin_array.result _ c.from_residual-in_err-begin_array.ensures.0
+
+pub write_rest-returns-in_err-key : goal.write_rest-returns-in_err-key
+write_rest-returns-in_err-key t c = IfOk-from_err c.from_residual.result _ c.from_residual.ensures.0
+
+pub write_rest-returns-in_err-begin_array : goal.write_rest-returns-in_err-begin_array
+write_rest-returns-in_err-begin_array t c =
+    IfOk-from_err c.from_residual-in_err-begin_array.result _ c.from_residual-in_err-begin_array.ensures.0
+
+pub write_rest-returns-in_err-write_line : goal.write_rest-returns-in_err-write_line
+write_rest-returns-in_err-write_line t c =
+    IfOk-from_err c.from_residual-in_err-write_line.result _ c.from_residual-in_err-write_line.ensures.0
+
+pub write_rest-returns-in_err-end_array : goal.write_rest-returns-in_err-end_array
+write_rest-returns-in_err-end_array t c =
+    IfOk-from_err c.from_residual-in_err-end_array.result _ c.from_residual-in_err-end_array.ensures.0
+
+pub write_rest-returns-in_err-end_object : goal.write_rest-returns-in_err-end_object
+write_rest-returns-in_err-end_object t c =
+    IfOk-from_err c.from_residual-in_err-end_object.result _ c.from_residual-in_err-end_object.ensures.0
+
+pub write_task-returns-in_err-write_task_front : goal.write_task-returns-in_err-write_task_front
+write_task-returns-in_err-write_task_front t c = IfOk-from_err c.from_residual.result _ c.from_residual.ensures.0
+
+pub write_task-returns-in_err-write_chord : goal.write_task-returns-in_err-write_chord
+write_task-returns-in_err-write_chord t c =
+    IfOk-from_err c.from_residual-in_err-write_chord.result _ c.from_residual-in_err-write_chord.ensures.0
+
+pub write_task_behind-returns-in_err-write_group : goal.write_task_behind-returns-in_err-write_group
+write_task_behind-returns-in_err-write_group t c = IfOk-from_err c.from_residual.result _ c.from_residual.ensures.0
+
+pub write_task_behind-returns-in_err-write_link : goal.write_task_behind-returns-in_err-write_link
+write_task_behind-returns-in_err-write_link t c =
+    IfOk-from_err c.from_residual-in_err-write_link.result _ c.from_residual-in_err-write_link.ensures.0
+
+pub write_task_behind-returns-in_err-write_link-2 : goal.write_task_behind-returns-in_err-write_link-2
+write_task_behind-returns-in_err-write_link-2 t c =
+    IfOk-from_err c.from_residual-in_err-write_link-2.result _ c.from_residual-in_err-write_link-2.ensures.0
+
+pub write_task_behind-returns-in_err-write_own_id : goal.write_task_behind-returns-in_err-write_own_id
+write_task_behind-returns-in_err-write_own_id t c =
+    IfOk-from_err c.from_residual-in_err-write_own_id.result _ c.from_residual-in_err-write_own_id.ensures.0
+
+pub write_tasks-returns-in_err-write_task : goal.write_tasks-returns-in_err-write_task
+write_tasks-returns-in_err-write_task t c = IfOk-from_err c.from_residual.result _ c.from_residual.ensures.0

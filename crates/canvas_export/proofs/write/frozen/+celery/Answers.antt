@@ -1,4 +1,5 @@
 use Rattle.std.proofs.Common.{◌≡◌, ◌-◌, [], ◌∷◌, ◌++◌, ◌∙◌, map, reverse, length, drop, codes, refl, sym, ap, arith, append-nil}
+use Rattle.std.proofs.lemmas.Result.{IfOk-from_err}
 use Rattle.std.proofs.lemmas.List.{drop_all}
 use Rattle.json.specs.Token.{null, key, begin_array, begin_object, end_array, end_object}
 use Rattle.canvas_wire.specs.steps.Tokens.{data_tokens}
@@ -342,3 +343,156 @@ write_further_backwards-returns-in-None-tail t c =
     nothing c.args.out.now _ (ap (λ ss. each_tokens (reverse (behind ss)))
     (no_element (naming c.args.names.now) c.args.line.now c.deref.result.now (c.deref.ensures.value ∙ c.get.ensures) c.in-None.ensures.cases
     c.in-None-tail.is))
+
+pub write_behind-returns-in_err-write_each-in-Some-split_first : goal.write_behind-returns-in_err-write_each-in-Some-split_first
+write_behind-returns-in_err-write_each-in-Some-split_first t c =
+    IfOk-from_err c.from_residual.result _ c.from_residual.ensures.0
+
+pub write_carried-returns-in_err-write_task_front-in-Some : goal.write_carried-returns-in_err-write_task_front-in-Some
+write_carried-returns-in_err-write_task_front-in-Some t c =
+    IfOk-from_err c.from_residual.result _ c.from_residual.ensures.0
+
+pub write_carried-returns-in_err-write_chain_option-in-Some : goal.write_carried-returns-in_err-write_chain_option-in-Some
+write_carried-returns-in_err-write_chain_option-in-Some t c =
+    IfOk-from_err c.from_residual-in_err-write_chain_option-in-Some.result _ c.from_residual-in_err-write_chain_option-in-Some.ensures.0
+
+pub write_carried-returns-in_err-write_end_front-in-Some-tail : goal.write_carried-returns-in_err-write_end_front-in-Some-tail
+write_carried-returns-in_err-write_end_front-in-Some-tail t c =
+    IfOk-from_err c.from_residual-in_err-write_end_front-in-Some-tail.result _ c.from_residual-in_err-write_end_front-in-Some-tail.ensures.0
+
+pub write_carried-returns-in_err-write_chain_option-in-Some-tail : goal.write_carried-returns-in_err-write_chain_option-in-Some-tail
+write_carried-returns-in_err-write_chain_option-in-Some-tail t c =
+    IfOk-from_err c.from_residual-in_err-write_chain_option-in-Some-tail.result _ c.from_residual-in_err-write_chain_option-in-Some-tail.ensures.0
+
+pub write_chain_option-returns-in_err-key : goal.write_chain_option-returns-in_err-key
+write_chain_option-returns-in_err-key t c = IfOk-from_err c.from_residual.result _ c.from_residual.ensures.0
+
+pub write_chain_option-returns-in_err-begin_array : goal.write_chain_option-returns-in_err-begin_array
+write_chain_option-returns-in_err-begin_array t c =
+    IfOk-from_err c.from_residual-in_err-begin_array.result _ c.from_residual-in_err-begin_array.ensures.0
+
+pub write_chain_option-returns-in_err-write_further_backwards : goal.write_chain_option-returns-in_err-write_further_backwards
+write_chain_option-returns-in_err-write_further_backwards t c =
+    IfOk-from_err c.from_residual-in_err-write_further_backwards.result _ c.from_residual-in_err-write_further_backwards.ensures.0
+
+pub write_chord_option-returns-in_err-key-in-Some-chord : goal.write_chord_option-returns-in_err-key-in-Some-chord
+write_chord_option-returns-in_err-key-in-Some-chord t c =
+    IfOk-from_err c.from_residual.result _ c.from_residual.ensures.0
+
+pub write_each-returns-in_err-write_task : goal.write_each-returns-in_err-write_task
+write_each-returns-in_err-write_task t c = IfOk-from_err c.from_residual.result _ c.from_residual.ensures.0
+
+pub write_end_front-returns-in_err-write_opening : goal.write_end_front-returns-in_err-write_opening
+write_end_front-returns-in_err-write_opening t c = IfOk-from_err c.from_residual.result _ c.from_residual.ensures.0
+
+pub write_end_front-returns-in_err-key-in-Some : goal.write_end_front-returns-in_err-key-in-Some
+write_end_front-returns-in_err-key-in-Some t c =
+    IfOk-from_err c.from_residual-in_err-key-in-Some.result _ c.from_residual-in_err-key-in-Some.ensures.0
+
+pub write_end_front-returns-in_err-write_first-in-Some : goal.write_end_front-returns-in_err-write_first-in-Some
+write_end_front-returns-in_err-write_first-in-Some t c =
+    IfOk-from_err c.from_residual-in_err-write_first-in-Some.result _ c.from_residual-in_err-write_first-in-Some.ensures.0
+
+pub write_further_backwards-returns-in_err-write_tail_backwards-in-Some : goal.write_further_backwards-returns-in_err-write_tail_backwards-in-Some
+write_further_backwards-returns-in_err-write_tail_backwards-in-Some t c =
+    IfOk-from_err c.from_residual.result _ c.from_residual.ensures.0
+
+pub write_last-returns-in_err-write_end_front : goal.write_last-returns-in_err-write_end_front
+write_last-returns-in_err-write_end_front t c = IfOk-from_err c.from_residual.result _ c.from_residual.ensures.0
+
+pub write_link-returns-in_err-key : goal.write_link-returns-in_err-key
+write_link-returns-in_err-key t c = IfOk-from_err c.from_residual.result _ c.from_residual.ensures.0
+
+pub write_link-returns-in_err-begin_array : goal.write_link-returns-in_err-begin_array
+write_link-returns-in_err-begin_array t c =
+    IfOk-from_err c.from_residual-in_err-begin_array.result _ c.from_residual-in_err-begin_array.ensures.0
+
+pub write_link-returns-in_err-write_each : goal.write_link-returns-in_err-write_each
+write_link-returns-in_err-write_each t c =
+    IfOk-from_err c.from_residual-in_err-write_each.result _ c.from_residual-in_err-write_each.ensures.0
+
+pub write_member-returns-in_err-write_opening : goal.write_member-returns-in_err-write_opening
+write_member-returns-in_err-write_opening t c = IfOk-from_err c.from_residual.result _ c.from_residual.ensures.0
+
+pub write_member-returns-in_err-key : goal.write_member-returns-in_err-key
+write_member-returns-in_err-key t c =
+    IfOk-from_err c.from_residual-in_err-key.result _ c.from_residual-in_err-key.ensures.0
+
+pub write_member-returns-in_err-begin_array : goal.write_member-returns-in_err-begin_array
+write_member-returns-in_err-begin_array t c =
+    IfOk-from_err c.from_residual-in_err-begin_array.result _ c.from_residual-in_err-begin_array.ensures.0
+
+pub write_member-returns-in_err-write_each : goal.write_member-returns-in_err-write_each
+write_member-returns-in_err-write_each t c =
+    IfOk-from_err c.from_residual-in_err-write_each.result _ c.from_residual-in_err-write_each.ensures.0
+
+pub write_member-returns-in_err-write_tail : goal.write_member-returns-in_err-write_tail
+write_member-returns-in_err-write_tail t c =
+    IfOk-from_err c.from_residual-in_err-write_tail.result _ c.from_residual-in_err-write_tail.ensures.0
+
+pub write_member-returns-in_err-end_array : goal.write_member-returns-in_err-end_array
+write_member-returns-in_err-end_array t c =
+    IfOk-from_err c.from_residual-in_err-end_array.result _ c.from_residual-in_err-end_array.ensures.0
+
+pub write_member-returns-in_err-end_object : goal.write_member-returns-in_err-end_object
+write_member-returns-in_err-end_object t c =
+    IfOk-from_err c.from_residual-in_err-end_object.result _ c.from_residual-in_err-end_object.ensures.0
+
+pub write_members-returns-in_err-key : goal.write_members-returns-in_err-key
+write_members-returns-in_err-key t c = IfOk-from_err c.from_residual.result _ c.from_residual.ensures.0
+
+pub write_members-returns-in_err-begin_array : goal.write_members-returns-in_err-begin_array
+write_members-returns-in_err-begin_array t c =
+    IfOk-from_err c.from_residual-in_err-begin_array.result _ c.from_residual-in_err-begin_array.ensures.0
+
+pub write_members-returns-in_err-write_member : goal.write_members-returns-in_err-write_member
+write_members-returns-in_err-write_member t c =
+    IfOk-from_err c.from_residual-in_err-write_member.result _ c.from_residual-in_err-write_member.ensures.0
+
+pub write_members-returns-in_err-end_array : goal.write_members-returns-in_err-end_array
+write_members-returns-in_err-end_array t c =
+    IfOk-from_err c.from_residual-in_err-end_array.result _ c.from_residual-in_err-end_array.ensures.0
+
+pub write_members-returns-in_err-end_object : goal.write_members-returns-in_err-end_object
+write_members-returns-in_err-end_object t c =
+    IfOk-from_err c.from_residual-in_err-end_object.result _ c.from_residual-in_err-end_object.ensures.0
+
+pub write_members-returns-in_err-key-2 : goal.write_members-returns-in_err-key-2
+write_members-returns-in_err-key-2 t c =
+    IfOk-from_err c.from_residual-in_err-key-2.result _ c.from_residual-in_err-key-2.ensures.0
+
+pub write_reversed-returns-in_err-write_task : goal.write_reversed-returns-in_err-write_task
+write_reversed-returns-in_err-write_task t c = IfOk-from_err c.from_residual.result _ c.from_residual.ensures.0
+
+pub write_tail-returns-in_err-write_last-in-Some : goal.write_tail-returns-in_err-write_last-in-Some
+write_tail-returns-in_err-write_last-in-Some t c = IfOk-from_err c.from_residual.result _ c.from_residual.ensures.0
+
+pub write_tail_backwards-returns-in_err-write_behind_backwards-in-Some : goal.write_tail_backwards-returns-in_err-write_behind_backwards-in-Some
+write_tail_backwards-returns-in_err-write_behind_backwards-in-Some t c =
+    IfOk-from_err c.from_residual.result _ c.from_residual.ensures.0
+
+pub write_task-returns-in_err-write_task_front : goal.write_task-returns-in_err-write_task_front
+write_task-returns-in_err-write_task_front t c = IfOk-from_err c.from_residual.result _ c.from_residual.ensures.0
+
+pub write_task_rest-returns-in_err-write_chord_option : goal.write_task_rest-returns-in_err-write_chord_option
+write_task_rest-returns-in_err-write_chord_option t c = IfOk-from_err c.from_residual.result _ c.from_residual.ensures.0
+
+pub write_task_rest-returns-in_err-write_group_options : goal.write_task_rest-returns-in_err-write_group_options
+write_task_rest-returns-in_err-write_group_options t c =
+    IfOk-from_err c.from_residual-in_err-write_group_options.result _ c.from_residual-in_err-write_group_options.ensures.0
+
+pub write_task_rest-returns-in_err-write_link : goal.write_task_rest-returns-in_err-write_link
+write_task_rest-returns-in_err-write_link t c =
+    IfOk-from_err c.from_residual-in_err-write_link.result _ c.from_residual-in_err-write_link.ensures.0
+
+pub write_task_rest-returns-in_err-write_link-2 : goal.write_task_rest-returns-in_err-write_link-2
+write_task_rest-returns-in_err-write_link-2 t c =
+    IfOk-from_err c.from_residual-in_err-write_link-2.result _ c.from_residual-in_err-write_link-2.ensures.0
+
+pub write_task_rest-returns-in_err-write_task_member : goal.write_task_rest-returns-in_err-write_task_member
+write_task_rest-returns-in_err-write_task_member t c =
+    IfOk-from_err c.from_residual-in_err-write_task_member.result _ c.from_residual-in_err-write_task_member.ensures.0
+
+pub write_task_rest-returns-in_err-end_object : goal.write_task_rest-returns-in_err-end_object
+write_task_rest-returns-in_err-end_object t c =
+    IfOk-from_err c.from_residual-in_err-end_object.result _ c.from_residual-in_err-end_object.ensures.0
