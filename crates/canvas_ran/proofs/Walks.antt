@@ -107,11 +107,11 @@ module _ (rows : Rows) (ts : List FrozenTask) (i : ℕ) where
       let then : Came = after came (no_of (task_in t)) (state_of (no_of (task_in t)) rows) in
       let comes_then : comes ≡ then = next ∙ ap (λ k. after came k (state_of k rows)) (sym (number_in t)) in (
         (λ j. pushed j ++ tasks_seen rows left (comes_then j)) ∙ append_assoc before one (tasks_seen rows left then)
-        ∙ ap (λ ns. before ++ ns) (sym (at_drop_more (λ us. tasks_seen rows (map task_in us) came) ts i t inside
-        ∙ ap (λ u. tasks_seen rows (map task_in (u ∷ drop (i + 1) ts)) came) (sym is))) ∙ so_far.0,
+            ∙ ap (λ ns. before ++ ns) (sym (at_drop_more (λ us. tasks_seen rows (map task_in us) came) ts i t inside
+            ∙ ap (λ u. tasks_seen rows (map task_in (u ∷ drop (i + 1) ts)) came) (sym is))) ∙ so_far.0,
         ap (came_behind rows left) comes_then
-        ∙ sym (at_drop_more (λ us. came_behind rows (map task_in us) came) ts i t inside
-        ∙ ap (λ u. came_behind rows (map task_in (u ∷ drop (i + 1) ts)) came) (sym is)) ∙ so_far.1,
+            ∙ sym (at_drop_more (λ us. came_behind rows (map task_in us) came) ts i t inside
+            ∙ ap (λ u. came_behind rows (map task_in (u ∷ drop (i + 1) ts)) came) (sym is)) ∙ so_far.1,
       )
 
   pub behind_all : (came behind : Came) → length ts ≤ i → came_behind rows (map task_in (drop i ts)) came ≡ behind → came ≡ behind

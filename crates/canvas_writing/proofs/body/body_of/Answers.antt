@@ -91,17 +91,17 @@ returns-in_err-piece-in-None-clause-utf8 c =
     IfOk-from_err c.from_residual-in_err-piece-in-None.result _ c.from_residual-in_err-piece-in-None.ensures.0
 
 pub returns-in_ok-piece-in-Some-clause-utf8 : goal.returns-in_ok-piece-in-Some-clause-utf8
-returns-in_ok-piece-in-Some-clause-utf8 c = 
+returns-in_ok-piece-in-Some-clause-utf8 c =
     IfOk-weaker c.followed.result _ _ (λ b h. subst (λ o. IfSome o (λ p. IsUtf8 (piece_text p))) (sym h) c.in_ok-piece-in-Some.ensures.utf8)
     c.followed.ensures.shared
 
 pub returns-in-Some-2-clause-utf8 : goal.returns-in-Some-2-clause-utf8
-returns-in-Some-2-clause-utf8 c = 
+returns-in-Some-2-clause-utf8 c =
     IfOk-weaker c.carrying.result _ _
     (λ b h. subst (λ o. IfSome o (λ p. IsUtf8 (piece_text p))) (c.in-Some-2.is ∙ sym h) c.in_ok-piece-in-None.ensures.utf8) c.carrying.ensures.shared
 
 pub returns-in-None-2-clause-utf8 : goal.returns-in-None-2-clause-utf8
-returns-in-None-2-clause-utf8 c = 
+returns-in-None-2-clause-utf8 c =
     IfOk-weaker c.alone.result _ _ (λ b h. subst (λ o. IfSome o (λ p. IsUtf8 (piece_text p))) (sym h) tt) c.alone.ensures.shared
 
 pub rest_piece-requires-clause-line : goal.rest_piece-requires-clause-line

@@ -15,11 +15,11 @@ pub returns-in_err-text-in-Some-clause-utf8 : goal.returns-in_err-text-in-Some-c
 returns-in_err-text-in-Some-clause-utf8 c = IfOk-from_err c.from_residual.result _ c.from_residual.ensures.0
 
 pub text_of-requires : goal.text_of-requires
-text_of-requires c = 
+text_of-requires c =
     subst (λ o. IfSome c.args.known.now (λ t. SaysCarried t.value (place_seen o))) c.in-Some.is c.requires
 
 pub returns-in-Some-2-clause-value : goal.returns-in-Some-2-clause-value
-returns-in-Some-2-clause-value c = 
+returns-in-Some-2-clause-value c =
     let said = rw c.in-Some-2.is at c.in_ok-text-in-Some.ensures in
     said ∙ ap (λ o. compact_text (carried_wire (place_seen o))) (sym c.in-Some.is)
 
@@ -27,7 +27,7 @@ pub returns-in-Some-2-clause-utf8 : goal.returns-in-Some-2-clause-utf8
 returns-in-Some-2-clause-utf8 c = carried_utf8 c.in-Some-2.text.value
 
 pub returns-in-None-2-clause-value : goal.returns-in-None-2-clause-value
-returns-in-None-2-clause-value c = 
+returns-in-None-2-clause-value c =
     let said = rw c.in-None-2.is at c.in_ok-text-in-Some.ensures in
     ap (λ o. carried_wire (place_seen o)) c.in-Some.is ∙ said
 

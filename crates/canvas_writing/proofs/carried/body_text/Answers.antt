@@ -15,7 +15,7 @@ pub text_around-requires-clause-carries : goal.text_around-requires-clause-carri
 text_around-requires-clause-carries c = sym (c.if-carries.ensures ∙ ap (λ l. carries (p_line_view l)) c.deref.ensures)
 
 pub text_around-requires-clause-says : goal.text_around-requires-clause-says
-text_around-requires-clause-says c = 
+text_around-requires-clause-says c =
     let said = rw c.in-Some.is at c.requires in
     subst (λ t. SaysCarried t (end_place (p_line_view (out-Carried c.args.carried.now).body.value))) (sym c.deref-in-Some.ensures) said
 
@@ -23,6 +23,6 @@ pub returns-in-Some : goal.returns-in-Some
 returns-in-Some c = c.text_around.ensures
 
 pub returns-in_ok-whole_text-in_default : goal.returns-in_ok-whole_text-in_default
-returns-in_ok-whole_text-in_default c = 
+returns-in_ok-whole_text-in_default c =
     alone_made c.alone.result _ (out-Carried c.args.carried.now).size (p_line_view (out-Carried c.args.carried.now).body.value)
     c.in_ok-whole_text-in_default.ensures c.alone.ensures.rings c.alone.ensures.core

@@ -23,7 +23,7 @@ returns-in_err-put_arg c =
     IfOk-from_err c.from_residual-in_err-put_arg.result _ c.from_residual-in_err-put_arg.ensures.0
 
 pub loop-name-init : goal.loop-name-init
-loop-name-init c = 
+loop-name-init c =
     ap (λ es. string_bytes c.args.out.now ++ members_text false (kwargs_wire (named es)))
     (c.into_iter-name-iterator.ensures.into_iter_gives ∙ c.iter-name-items.ensures.rest)
 
