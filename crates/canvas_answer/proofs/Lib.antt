@@ -1,2 +1,1 @@
 pub mod ToldJson
-pub mod KnownRows

@@ -177,12 +177,6 @@ never_stopped behaviour l n most ts es (Halted Stopped (Some report)) e h =
     let cut = h.1 in
     let soon = few_again behaviour l n es cut.so_far cut.steps cut.rest cut.by_entries ts h.0.0.0 cut.begin in absurd (omega (arith, soon, e, cut.many))
 
-pub never_stopped_in : (behaviour : Behaviour) → {T : Type 0} (l : Line) (n most : ℕ) (ts : List ℕ) (es : List Entry) (r : Result T RunFault)
-    → most ≡ suc (most_steps l n (length ts) (length es)) → IfErr r (IsAgainFault behaviour l n ts es most)
-    → IfErr r (IsRunFault n ts (states behaviour (tree_of l)))
-never_stopped_in behaviour l n most ts es (Ok x) e h = tt
-never_stopped_in behaviour l n most ts es (Err f) e h = never_stopped behaviour l n most ts es f e h
-
 -- ---- without entries
 
 none_spent : (behaviour : Behaviour) (l : Line) (n : ℕ) (us : List ℕ) (xs : List Step) (rest : List Entry) → TurnedAgain behaviour l n [] [] us xs rest

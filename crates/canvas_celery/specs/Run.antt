@@ -1,6 +1,6 @@
 -- Identifiers of one run: UUIDs of version 8 (RFC 9562), whose bits that are free beside the number
 -- hold the run.
-use Rattle.std.specs.Prelude.{ℕ, Bool, nat_le, ◌==◌, ◌&&◌, ◌||◌, ◌∷◌, ◌++◌, length, take, drop, codes}
+use Rattle.std.specs.Prelude.{ℕ, Bool, nat_le, ◌==◌, ◌&&◌, ◌||◌, ◌++◌, length, take, drop, codes}
 use Rattle.std.specs.List.{list_all}
 use Rattle.canvas_task.specs.Text.{Text}
 use Rattle.canvas_task.specs.Identifiers.{task_text, group_text}

@@ -1,5 +1,5 @@
 -- The texts of a message are read as the message.
-use Rattle.std.proofs.Common.{◌≡◌, ◌≤◌, [], ◌++◌, true, Some, Ok, sym, ap, subst, ◌∙◌}
+use Rattle.std.proofs.Common.{◌≡◌, ◌≤◌, true, Some, Ok, ap, ◌∙◌}
 use Rattle.std.specs.Prelude.{if◌then◌else◌, None}
 use Rattle.std.specs.Str.{IsUtf8}
 use Rattle.std.proofs.lemmas.Str.{is_utf8-from_IsUtf8}
@@ -31,6 +31,3 @@ envelope_back c p h b ok is_p is_h is_b utf8_p utf8_h utf8_b =
       json_back (headers_wire c) h is_h utf8_h t.headers t.low_headers,
       json_back (body_wire c) b is_b utf8_b t.body t.low_body,
     ) (message_back c ok)
-
-pub utf8_text : (text before printed : Text) → text ≡ before ++ printed → before ≡ [] → IsUtf8 printed → IsUtf8 text
-utf8_text text before printed is none utf8 = subst IsUtf8 (sym (is ∙ ap (λ b. b ++ printed) none)) utf8

@@ -1,5 +1,5 @@
 -- What is said of a text that was parsed.
-use Rattle.std.proofs.Common.{◌≡◌, ◌≢◌, Option, Some, None, Ok, Err, refl, ap}
+use Rattle.std.proofs.Common.{◌≡◌, ◌≢◌, Option, Some, None, Err, refl}
 use Rattle.serde_json.specs.Data.{Data}
 use Rattle.canvas_values.specs.declared.fault.SigFault.{SigFault}
 use Rattle.canvas_values.specs.declared.fault.SigFault.TheVariants.{Memory}
@@ -7,11 +7,6 @@ use Rattle.canvas_values.specs.Answers.{Fails}
 use Rattle.canvas_values.specs.steps.Reading as sig
 use Rattle.canvas_message.specs.declared.fault.MessageFault.TheVariants.{NotJson}
 use Rattle.canvas_codec.specs.steps.Reading.{some_or}
-
--- the value of a text that reads
-pub value_read : (o : Option Data) (d : Data) → sig.json_reading o ≡ Ok d → some_or NotJson o ≡ Ok d
-value_read None d e = absurd cc
-value_read (Some x) d e = let same : x ≡ d = cc in ap Ok same
 
 -- one that doesn't read
 pub nothing_read : (o : Option Data) (e : SigFault) → Fails e (sig.json_reading o) → e ≢ Memory → some_or NotJson o ≡ Err NotJson

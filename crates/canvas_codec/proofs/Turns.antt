@@ -1,7 +1,8 @@
 -- One more turn of a loop over a list that reads, and its end.
 use Rattle.std.proofs.Common.{◌≡◌, ◌∙◌, ◌<◌, ◌≤◌, ◌+◌, ℕ, List, [], ◌∷◌, ◌++◌, map, length, get_or, drop, Result, Ok, sym, ap, append-nil}
-use Rattle.std.proofs.lemmas.List.{drop_more, drop_all, map_push}
+use Rattle.std.proofs.lemmas.List.{drop_all, map_push}
 use Rattle.serde_json.specs.Data.{Data}
+use Rattle.canvas_task.proofs.Turns.{item_first}
 use Rattle.canvas_sig.specs.Datum.{view}
 use Rattle.canvas_sig.specs.declared.datum.Datum.{Datum}
 use Rattle.canvas_values.specs.declared.fault.SigFault.{SigFault}
@@ -16,7 +17,7 @@ module _ {T B : Type 0} (seen : T → B) (f : Data → Result B SigFault) (vs : 
   read_on i v x before after lt is read so_far pushed =
       let rest : List Data = map view (drop (i + 1) vs) in
       so_far
-      ∙ ap (λ xs. onto (map seen before) (in_turn f (map view xs))) (drop_more vs i v lt ∙ ap (λ y. y ∷ drop (i + 1) vs) (sym is))
+      ∙ ap (λ xs. onto (map seen before) (in_turn f (map view xs))) (item_first vs i v lt is)
       ∙ one_more f (map seen before) (view v) rest (seen x) read
       ∙ ap (λ ys. onto ys (in_turn f rest)) (sym (ap (map seen) pushed ∙ map_push seen before x))
 

@@ -91,9 +91,6 @@ of_value (id k) es h = refl
 of_value (skip f) es h = absurd h
 of_value (raised f) es h = absurd h
 
-pub of_skip : (x : Flow) (f : Fault) (es : Rows) → x ≡ skip f → group_value x es ≡ skip f
-of_skip x f es e = ap (λ y. group_value y es) e
-
 pub of_raise : (x : Flow) (f : Fault) (e : ℕ × State) (es : Rows) → x ≡ raised f → group_value x (e ∷ es) ≡ gathered (e ∷ es)
 of_raise x f e es h = ap (λ y. group_value y (e ∷ es)) h
 

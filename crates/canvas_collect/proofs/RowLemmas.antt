@@ -137,16 +137,6 @@ no_json d UnknownException h = absurd h
 no_json d UnknownDependency h = absurd h
 no_json d Memory h = tt
 
-pub no_class : (run : Text) (count : ℕ) (d : Data) (fault : StoredFault) → RefusesResult run count d UnknownException
-    → LacksClass (class_of (result_of d)) fault → ResultFault d fault
-no_class run count d NotJson refused h = absurd h
-no_class run count d OtherTask refused h = absurd h
-no_class run count d UnknownState refused h = absurd h
-no_class run count d NotNumber refused h = absurd h
-no_class run count d UnknownException refused h = (refused.0, h)
-no_class run count d UnknownDependency refused h = absurd h
-no_class run count d Memory refused h = tt
-
 pub of_result : (run : Text) (count k : ℕ) (line : Text) (d : Data) (fault : StoredFault) → IsResult run k line d
     → ResultFault d fault → ShowFault run count k line fault
 of_result run count k line d NotJson said h = absurd h

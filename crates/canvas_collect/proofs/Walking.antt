@@ -1,7 +1,7 @@
 -- From a line to its parts, and from the rows of a report to a table.
-use Rattle.std.proofs.Common.{◌≡◌, ◌∙◌, ℕ, zero, suc, ◌+◌, ◌-◌, ◌<◌, ◌≤◌, List, [], ◌∷◌, ◌++◌, Some, None, refl, sym, ap, subst, inl, map, drop, length, get_or}
+use Rattle.std.proofs.Common.{◌≡◌, ◌∙◌, ℕ, zero, suc, ◌+◌, ◌-◌, List, [], ◌∷◌, ◌++◌, Some, None, refl, sym, ap, subst, inl, map, length, get_or}
 use Rattle.std.proofs.Common.{arith, append_assoc, length-append}
-use Rattle.std.proofs.lemmas.List.{drop_more, get_or_at}
+use Rattle.std.proofs.lemmas.List.{get_or_at}
 use Rattle.canvas_task.specs.Apply.{Behaviour}
 use Rattle.canvas_semantics.specs.Tree.{Task, Tree, numbered}
 use Rattle.canvas_semantics.specs.Evaluation.{Flow, nothing, State, Rows, task_rows, task_meaning, eval, eval_chain, member_rows, as_group, all_ends}
@@ -16,15 +16,6 @@ use Rattle.canvas_collect.specs.declared.completing.Flow as known
 use Rattle.canvas_collect.specs.steps.Flows.{IsKnown, Within, Reaches, ReachesAll}
 use Rattle.canvas_collect.specs.Completed.{HasRows}
 use Rattle.canvas_collect.proofs.Reached.{has_split, meaning_rows}
-
-pub dropped : {A : Type 0} (xs : List A) (i : ℕ) (x : A) → i < length xs → x ≡ get_or xs i x → drop i xs ≡ x ∷ drop (i + 1) xs
-dropped xs i x h e = drop_more xs i x h ∙ ap (λ y. y ∷ drop (i + 1) xs) (sym e)
-
-pub nothing_left : {A : Type 0} (xs : List A) (i : ℕ) → length xs ≤ i → drop i xs ≡ []
-nothing_left [] zero h = refl
-nothing_left [] (suc i) h = refl
-nothing_left (x ∷ xs) zero h = absurd (omega (arith, h))
-nothing_left (x ∷ xs) (suc i) h = nothing_left xs i (omega (arith, h))
 
 -- ---- a line
 

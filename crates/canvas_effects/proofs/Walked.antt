@@ -1,10 +1,10 @@
 -- What the walks give of lines, ends and tasks as the code has them.
-use Rattle.std.proofs.Common.{◌≡◌, ◌∙◌, ◌<◌, ◌≤◌, ◌+◌, ℕ, suc, Bool, true, false, List, [], ◌∷◌, ◌++◌, map, length, get_or, drop, Option, Some, None, Box, Global, refl, sym, ap, ap₂, subst, true≢false, append_assoc, append-nil, ne_eqb}
-use Rattle.std.proofs.lemmas.List.{drop_more, at_drop_more, at_drop_all}
+use Rattle.std.proofs.Common.{◌≡◌, ◌∙◌, ◌<◌, ◌+◌, ℕ, suc, Bool, true, false, List, [], ◌∷◌, ◌++◌, map, length, get_or, drop, Option, Some, None, Box, Global, refl, sym, ap, ap₂, subst, true≢false, append-nil, ne_eqb}
 use Rattle.std.specs.Prelude.{ℤ, ◌==◌, not}
 use Rattle.canvas_task.specs.declared.outcome.Fault.{Fault}
 use Rattle.canvas_task.specs.declared.outcome.Outcome.{Outcome}
 use Rattle.canvas_task.specs.declared.outcome.Outcome.TheVariants.{Success, Failure}
+use Rattle.canvas_task.proofs.Turns.{item_first}
 use Rattle.canvas_values.proofs.ComposedLemmas.{both}
 use Rattle.canvas_semantics.specs.Line.{in_group}
 use Rattle.canvas_semantics.specs.PlacedLine.{PTask, PLine, p_stop, p_step, p_group_end, p_chord_end, strip}
@@ -26,26 +26,6 @@ use Rattle.canvas_message.proofs.Seen.{task_seen, line_none, line_some, line_las
 pub number_seen : (t : FrozenTask) → number_of (p_task_view t) ≡ (out-FrozenTask t).no
 number_seen t = ap number_of (task_seen t)
 
--- ---- one after the other
-
-module _ {X : Type 0} where
-  pub joined : (x old a b w : List X) → x ≡ old ++ a → w ≡ a ++ b → x ++ b ≡ old ++ w
-  joined x old a b w h i = ap (λ y. y ++ b) h ∙ append_assoc old a b ∙ ap (λ y. old ++ y) (sym i)
-
--- one more turn of a loop that puts what each item gives behind the others, and the loop's end
-module _ {X Y : Type 0} where
-  pub put_on : (F : List X → List Y) (xs : List X) (i : ℕ) (x : X) (here before after all : List Y) → i < length xs → x ≡ get_or xs i x
-      → F (x ∷ drop (i + 1) xs) ≡ here ++ F (drop (i + 1) xs) → before ++ F (drop i xs) ≡ all → after ≡ before ++ here
-      → after ++ F (drop (i + 1) xs) ≡ all
-  put_on F xs i x here before after all lt is turn so_far pushed =
-      let rest : List Y = F (drop (i + 1) xs) in
-      ap (λ ys. ys ++ rest) pushed ∙ append_assoc before here rest
-      ∙ ap (λ ys. before ++ ys) (sym (at_drop_more F xs i x lt ∙ ap (λ y. F (y ∷ drop (i + 1) xs)) (sym is) ∙ turn)) ∙ so_far
-
-  pub put_all : (F : List X → List Y) (xs : List X) (i : ℕ) (now all : List Y)
-      → length xs ≤ i → F [] ≡ [] → now ++ F (drop i xs) ≡ all → now ≡ all
-  put_all F xs i now all past none so_far = sym (ap (λ ys. now ++ ys) (at_drop_all F xs i past ∙ none) ∙ append-nil now) ∙ so_far
-
 -- ---- the outcomes of members
 
 pub success_there : (e : ℕ × Outcome) (n : ℤ) → e.1 ≡ Success n → successes (e ∷ []) ≡ n ∷ []
@@ -65,7 +45,7 @@ one_success (k, Failure f) es = refl
 pub whole_on : (ls : List FrozenLine) (i : ℕ) (l : FrozenLine) → i < length ls → l ≡ get_or ls i l
     → AllWhole (map p_line_view (drop i ls)) → (is_whole (p_line_view l) ≡ true) × AllWhole (map p_line_view (drop (i + 1) ls))
 whole_on ls i l lt is h =
-    subst (λ xs. AllWhole (map p_line_view xs)) (drop_more ls i l lt ∙ ap (λ y. y ∷ drop (i + 1) ls) (sym is)) h
+    subst (λ xs. AllWhole (map p_line_view xs)) (item_first ls i l lt is) h
 
 -- ---- skipped
 

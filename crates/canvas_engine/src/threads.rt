@@ -1,6 +1,6 @@
 //! Runs on threads.
 mod crew;
-mod gathered;
+mod ending;
 mod publishing;
 mod records;
 mod running;

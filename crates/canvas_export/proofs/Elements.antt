@@ -2,10 +2,10 @@
 use Rattle.std.proofs.Common.{◌≡◌, ◌∙◌, ℕ, ◌+◌, ◌<◌, ◌==◌, true, false, arith, List, [], ◌∷◌, ◌++◌, map, length, drop, get_or, Option, Some, None, Box, Global, refl, sym, ap, ap₂, subst, append_assoc}
 use Rattle.std.specs.Prelude.{codes}
 use Rattle.std.proofs.lemmas.Bool.Decides.{nat_tests}
-use Rattle.std.proofs.lemmas.List.{drop_more}
 use Rattle.json.specs.Token.{Token, key, begin_array, begin_object, end_array, end_object}
 use Rattle.serde_json.specs.Data.{Data, null, no_items}
 use Rattle.canvas_task.specs.declared.arg.Arg.{Arg}
+use Rattle.canvas_task.proofs.Turns.{item_first}
 use Rattle.canvas_semantics.specs.PlacedLine.{PTask, PLine, p_stop}
 use Rattle.canvas_wire.specs.Writing.{args_wire, kwargs_wire, tasks_member, chord_members}
 use Rattle.canvas_wire.specs.steps.Tokens.{data_tokens, rest_tokens, rest_members, call_tokens, link_tokens, member_tokens, opening_tokens, kind_tokens, name_tokens}
@@ -28,11 +28,7 @@ use Rattle.canvas_export.proofs.Sigs.{tasks_items, is_some, options_of, group_fr
 
 pub tasks_dropped : (ts : List FrozenTask) (i : ℕ) (t : FrozenTask) → i < length ts → t ≡ get_or ts i t
     → map p_task_view (drop i ts) ≡ p_task_view t ∷ map p_task_view (drop (i + 1) ts)
-tasks_dropped ts i t lt is = ap (map p_task_view) (drop_more ts i t lt) ∙ ap (λ y. p_task_view y ∷ map p_task_view (drop (i + 1) ts)) (sym is)
-
-pub lines_dropped : (ls : List FrozenLine) (i : ℕ) (l : FrozenLine) → i < length ls → l ≡ get_or ls i l
-    → map p_line_view (drop i ls) ≡ p_line_view l ∷ map p_line_view (drop (i + 1) ls)
-lines_dropped ls i l lt is = ap (map p_line_view) (drop_more ls i l lt) ∙ ap (λ y. p_line_view y ∷ map p_line_view (drop (i + 1) ls)) (sym is)
+tasks_dropped ts i t lt is = ap (map p_task_view) (item_first ts i t lt is)
 
 -- ---- tasks
 

@@ -1,10 +1,10 @@
 -- The tokens of a frozen line, by its tasks and its end.
 use Rattle.std.proofs.Common.{◌≡◌, ◌∙◌, ℕ, ◌+◌, ◌<◌, ◌≤◌, true, false, List, [], ◌∷◌, ◌++◌, map, reverse, length, drop, get_or, Some, Box, Global, refl, sym, ap, ap₂, subst, append_assoc, append-nil}
 use Rattle.std.specs.Prelude.{codes, Result, Ok, Err}
-use Rattle.std.proofs.lemmas.List.{drop_all}
 use Rattle.json.specs.Written.{Written, Writes}
 use Rattle.json.specs.Token.{Token, begin_array, end_array}
 use Rattle.serde_json.specs.Data.{null}
+use Rattle.canvas_task.proofs.Turns.{put_on, put_end, put_all}
 use Rattle.canvas_semantics.specs.PlacedLine.{PLine, p_stop, p_step, p_group_end, p_chord_end}
 use Rattle.canvas_wire.specs.steps.Tokens.{Appends, data_tokens, rest_tokens, link_tokens}
 use Rattle.canvas_wire.proofs.Writers.{Stands}
@@ -18,7 +18,7 @@ use Rattle.canvas_message.specs.steps.Parts.{is_stop}
 use Rattle.canvas_export.specs.Signatures.{Naming, Sig, task_sig, elements, members_wire, each_wire, behind, first_wire, carried_wire, member_wire}
 use Rattle.canvas_export.specs.steps.Elements.{call_front, sig_rest, sig_tokens, first_front, first_rest, each_tokens, task_sigs, tail_sigs}
 use Rattle.canvas_export.proofs.Sigs.{each-append, each_items, each_reversed, one_reversed, is_some, first_carried, first_then, first_last, task_carried, listed_back}
-use Rattle.canvas_export.proofs.Elements.{tasks_dropped, lines_dropped, line_elements, first_task, only_tail, a_tail, end_stands, a_header}
+use Rattle.canvas_export.proofs.Elements.{tasks_dropped, line_elements, first_task, only_tail, a_tail, end_stands, a_header}
 
 -- ---- what was written
 
@@ -31,38 +31,32 @@ pub appended : {E : Type 0} (r : Result (Unit {0}) E) (old new : Written) (t : T
 appended (Ok x) old new t w = (w.ok, w.room.0)
 appended (Err x) old new t w = tt
 
--- one part of several
-pub next_part : (out new all part more rest : List Token) → new ≡ out ++ part → rest ≡ part ++ more → out ++ rest ≡ all → new ++ more ≡ all
-next_part out new all part more rest written split kept = ap (λ x. x ++ more) written
-    ∙ (append_assoc out part more ∙ (ap (λ x. out ++ x) (sym split) ∙ kept))
-
 module _ (n : Naming) where
   pub next_task : (ts : List FrozenTask) (i : ℕ) (t : FrozenTask) (out new all : List Token) → i < length ts → t ≡ get_or ts i t
       → new ≡ out ++ sig_tokens (task_sig n (p_task_view t))
       → out ++ each_tokens (task_sigs n (map p_task_view (drop i ts))) ≡ all → new ++ each_tokens (task_sigs n (map p_task_view (drop (i + 1) ts))) ≡ all
   next_task ts i t out new all lt is written kept =
-      next_part out new all _ (each_tokens (task_sigs n (map p_task_view (drop (i + 1) ts)))) (each_tokens (task_sigs n (map p_task_view (drop i ts))))
-      written
-      (ap (λ vs. each_tokens (task_sigs n vs)) (tasks_dropped ts i t lt is)) kept
+      put_on (λ us. each_tokens (task_sigs n (map p_task_view us))) ts i t (sig_tokens (task_sig n (p_task_view t))) out new all lt is refl kept written
 
   pub last_task : (ts : List FrozenTask) (i : ℕ) (out all : List Token) → length ts ≤ i
       → out ++ each_tokens (task_sigs n (map p_task_view (drop i ts))) ≡ all → out ≡ all
-  last_task ts i out all le kept = sym (append-nil out) ∙ (ap (λ xs. out ++ each_tokens (task_sigs n (map p_task_view xs))) (sym (drop_all i ts le)) ∙ kept)
+  last_task ts i out all le kept = put_all (λ us. each_tokens (task_sigs n (map p_task_view us))) ts i out all le refl kept
 
   pub next_line : (ls : List FrozenLine) (i : ℕ) (l : FrozenLine) (out new all : List Token) → i < length ls → l ≡ get_or ls i l
       → new ≡ out ++ data_tokens (member_wire (elements n (p_line_view l)))
       → out ++ rest_tokens (members_wire n (p_lines_of (map p_line_view (drop i ls)))) ≡ all
       → new ++ rest_tokens (members_wire n (p_lines_of (map p_line_view (drop (i + 1) ls)))) ≡ all
   next_line ls i l out new all lt is written kept =
-      next_part out new all _ (rest_tokens (members_wire n (p_lines_of (map p_line_view (drop (i + 1) ls)))))
-      (rest_tokens (members_wire n (p_lines_of (map p_line_view (drop i ls))))) written
-      (ap (λ vs. rest_tokens (members_wire n (p_lines_of vs))) (lines_dropped ls i l lt is)) kept
+      put_on (λ ms. rest_tokens (members_wire n (p_lines_of (map p_line_view ms)))) ls i l (data_tokens (member_wire (elements n (p_line_view l)))) out new all
+      lt is refl kept written
 
   pub last_line : (ls : List FrozenLine) (i : ℕ) (old out new : Written) (all : List Token) → length ls ≤ i
       → (out.tokens ++ rest_tokens (members_wire n (p_lines_of (map p_line_view (drop i ls)))) ≡ old.tokens ++ all) × (out.before ≡ old.before)
       → Stands out new (end_array ∷ []) → Stands old new all
-  last_line ls i old out new all le kept ended =
-      (ended.0 ∙ (ap (λ xs. out.tokens ++ rest_tokens (members_wire n (p_lines_of (map p_line_view xs)))) (sym (drop_all i ls le)) ∙ kept.0), ended.1 ∙ kept.1)
+  last_line ls i old out new all le kept ended = (
+    put_end (λ ms. rest_tokens (members_wire n (p_lines_of (map p_line_view ms)))) ls i out.tokens new.tokens (old.tokens ++ all) le kept.0 ended.0,
+    ended.1 ∙ kept.1,
+  )
 
   pub task_before : (ts : List FrozenTask) (j i : ℕ) (t : FrozenTask) (out new old : List Token) → i ≡ j + 1 → j < length ts → t ≡ get_or ts j t
       → new ≡ out ++ sig_tokens (task_sig n (p_task_view t))

@@ -1,8 +1,9 @@
 -- Words of a command, one after the other.
 use Rattle.std.proofs.Common.{◌≡◌, ◌∙◌, ℕ, suc, ◌+◌, ◌<◌, List, [], ◌∷◌, ◌++◌, length, drop, get_or, refl, sym, ap, arith, append_assoc, append-nil, length-append, map, Option, Some, None}
-use Rattle.std.proofs.Math.Seq.{drop-cons}
+use Rattle.std.proofs.lemmas.List.{get_or_default}
 use Rattle.std.specs.Prelude.{Result, Ok, Err, OnOk, codes}
 use Rattle.canvas_task.specs.Text.{Text}
+use Rattle.canvas_task.proofs.Turns.{put_on}
 use Rattle.canvas_export.specs.Resp.{header_bytes, word_bytes, words_bytes, command_bytes}
 use Rattle.canvas_export.specs.Script.{database_words}
 
@@ -26,20 +27,13 @@ pub last_word : {E : Type 0} (r : Result (Unit {0}) E) (o n m : Text) (us : List
 last_word (Ok x) o n m us w first second = then_word o n m us w first second
 last_word (Err x) o n m us w first second = tt
 
-pub last_words : {E : Type 0} (r : Result (Unit {0}) E) (o n m : Text) (us vs : List Text) → n ≡ o ++ words_bytes us → OnOk r (m ≡ n ++ words_bytes vs)
-    → OnOk r (m ≡ o ++ words_bytes (us ++ vs))
-last_words (Ok x) o n m us vs first second = then_words o n m us vs first second
-last_words (Err x) o n m us vs first second = tt
-
 -- one word more of a list
 pub next_word : {X : Type 0} (g : X → Text) (xs : List X) (i : ℕ) (x d : X) (out new old : Text) → i < length xs → get_or xs i d ≡ x
     → new ≡ out ++ word_bytes (g x)
     → out ++ words_bytes (map g (drop i xs)) ≡ old ++ words_bytes (map g xs) → new ++ words_bytes (map g (drop (i + 1) xs)) ≡ old ++ words_bytes (map g xs)
 next_word g xs i x d out new old h is written kept =
-    let e : suc i ≡ i + 1 = omega arith in
-    let cut : drop i xs ≡ x ∷ drop (i + 1) xs = drop-cons xs i d h ∙ (ap (λ y. y ∷ drop (suc i) xs) is ∙ ap (λ j. x ∷ drop j xs) e) in
-    let more : Text = words_bytes (map g (drop (i + 1) xs)) in
-    ap (λ y. y ++ more) written ∙ (append_assoc out (word_bytes (g x)) more ∙ (ap (λ ys. out ++ words_bytes (map g ys)) (sym cut) ∙ kept))
+    put_on (λ ys. words_bytes (map g ys)) xs i x (word_bytes (g x)) out new (old ++ words_bytes (map g xs)) h (sym is ∙ get_or_default xs i d x h) refl
+    kept written
 
 -- a whole command: its head, and then its words
 pub command_of : {E : Type 0} (r : Result (Unit {0}) E) (o n m : Text) (k : ℕ) (words : List Text) → k ≡ length words → n ≡ o ++ header_bytes (codes "*") k → OnOk r (m ≡ n ++ words_bytes words)
@@ -52,14 +46,7 @@ pub length-map : {X Y : Type 0} (g : X → Y) (xs : List X) → length (map g xs
 length-map g [] = refl
 length-map g (x ∷ xs) = ap (λ n. suc n) (length-map g xs)
 
-pub two_databases : (d : Option (ℕ × ℕ)) → length (database_words d) ≡ 2
-two_databases None = refl
-two_databases (Some d) = refl
-
 -- ---- the script's command, by the parts in which it is written
-
-abbrev pub script_parts : (head keys settings counts messages : List Text) → List Text
-script_parts head keys settings counts messages = (((head ++ keys) ++ settings) ++ counts) ++ messages ++ codes "whole" ∷ []
 
 pub five_lengths : (a b c d e : List Text) (w : Text) → length (((((a ++ b) ++ c) ++ d) ++ e) ++ w ∷ []) ≡ length a + length b + length c + length d + length e
     + 1

@@ -1,5 +1,5 @@
 -- What is found in a text.
-use Rattle.std.proofs.Common.{◌≡◌, ◌≢◌, ◌≤◌, Bool, true, false, Option, Some, None, Ok, Err, arith, option_map, refl, sym, ap, ◌∙◌}
+use Rattle.std.proofs.Common.{◌≡◌, ◌≤◌, Bool, true, false, Option, Some, None, Ok, arith, option_map, refl, sym, ap, ◌∙◌}
 use Rattle.std.specs.Prelude.{if◌then◌else◌}
 use Rattle.std.specs.Str.{is_utf8}
 use Rattle.serde_json.specs.Data.{Data, depth}
@@ -8,13 +8,11 @@ use Rattle.serde_json.proofs.Nesting.{depth-read}
 use Rattle.canvas_task.specs.Text.{Text}
 use Rattle.canvas_values.specs.CanvasText.{json_of}
 use Rattle.canvas_values.specs.declared.fault.SigFault.{SigFault}
-use Rattle.canvas_values.specs.declared.fault.SigFault.TheVariants.{Memory}
-use Rattle.canvas_values.specs.Answers.{Fails}
 use Rattle.canvas_values.specs.steps.Reading.{json_reading}
 use Rattle.canvas_finding.specs.Places.{shown}
 use Rattle.canvas_finding.specs.Limits.{place_of}
 use Rattle.canvas_finding.specs.Pointer.{AreIndices}
-use Rattle.canvas_finding.specs.Finding.{IsPlace, IsSpot, IsJsonSpot, StandsAt}
+use Rattle.canvas_finding.specs.Finding.{IsPlace, IsSpot, StandsAt}
 use Rattle.canvas_finding.specs.declared.listing.Place.{Place}
 use Rattle.canvas_finding.specs.declared.finding.Spot.{Spot}
 use Rattle.canvas_finding.specs.declared.finding.Spot.TheVariants as spot
@@ -47,16 +45,3 @@ was_json (Some x) d h = let same : x ≡ d = cc in ap Some same
 
 pub parsed_as : (bytes : Text) (d : Data) → json_reading (json_of bytes) ≡ Ok d → json_of bytes ≡ Some d
 parsed_as bytes d h = was_json (json_of bytes) d h
-
-was_none : (o : Option Data) (e : SigFault) → json_reading o ≡ Err e → o ≡ None
-was_none None e h = refl
-was_none (Some x) e h = absurd cc
-
-not_parsed : (bytes : Text) (e : SigFault) → e ≢ Memory → Fails e (json_reading (json_of bytes)) → json_of bytes ≡ None
-not_parsed bytes Memory other h = absurd (other refl)
-not_parsed bytes e other h = was_none (json_of bytes) e h
-
-pub no_json_at : (bytes : Text) (e f : SigFault) (at : Spot) → e ≢ Memory → Fails e (json_reading (json_of bytes)) → IsJsonSpot at → StandsAt bytes f at
-no_json_at bytes e f (spot.Json line column) other h is = not_parsed bytes e other h
-no_json_at bytes e f spot.Text other h is = absurd is
-no_json_at bytes e f (spot.Signature steps) other h is = absurd is

@@ -7,7 +7,7 @@ use Rattle.canvas_task.specs.declared.outcome.Outcome.{Outcome}
 use Rattle.canvas_task.specs.declared.outcome.Outcome.TheVariants.{Success, Failure}
 use Rattle.canvas_semantics.specs.Tree.{Call, Task, task, Tasks, no_tasks, and_task}
 use Rattle.canvas_semantics.specs.Evaluation as eval
-use Rattle.canvas_semantics.specs.Evaluation.{Flow, State, Rows, state_of, with_states, state, to_links, to_errbacks, passed_on, gathered, group_value, task_rows, task_meaning, all_ends}
+use Rattle.canvas_semantics.specs.Evaluation.{Flow, Rows, state_of, with_states, state, to_links, to_errbacks, passed_on, gathered, group_value, task_rows, task_meaning, all_ends}
 use Rattle.canvas_semantics.specs.FileOrder.{LineIn, LinesIn, EndsInTask}
 use Rattle.canvas_semantics.specs.Line.{Line, stop, step, group_end, chord_end, Lines, no_lines, and_line, no_of, members_of, ends_of, all_ends_of, count_line, members}
 use Rattle.canvas_semantics.specs.PlacedLine.{PPlace, p_nowhere, p_group, p_chord, bare}
@@ -18,7 +18,7 @@ use Rattle.canvas_rewrite.proofs.InOrder.{plan_in_order}
 use Rattle.canvas_history.specs.Lists.{In}
 use Rattle.canvas_message.specs.Content.{Content, number_of}
 use Rattle.canvas_effects.specs.Effects as effects
-use Rattle.canvas_effects.specs.Effects.{outcome_of, part_of, header_flow}
+use Rattle.canvas_effects.specs.Effects.{part_of, header_flow}
 use Rattle.canvas_effects.specs.Events.{Event, start, end_of_line, EventJobs, labelled, flow_outcome, group_flow, header_place, body_event, chosen, input_of_success, outcome_with, out, outs, ran, ran_all, events_in_file, items_all, evaluated}
 use Rattle.canvas_effects.specs.Flowing.{Input, no_input, number_input, list_input, id_input, LineFlow, run, skips, raise, input_flow, flow_of, after_outcome}
 use Rattle.canvas_effects.specs.Job.{Job, store, publish, part}

@@ -1,6 +1,7 @@
 -- What became of a line's tasks, by the parts of the line.
 use Rattle.std.proofs.Common.{◌≡◌, ◌∙◌, ◌+◌, ◌<◌, ◌≤◌, ℕ, List, [], ◌∷◌, ◌++◌, map, drop, length, get_or, Some, None, Box, Global, refl, sym, ap, append_assoc, append-nil}
-use Rattle.std.proofs.lemmas.List.{at_drop_more, at_drop_all}
+use Rattle.std.proofs.lemmas.List.{at_drop_all}
+use Rattle.canvas_task.proofs.Turns.{item_first}
 use Rattle.canvas_semantics.specs.Tree.{Task, and_task}
 use Rattle.canvas_semantics.specs.Evaluation.{State, Rows, with_states, state_of}
 use Rattle.canvas_semantics.specs.States.{rows_from}
@@ -107,11 +108,9 @@ module _ (rows : Rows) (ts : List FrozenTask) (i : ℕ) where
       let then : Came = after came (no_of (task_in t)) (state_of (no_of (task_in t)) rows) in
       let comes_then : comes ≡ then = next ∙ ap (λ k. after came k (state_of k rows)) (sym (number_in t)) in (
         (λ j. pushed j ++ tasks_seen rows left (comes_then j)) ∙ append_assoc before one (tasks_seen rows left then)
-            ∙ ap (λ ns. before ++ ns) (sym (at_drop_more (λ us. tasks_seen rows (map task_in us) came) ts i t inside
-            ∙ ap (λ u. tasks_seen rows (map task_in (u ∷ drop (i + 1) ts)) came) (sym is))) ∙ so_far.0,
+            ∙ ap (λ us. before ++ tasks_seen rows (map task_in us) came) (sym (item_first ts i t inside is)) ∙ so_far.0,
         ap (came_behind rows left) comes_then
-            ∙ sym (at_drop_more (λ us. came_behind rows (map task_in us) came) ts i t inside
-            ∙ ap (λ u. came_behind rows (map task_in (u ∷ drop (i + 1) ts)) came) (sym is)) ∙ so_far.1,
+            ∙ ap (λ us. came_behind rows (map task_in us) came) (sym (item_first ts i t inside is)) ∙ so_far.1,
       )
 
   pub behind_all : (came behind : Came) → length ts ≤ i → came_behind rows (map task_in (drop i ts)) came ≡ behind → came ≡ behind

@@ -1,6 +1,7 @@
 -- The nodes and edges of a line, by its parts.
 use Rattle.std.proofs.Common.{◌≡◌, ◌∙◌, ◌+◌, ◌<◌, ◌≤◌, ℕ, ◌==◌, get_or, drop, false, List, [], ◌∷◌, ◌++◌, map, length, Option, Some, None, Box, Global, slice_get, refl, sym, ap, subst, append_assoc, append-nil}
 use Rattle.std.proofs.lemmas.List.{drop_all}
+use Rattle.canvas_task.proofs.Turns.{item_first, put_on}
 use Rattle.canvas_semantics.specs.Tree.{Task}
 use Rattle.canvas_semantics.specs.Line.{Line, stop, group_end, chord_end, Lines, ends_of}
 use Rattle.canvas_semantics.specs.PlacedLine.{PTask, PPlace, PLine, strip_task, strip_tasks}
@@ -10,7 +11,6 @@ use Rattle.canvas_rewrite.specs.declared.frozen.FrozenTask.{FrozenTask, out-Froz
 use Rattle.canvas_rewrite.specs.declared.frozen.FrozenLine.{FrozenLine, out-FrozenLine}
 use Rattle.canvas_rewrite.specs.declared.frozen.FrozenEnd.{FrozenEnd, out-FrozenEnd}
 use Rattle.canvas_rewrite.proofs.PlanLines.{in_none, in_some, in_group, in_chord}
-use Rattle.canvas_report.proofs.WalkedLists.{next, written}
 use Rattle.canvas_report.specs.declared.graph.edges.Edge.{Edge}
 use Rattle.canvas_report.specs.declared.graph.edges.Node.{Node}
 use Rattle.canvas_report.specs.declared.graph.edges.Node.TheVariants as node
@@ -60,8 +60,7 @@ callbacks_next leads from ts i x n here mid after whole h e named left p q =
     let own = edge leads from (of_task (task_in x)) ∷ [] in
     let both : after ≡ here ++ (own ++ task_edges (task_in x)) =
     q ∙ ap (λ es. es ++ task_edges (task_in x)) (p ∙ ap (λ m. here ++ edge leads from m ∷ []) named) ∙ append_assoc here own (task_edges (task_in x)) in
-    written (λ (t : FrozenTask). edge leads from (of_task (task_in t)) ∷ [] ++ task_edges (task_in t))
-    (λ us. callbacks_edges leads from (map task_in us)) (λ t us. refl) ts i x here after whole h e left both
+    put_on (λ us. callbacks_edges leads from (map task_in us)) ts i x (own ++ task_edges (task_in x)) here after whole h e refl left both
 
 pub tasks_next : (ts : List FrozenTask) (i : ℕ) (x : FrozenTask) (before : Option Node) (n : Node) (here mid after whole : List Edge)
     → i < length ts → x ≡ get_or ts i x → n ≡ of_task (task_in x) → here ++ tasks_edges before (map task_in (drop i ts)) ≡ whole
@@ -73,14 +72,14 @@ tasks_next ts i x before n here mid after whole h e named left p q =
     q ∙ ap (λ m. mid ++ behind before (m ∷ [])) named ∙ ap (λ es. es ++ own) p ∙ append_assoc here (task_edges (task_in x)) own in
     ap (λ m. after ++ tasks_edges (Some m) (map task_in (drop (i + 1) ts))) named
     ∙ ap (λ es. es ++ rest) both ∙ append_assoc here (task_edges (task_in x) ++ own) rest
-    ∙ ap (λ es. here ++ es) (sym (ap (λ zs. tasks_edges before (map task_in zs)) (next ts i x h e))) ∙ left
+    ∙ ap (λ es. here ++ es) (sym (ap (λ zs. tasks_edges before (map task_in zs)) (item_first ts i x h e))) ∙ left
 
 pub last_next : (ts : List FrozenTask) (i : ℕ) (x : FrozenTask) (before whole : Option Node) (n : Node)
     → i < length ts → x ≡ get_or ts i x → n ≡ of_task (task_in x) → last_node before (map task_in (drop i ts)) ≡ whole
     → last_node (Some n) (map task_in (drop (i + 1) ts)) ≡ whole
 last_next ts i x before whole n h e named left =
     ap (λ m. last_node (Some m) (map task_in (drop (i + 1) ts))) named
-    ∙ sym (ap (λ zs. last_node before (map task_in zs)) (next ts i x h e)) ∙ left
+    ∙ sym (ap (λ zs. last_node before (map task_in zs)) (item_first ts i x h e)) ∙ left
 
 pub last_ended : (ts : List FrozenTask) (i : ℕ) (before whole : Option Node) → length ts ≤ i → last_node before (map task_in (drop i ts)) ≡ whole
     → before ≡ whole

@@ -1,7 +1,6 @@
 pub mod Identifiers
 pub mod ReportLines
 pub mod Pieces
-pub mod WalkedLists
 pub mod RowLines
 pub mod RowLaws
 pub mod ReadBack

@@ -3,8 +3,9 @@ use Rattle.std.proofs.Common.{◌≡◌, ◌∙◌, ◌==◌, ◌+◌, ◌<◌, 
 use Rattle.std.specs.Prelude.{OnOk, codes, decimal, if◌then◌else◌}
 use Rattle.std.specs.Fmt.{digits, digits_onto, digit_glyph}
 use Rattle.std.proofs.lemmas.Bool.Decides.{nat_tests}
-use Rattle.std.proofs.lemmas.List.{drop_all, at_drop_more}
+use Rattle.std.proofs.lemmas.List.{drop_all}
 use Rattle.canvas_task.specs.Text.{Text}
+use Rattle.canvas_task.proofs.Turns.{item_first}
 use Rattle.canvas_semantics.specs.Tree.{Task}
 use Rattle.canvas_semantics.specs.Line.{Line, stop, no_of}
 use Rattle.canvas_semantics.specs.PlacedLine.{PTask, PPlace, PLine, strip_task, strip_tasks}
@@ -126,13 +127,11 @@ chord_is t b e = subst (λ x. frame_pieces true x ++ line_pieces (line_in b) ≡
 
 pub rest_tasks : (ts : List FrozenTask) (i : ℕ) (t : FrozenTask) → i < length ts → t ≡ get_or ts i t
     → task_pieces (task_in t) ++ tasks_pieces (map task_in (drop (i + 1) ts)) ≡ tasks_pieces (map task_in (drop i ts))
-rest_tasks ts i t lt is =
-    ap (λ x. tasks_pieces (map task_in (x ∷ drop (i + 1) ts))) is ∙ sym (at_drop_more (λ xs. tasks_pieces (map task_in xs)) ts i t lt)
+rest_tasks ts i t lt is = ap (λ xs. tasks_pieces (map task_in xs)) (sym (item_first ts i t lt is))
 
 pub rest_lines : (ls : List FrozenLine) (i : ℕ) (l : FrozenLine) → i < length ls → l ≡ get_or ls i l
     → line_pieces (line_in l) ++ lines_pieces (map line_in (drop (i + 1) ls)) ≡ lines_pieces (map line_in (drop i ls))
-rest_lines ls i l lt is =
-    ap (λ x. lines_pieces (map line_in (x ∷ drop (i + 1) ls))) is ∙ sym (at_drop_more (λ xs. lines_pieces (map line_in xs)) ls i l lt)
+rest_lines ls i l lt is = ap (λ xs. lines_pieces (map line_in xs)) (sym (item_first ls i l lt is))
 
 pub none_left : (ts : List FrozenTask) (i : ℕ) → length ts ≤ i → [] ≡ tasks_pieces (map task_in (drop i ts))
 none_left ts i far = ap (λ xs. tasks_pieces (map task_in xs)) (sym (drop_all i ts far))

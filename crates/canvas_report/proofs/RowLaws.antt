@@ -72,9 +72,6 @@ shows_status (row.Blamed dep name) x h = ap (λ y. y.status) (sym h)
 abbrev IsFurther : Members → Type 0
 IsFurther ms = members_text true ms ≡ 44 ∷ members_text false ms
 
-named_further : (k : Text) (d : Data) (ms : Members) → IsFurther (member k d ms)
-named_further k d ms = refl
-
 if_further : (k : Text) (o : Option Data) (ms : Members) → IsFurther ms → IsFurther (member_if k o ms)
 if_further k None ms h = h
 if_further k (Some d) ms h = refl

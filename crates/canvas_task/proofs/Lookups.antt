@@ -1,22 +1,11 @@
 -- What is looked for in a list, element by element.
-use Rattle.std.proofs.Common.{◌≡◌, ◌∙◌, ◌+◌, ◌<◌, ◌≤◌, ◌||◌, ℕ, Bool, true, false, if◌then◌else◌, List, [], ◌∷◌, Option, Some, None, drop, length, get_or, ap, sym, refl, bytes_eq}
-use Rattle.std.proofs.lemmas.List.{drop_more, drop_all}
+use Rattle.std.proofs.Common.{◌≡◌, ◌+◌, ◌≤◌, ◌||◌, ℕ, Bool, true, false, if◌then◌else◌, List, ◌∷◌, Option, Some, None, drop, length, ap, refl, bytes_eq}
 use Rattle.canvas_task.specs.Text.{Text}
 use Rattle.canvas_task.specs.Apply.{Meaning}
 use Rattle.canvas_task.specs.Builtin.{first_called}
 use Rattle.canvas_task.specs.Tasks.{named_tasks, has_name}
 use Rattle.canvas_task.specs.declared.builtin.Builtin.{Builtin}
-
--- what the elements from here on give, by the first of them
-module _ {X Y : Type 0} (gives : List X → Y) (xs : List X) (i : ℕ) where
-  pub by_first : (x : X) (found all : Y) → drop i xs ≡ x ∷ drop (i + 1) xs → gives (x ∷ drop (i + 1) xs) ≡ found → gives (drop i xs) ≡ all → found ≡ all
-  by_first x found all is first kept = sym (ap gives is ∙ first) ∙ kept
-
-  pub by_none : (found all : Y) → length xs ≤ i → gives [] ≡ found → gives (drop i xs) ≡ all → found ≡ all
-  by_none found all past none kept = sym (ap gives (drop_all i xs past) ∙ none) ∙ kept
-
-pub item_first : {X : Type 0} (xs : List X) (i : ℕ) (x : X) → i < length xs → x ≡ get_or xs i x → drop i xs ≡ x ∷ drop (i + 1) xs
-item_first xs i x inside is = drop_more xs i x inside ∙ ap (λ w. w ∷ drop (i + 1) xs) (sym is)
+use Rattle.canvas_task.proofs.Turns.{by_first, by_none}
 
 module _ {B : Type 0} (called : B → Text) (answers : B → Meaning) (name : Text) (bs : List B) (i : ℕ) where
   -- the rest, as the names in it

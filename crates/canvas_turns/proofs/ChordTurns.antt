@@ -133,9 +133,6 @@ b16 = b15 ++ (2, (take, taken None)) ∷ []
 abbrev b17 : List Step
 b17 = b16 ++ (1, (rest, rested false)) ∷ []
 
-abbrev b18 : List Step
-b18 = b17 ++ (2, (rest, rested false)) ∷ []
-
 -- nobody is inside a script then
 all_out_16 : Answers builtin_tasks small 2 b16 rest (rested false)
 all_out_16 = ap₂ (λ s u. is_inside s || (is_inside u || false)) (sym (second_state (second_own ++ (take, taken None) ∷ [])))

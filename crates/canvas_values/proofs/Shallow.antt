@@ -1,5 +1,5 @@
 -- A canvas that no limit refuses is within the limits of depth.
-use Rattle.std.proofs.Common.{◌≡◌, ◌∙◌, ◌≤◌, ℕ, Bool, true, false, Option, Some, None, refl, sym, arith}
+use Rattle.std.proofs.Common.{◌≡◌, ◌≤◌, ℕ, Bool, true, false, Option, Some, None, refl, arith}
 use Rattle.std.specs.Prelude.{◌||◌, if◌then◌else◌, nat_lt}
 use Rattle.std.proofs.lemmas.Bool.{ltb-false}
 use Rattle.canvas_semantics.specs.Bounds.{most_nesting, most_reach, nests_group, is_too_deep}
@@ -9,9 +9,7 @@ use Rattle.canvas_semantics.specs.Reach.{reach}
 use Rattle.canvas_semantics.specs.Tree.{Tree}
 use Rattle.canvas_values.specs.declared.fault.SigFault.{SigFault}
 use Rattle.canvas_values.specs.LimitRefusals.{tree_fault}
-use Rattle.canvas_values.specs.Writable.{IsCanvas}
 use Rattle.canvas_values.specs.steps.LineReach.{capped}
-use Rattle.canvas_values.proofs.Fits.{canvas_within}
 
 not_refused : (b : Bool) (e : SigFault) (o : Option SigFault) → (if b then Some e else o) ≡ None → (b ≡ false) × (o ≡ None)
 not_refused true e o h = absurd cc
@@ -28,13 +26,6 @@ shallow t h =
     let both = neither (nat_lt most_nesting (nesting t)) (nat_lt most_reach (reach 0 (normal t))) deep in
     (ltb-false most_nesting (nesting t) both.0, ltb-false most_reach (reach 0 (normal t)) both.1)
 
-pub canvas_shallow : (t : Tree) → IsCanvas t → (nesting t ≤ most_nesting) × (reach 0 (normal t) ≤ most_reach)
-canvas_shallow t canvas = shallow t (canvas_within t canvas)
-
 -- below the limit a depth is told as it is
 pub uncapped : (w r : ℕ) → r ≤ most_reach → w ≡ capped r → w ≡ r
 uncapped w r low is = omega (arith, low, is)
-
--- the least depth within which a node nests is its nesting
-pub least_nesting : (d n : ℕ) → d ≤ n → n ≤ d → d ≡ n
-least_nesting d n low high = omega (arith, low, high)

@@ -1,4 +1,3 @@
-pub mod Walked
 pub mod Views
 pub mod Nodes
 mod Rules

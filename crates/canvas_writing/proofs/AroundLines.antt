@@ -1,34 +1,25 @@
 -- Lines of the code: what stands before and behind the body that their ends carry.
 use Rattle.std.proofs.Common.{◌≡◌, ◌∙◌, ℕ, true, false, arith, List, [], ◌∷◌, ◌++◌, map, length, ◌==◌, Option, Some, None, Box, Global, refl, sym, ap, ap₂, subst}
-use Rattle.std.specs.Prelude.{codes, is_some}
+use Rattle.std.specs.Prelude.{codes}
 use Rattle.std.proofs.lemmas.Bool.Decides.{nat_tests}
 use Rattle.std.proofs.lemmas.List.{map-append}
 use Rattle.json.specs.Token.{key}
 use Rattle.serde_json.specs.Data.{string}
 use Rattle.canvas_semantics.specs.PlacedLine.{PTask, PLine, p_stop, p_step, p_group_end, p_chord_end}
 use Rattle.canvas_rewrite.specs.FrozenView.{p_steps, p_task_view, p_line_view, p_end_view}
-use Rattle.canvas_rewrite.specs.declared.frozen.Carried.{Carried}
-use Rattle.canvas_rewrite.specs.declared.frozen.Place.{Place, out-Place}
 use Rattle.canvas_rewrite.specs.declared.frozen.FrozenTask.{FrozenTask, out-FrozenTask}
 use Rattle.canvas_rewrite.specs.declared.frozen.FrozenLine.{FrozenLine, out-FrozenLine}
 use Rattle.canvas_rewrite.specs.declared.frozen.FrozenEnd.{FrozenEnd, out-FrozenEnd}
 use Rattle.canvas_message.specs.Content.{place_of}
-use Rattle.canvas_message.specs.MessageView.{place_view, place_seen}
+use Rattle.canvas_message.specs.MessageView.{place_seen}
 use Rattle.canvas_message.specs.Wire.{members_wire}
 use Rattle.canvas_message.specs.steps.Parts.{is_stop}
 use Rattle.canvas_message.proofs.FitLemmas.{end_stands, never_stops}
-use Rattle.canvas_message.proofs.Seen.{task_seen, group_place, chord_place, line_none, line_some, line_last, line_empty, end_none, end_some}
+use Rattle.canvas_message.proofs.Seen.{task_seen, line_none, line_some, line_last, line_empty, end_none, end_some}
 use Rattle.canvas_writing.specs.steps.Around.{is_carrying, carries, front_tasks, task_before, line_before, last_before, line_behind, last_behind}
 use Rattle.canvas_writing.specs.steps.Tokens.{task_behind, chain_before, chain_behind, list_tokens, group_closing, members_of_end, group_of_end, opening_tokens}
 
 -- ---- places
-
-place_by : (p : Place) (o : Option Carried) → (out-Place p).chord ≡ o → is_some o ≡ is_carrying (place_view p)
-place_by p None e = sym (ap is_carrying (group_place p e))
-place_by p (Some c) e = sym (ap is_carrying (chord_place p c e))
-
-pub place_carries : (p : Place) → is_some (out-Place p).chord ≡ is_carrying (place_view p)
-place_carries p = place_by p (out-Place p).chord refl
 
 pub task_carries : (t : FrozenTask) → is_carrying (place_seen (out-FrozenTask t).place) ≡ carries (p_step (p_task_view t) p_stop)
 task_carries t = sym (ap (λ x. is_carrying (place_of x)) (task_seen t))
@@ -107,12 +98,6 @@ front_by t (Some b) e = ap front_tasks (end_some t b e)
 
 end_front : (t : FrozenEnd) → front_tasks (p_end_view t) ≡ []
 end_front t = front_by t (out-FrozenEnd t).body refl
-
-pub group_carries : (t : FrozenEnd) → (out-FrozenEnd t).body ≡ None → false ≡ carries (p_end_view t)
-group_carries t e = sym (ap carries (end_none t e))
-
-pub chord_carries : (t : FrozenEnd) (b : FrozenLine) → (out-FrozenEnd t).body ≡ Some b → carries (p_line_view b) ≡ carries (p_end_view t)
-chord_carries t b e = sym (ap carries (end_some t b e))
 
 pub group_before : (size : Option ℕ) (t : FrozenEnd) → (out-FrozenEnd t).body ≡ None → line_before size (p_end_view t) ≡ []
 group_before size t e = ap (line_before size) (end_none t e)

@@ -1,9 +1,9 @@
 -- The text of a body, of which a piece is shared.
-use Rattle.std.proofs.Common.{◌≡◌, ◌∙◌, ℕ, false, List, [], ◌∷◌, ◌++◌, map, Option, refl, sym, ap, append_assoc, append-nil}
+use Rattle.std.proofs.Common.{◌≡◌, ◌∙◌, ℕ, List, [], ◌∷◌, ◌++◌, map, Option, ap, append_assoc, append-nil}
 use Rattle.std.specs.Prelude.{codes}
 use Rattle.serde_json.proofs.OnLiterals.{serde_json_on_literals}
 use Rattle.serde_json.specs.Data.{Data, null, array, object, Items, item, no_items, Members}
-use Rattle.serde_json.specs.Written.{compact_text, items_text}
+use Rattle.serde_json.specs.Written.{compact_text}
 use Rattle.canvas_task.specs.declared.arg.Arg.{Arg}
 use Rattle.canvas_wire.specs.Writing.{args_wire, kwargs_wire}
 use Rattle.canvas_rewrite.specs.FrozenView.{p_tasks_of, p_task_view}

@@ -1,16 +1,15 @@
 -- The texts of carried bodies.
-use Rattle.std.proofs.Common.{◌≡◌, ◌∙◌, ℕ, true, List, [], ◌∷◌, ◌++◌, Option, Some, None, Ok, Err, Global, refl, sym, ap, subst}
-use Rattle.std.specs.Prelude.{IfSome, IfOk, Result}
-use Rattle.std.specs.declared.sync.Arc.{Arc}
+use Rattle.std.proofs.Common.{◌≡◌, ◌∙◌, ℕ, true, List, [], ◌∷◌, Some, Ok, Err, sym, subst}
+use Rattle.std.specs.Prelude.{IfOk, Result}
 use Rattle.json.specs.Print.{print}
 use Rattle.serde_json.specs.Written.{compact_text}
-use Rattle.canvas_semantics.specs.PlacedLine.{PPlace, p_chord, PLine}
+use Rattle.canvas_semantics.specs.PlacedLine.{p_chord, PLine}
 use Rattle.canvas_rewrite.specs.FrozenView.{p_line_view}
 use Rattle.canvas_rewrite.specs.declared.frozen.Carried.{Carried, out-Carried}
 use Rattle.canvas_rewrite.specs.declared.frozen.Place.{Place, out-Place}
 use Rattle.canvas_message.specs.Content.{end_place}
 use Rattle.canvas_message.specs.MessageView.{place_view}
-use Rattle.canvas_message.specs.SharedTexts.{SaysCarried, SaysRinged, carried_bytes, core_of, inner_place, rings_of}
+use Rattle.canvas_message.specs.SharedTexts.{SaysCarried, SaysRinged, carried_bytes, core_of, rings_of}
 use Rattle.canvas_message.specs.Wire.{carried_wire, line_wire}
 use Rattle.canvas_message.specs.declared.carried_text.CarriedText.{CarriedText}
 use Rattle.canvas_message.proofs.Seen.{chord_place}
@@ -48,10 +47,6 @@ module _ (p : Place) (c : Carried) (e : (out-Place p).chord ≡ Some c) where
   pub says_place : (t : CarriedText) → ((g : ℕ) → SaysCarried t (p_chord g (out-Carried c).size (p_line_view (out-Carried c).body.value)))
       → SaysCarried t (place_view p)
   says_place t h = subst (SaysCarried t) (sym (chord_place p c e)) (h (out-Place p).group)
-
-  pub inner_says : (o : Option (Arc CarriedText Global)) → IfSome o (λ t. SaysCarried t.value (inner_place (place_view p)))
-      → IfSome o (λ t. SaysCarried t.value (end_place (p_line_view (out-Carried c).body.value)))
-  inner_says o h = subst (λ q. IfSome o (λ t. SaysCarried t.value (inner_place q))) (chord_place p c e) h
 
   pub says_bytes : (t : CarriedText) → SaysCarried t (place_view p) → carried_bytes t ≡ compact_text (carried_wire (place_view p))
   says_bytes t h =

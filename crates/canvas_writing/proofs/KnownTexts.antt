@@ -17,7 +17,7 @@ use Rattle.canvas_message.specs.MessageView.{place_view, place_seen}
 use Rattle.canvas_message.proofs.Seen.{group_place, chord_place}
 use Rattle.canvas_rewrite.specs.declared.frozen.Place.{Place, out-Place}
 use Rattle.canvas_rewrite.specs.declared.frozen.Carried.{Carried}
-use Rattle.canvas_writing.specs.steps.Texts.{Adds, properties_naming, headers_naming, front_text, origin_text, name_text, size_text, flag_text, call_text, own_text, args_text, embed_of, opening_text, behind_text}
+use Rattle.canvas_writing.specs.steps.Texts.{Adds, properties_naming, headers_naming, front_text, origin_text, name_text, size_text, flag_text, call_text, own_text, embed_of, opening_text, behind_text}
 
 -- ---- one piece after the other
 

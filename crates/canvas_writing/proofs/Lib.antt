@@ -10,4 +10,3 @@ pub mod Listing
 pub mod PieceTexts
 pub mod Bodies
 pub mod Followed
-pub mod Turns

@@ -1,7 +1,6 @@
 -- The text of a line from its last element on, with where its elements end.
-use Rattle.std.proofs.Common.{◌≡◌, ◌≤◌, ◌<◌, ◌∙◌, ◌+◌, ℕ, suc, drop-cons, get_or, Bool, true, false, List, [], ◌∷◌, ◌++◌, ◌==◌, length, take, map, drop, arith, Option, Some, None, Ok, Err, Box, Global, refl, sym, ap, ap₂, subst, append_assoc, append-nil, ne_eqb, rules}
-use Rattle.std.specs.Prelude.{reverse, not, is_some, if◌then◌else◌, Result, IfOk, string_bytes}
-use Rattle.canvas_message.specs.declared.texts.LineText.{LineText}
+use Rattle.std.proofs.Common.{◌≡◌, ◌<◌, ◌∙◌, ◌+◌, ℕ, suc, drop-cons, get_or, Bool, true, false, List, [], ◌∷◌, ◌++◌, ◌==◌, length, take, map, drop, arith, Option, Some, None, Box, Global, refl, sym, ap, ap₂, subst, append_assoc, append-nil, ne_eqb, rules}
+use Rattle.std.specs.Prelude.{reverse, not, is_some}
 use Rattle.std.specs.Str.{IsUtf8}
 use Rattle.std.proofs.lemmas.List.{append_cancel_right, reverse-append, take-append-le, take_all, length-append, drop_all}
 use Rattle.std.proofs.lemmas.Str.{IsUtf8-append, IsUtf8-nil, IsUtf8-from_ascii}
@@ -18,7 +17,7 @@ use Rattle.canvas_rewrite.specs.declared.frozen.FrozenTask.{FrozenTask}
 use Rattle.canvas_rewrite.specs.declared.frozen.FrozenLine.{FrozenLine, out-FrozenLine}
 use Rattle.canvas_rewrite.specs.declared.frozen.FrozenEnd.{FrozenEnd, out-FrozenEnd}
 use Rattle.canvas_message.specs.Content.{end_place}
-use Rattle.canvas_message.specs.SharedTexts.{AreEnds, IsLineText, IsListed, SaysRinged, backwards, elements_head, elements_own, ringed}
+use Rattle.canvas_message.specs.SharedTexts.{AreEnds, IsListed, SaysRinged, backwards, ringed}
 use Rattle.canvas_message.specs.Wire.{task_wire, line_wire, elements_wire, onto_reversed}
 use Rattle.canvas_message.specs.steps.Parts.{is_stop}
 use Rattle.canvas_writing.specs.steps.Around.{carries, front_tasks, last_wire, last_before, last_behind}
@@ -288,14 +287,3 @@ put_behind d start end bytes before there new written is =
 
 pub printed : (d : Data) (start end : Written) → start.tokens ≡ [] → Stands start end (data_tokens d) → print end.tokens ≡ compact_text d
 printed d start end new written = ap print (written.0 ∙ ap (λ ts. ts ++ data_tokens d) new) ∙ print-outline d
-
--- ---- the text, when it is shared
-
-pub shared_line : (t : LineText) (text ends : List ℕ) (l : PLine) → Listing (elements_head t) text ends l
-    → elements_own t ≡ text → t.ends.items ≡ ends
-    → IsLineText t l × IsListed (elements_head t ++ elements_own t) (backwards l)
-shared_line t text ends l h is_text is_ends = (
-  subst (λ x. AreEnds (elements_head t) x (reverse t.ends.items) l) (sym is_text)
-      (subst (λ es. AreEnds (elements_head t) text (reverse es) l) (sym is_ends) h.ended),
-  subst (λ x. IsListed (elements_head t ++ x) (backwards l)) (sym is_text) h.listed,
-)

@@ -1,13 +1,13 @@
 -- The pieces that bodies share.
-use Rattle.std.proofs.Common.{◌≡◌, ◌∙◌, ℕ, arith, false, List, [], ◌∷◌, ◌++◌, map, take, length, String, Global, Option, Some, None, refl, sym, ap, subst}
-use Rattle.std.specs.Prelude.{reverse, string_bytes, IfSome}
+use Rattle.std.proofs.Common.{◌≡◌, ◌∙◌, ℕ, arith, false, List, [], ◌∷◌, ◌++◌, map, take, String, Global, Option, Some, None, refl, sym, ap, subst}
+use Rattle.std.specs.Prelude.{reverse, string_bytes}
 use Rattle.std.specs.Str.{IsUtf8}
 use Rattle.std.specs.String.{string_len}
 use Rattle.std.proofs.lemmas.List.{reverse-append, take_all}
 use Rattle.std.proofs.lemmas.Str.{IsUtf8-append, IsUtf8-nil, IsUtf8-string_bytes}
 use Rattle.canvas_semantics.specs.PlacedLine.{PPlace, PLine, p_stop, p_step, p_group_end, p_chord_end}
 use Rattle.canvas_message.specs.Content.{end_place}
-use Rattle.canvas_message.specs.SharedTexts.{IsLineText, IsListed, SaysCarried, backwards, carried_bytes, elements_head, elements_own, head_text, place_behind, ring_view, ringed}
+use Rattle.canvas_message.specs.SharedTexts.{IsLineText, IsListed, backwards, carried_bytes, elements_head, elements_own, head_text, place_behind, ring_view, ringed}
 use Rattle.canvas_message.specs.declared.carried_text.CarriedText.{CarriedText}
 use Rattle.canvas_message.specs.declared.carried_text.Ring.{Ring}
 use Rattle.canvas_message.specs.declared.texts.ElementsText.{ElementsText}

@@ -42,7 +42,7 @@ use Rattle.canvas_by_turns.specs.Correct.{AreWorkers}
 use Rattle.canvas_engine.specs.Evidence.{IsRun, AreTallies, IsThreadFault}
 use Rattle.canvas_engine.specs.steps.Crews.{AreGathered, AreRead, Crew, IsStart, IsWellGathered, AreWanted, leaves, tallies_from}
 use Rattle.canvas_engine.specs.steps.Slots.{AllRan, IsWell, IsWhy, TakesIn, nothing_counted, tally_in}
-use Rattle.canvas_engine.specs.declared.threads.gathered.Base.{Base}
+use Rattle.canvas_engine.specs.declared.threads.ending.Run.{Run}
 use Rattle.canvas_engine.specs.declared.threads.running.Start.{Start}
 use Rattle.canvas_engine.specs.declared.threads.slot.Slot.{Slot}
 use Rattle.canvas_engine.proofs.OnThreads.Slots.{each_ran, crew_of}
@@ -256,27 +256,27 @@ worked_may behaviour l n queue table pass seat c planned r may_want f after rows
 
 pub gathered : (behaviour : Behaviour) (may_want : ℕ → ℕ → Type 0) (l : Line) (n : ℕ) (s : Start) (start : IsStart l n s) (sent : Pass) (after : List Slot)
     (p : Pass) (t : Seat)
-    → Makes s.base.hands.pass (published_all s.envelopes.items) sent → AllRan behaviour may_want s.base.site.backend.plan s.slots.items after
-    → length after ≡ length s.slots.items → TakesIn s.base.site.backend.plan sent s.base.hands.seat after p t
-    → (c : Crew behaviour l n s.base.site.broker s.base.site.backend.id p t) × AreWanted behaviour (roster_of l) may_want 1 c.mates
+    → Makes s.run.hands.pass (published_all s.envelopes.items) sent → AllRan behaviour may_want s.run.site.backend.plan s.slots.items after
+    → length after ≡ length s.slots.items → TakesIn s.run.site.backend.plan sent s.run.hands.seat after p t
+    → (c : Crew behaviour l n s.run.site.broker s.run.site.backend.id p t) × AreWanted behaviour (roster_of l) may_want 1 c.mates
     × (map tally_in after ≡ tallies_from behaviour 1 c.mates)
     × (All (λ x. IsWell x.post) after → Each (λ (m : Mate behaviour (roster_of l)). IsOver m.ended) c.mates)
 gathered behaviour may_want l n s start sent after p t made ran many taken =
     let each = each_ran behaviour may_want (roster_of l) s.slots.items after many
     (subst (λ plan. AllRan behaviour may_want plan s.slots.items after) start.plan ran) in
-    let all = crew_of behaviour may_want (roster_of l) 1 s.slots.items after (first_pass s.base.site.broker) s.base.hands.pass
-    (first_seat s.base.site.backend.id) s.base.hands.seat sent p s.base.hands.seat t start.parts each (subst (λ plan. TakesIn plan sent s.base.hands.seat after p t) start.plan taken) in
+    let all = crew_of behaviour may_want (roster_of l) 1 s.slots.items after (first_pass s.run.site.broker) s.run.hands.pass
+    (first_seat s.run.site.backend.id) s.run.hands.seat sent p s.run.hands.seat t start.parts each (subst (λ plan. TakesIn plan sent s.run.hands.seat after p t) start.plan taken) in
     let c = all.1 in (
       record {
         mates = all.0;
         count = c.count ∙ (many ∙ start.count);
-        pass_parted = s.base.hands.pass;
+        pass_parted = s.run.hands.pass;
         pass_sent = sent;
         splits = c.splits;
-        sends = subst (λ es. Makes s.base.hands.pass (published_all es) sent) start.envelopes made;
+        sends = subst (λ es. Makes s.run.hands.pass (published_all es) sent) start.envelopes made;
         back = start.back;
         joins = c.joins;
-        seat_parted = s.base.hands.seat;
+        seat_parted = s.run.hands.seat;
         seat_splits = c.seat_splits;
         seat_joins = c.seat_joins;
       },
@@ -306,7 +306,7 @@ well_gathered behaviour l ms xs after before counted same b t d w = record {
 }
 
 -- a run that worker 0 has concluded
-pub concluded : (behaviour : Behaviour) (l : Line) (n : ℕ) (g : Base) (h : AreGathered behaviour l n None g) (r : Record)
+pub concluded : (behaviour : Behaviour) (l : Line) (n : ℕ) (g : Run) (h : AreGathered behaviour l n None g) (r : Record)
     → Finished behaviour (λ _ _. ⊥) (roster_of l) 0 g.hands.pass g.hands.seat r → r.fault ≡ None → r.pass.of ≡ g.site.broker
     → (t : Seat) → t.of ≡ g.site.backend.id → (rows : List State) → AreRead l r.seat rows t
     → IsRun behaviour l n rows (leaves g.site r t g.first g.tallies.items)

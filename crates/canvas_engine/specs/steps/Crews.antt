@@ -1,7 +1,6 @@
 -- A run on threads before its first publish, and once its workers have ended and worker 0 has taken
 -- in what they left.
-use Rattle.std.specs.Prelude.{ℕ, suc, ◌≡◌, ◌≤◌, ◌+◌, List, [], ◌∷◌, length, map, min, All, Option, Some, None, IfNone}
-use Rattle.std.proofs.Math.ListN.{set}
+use Rattle.std.specs.Prelude.{ℕ, suc, ◌≡◌, ◌≤◌, ◌+◌, List, [], ◌∷◌, length, map, min, All, Option, Some, None, IfNone, set}
 use Rattle.std.specs.Vec.{vec_capacity}
 use Rattle.canvas_task.specs.Apply.{Behaviour}
 use Rattle.canvas_history.specs.Passes.{QueueId}
@@ -28,24 +27,24 @@ use Rattle.canvas_engine.specs.declared.threads.records.Records.{Records}
 use Rattle.canvas_engine.specs.declared.threads.records.Tally.{Tally}
 use Rattle.canvas_by_turns.specs.declared.fault.RunFault.{RunFault}
 use Rattle.canvas_by_turns.specs.declared.fault.RunFault.TheVariants.{BadWorkers, BadTurn, Halted}
-use Rattle.canvas_engine.specs.declared.threads.gathered.Base.{Base}
+use Rattle.canvas_engine.specs.declared.threads.ending.Run.{Run}
 use Rattle.canvas_engine.specs.declared.threads.running.Start.{Start}
 
 pub record IsStart (l : Line) (n : ℕ) (s : Start) : Type 0 where
   pub planned : IsPlan l
-  pub plan : s.base.site.backend.plan ≡ roster_of l
-  pub own : AreOfSite s.base.site s.base.hands
+  pub plan : s.run.site.backend.plan ≡ roster_of l
+  pub own : AreOfSite s.run.site s.run.hands
   pub count : length s.slots.items ≡ n
-  pub ready : All (IsReadySlot s.base.site.broker s.base.site.backend.id) s.slots.items
-  pub parts : SplitsOff (roster_of l) 1 (first_pass s.base.site.broker)
-      (first_seat s.base.site.backend.id) s.slots.items s.base.hands.pass s.base.hands.seat
+  pub ready : All (IsReadySlot s.run.site.broker s.run.site.backend.id) s.slots.items
+  pub parts : SplitsOff (roster_of l) 1 (first_pass s.run.site.broker)
+      (first_seat s.run.site.backend.id) s.slots.items s.run.hands.pass s.run.hands.seat
   pub envelopes : s.envelopes.items ≡ map sealed (first_messages l)
-  pub first : s.base.first ≡ length s.envelopes.items
+  pub first : s.run.first ≡ length s.envelopes.items
   pub back : FirstsRead l
-  pub rows : length s.base.rows.items ≡ count_line l
-  pub pending : All (λ r. r ≡ None) s.base.rows.items
-  pub tallies : s.base.tallies.items ≡ nothing_counted 0 ∷ []
-  pub room : suc n ≤ vec_capacity s.base.tallies
+  pub rows : length s.run.rows.items ≡ count_line l
+  pub pending : All (λ r. r ≡ None) s.run.rows.items
+  pub tallies : s.run.tallies.items ≡ nothing_counted 0 ∷ []
+  pub room : suc n ≤ vec_capacity s.run.tallies
 
 -- the workers of this queue and this table, from the splits to the joins, with the first messages
 -- published between
@@ -93,7 +92,7 @@ pub record IsWellGathered (behaviour : Behaviour) (l : Line)
   pub tallies : counted ≡ nothing_counted 0 ∷ tallies_from behaviour 1 mates
 
 pub record AreGathered (behaviour : Behaviour) (l : Line) (n : ℕ) (fault : Option Cause)
-    (g : Base) : Type 0 where
+    (g : Run) : Type 0 where
   pub planned : IsPlan l
   pub plan : g.site.backend.plan ≡ roster_of l
   pub own : AreOfSite g.site g.hands
@@ -111,7 +110,7 @@ AreWanted behaviour plan may_want k (m ∷ ms) =
     × AreWanted behaviour plan may_want (suc k) ms
 
 abbrev pub HaveWorked : (behaviour : Behaviour) → (ℕ → ℕ → Type 0) → Line → ℕ → Option Cause
-    → Base → Type 0
+    → Run → Type 0
 HaveWorked behaviour may_want l n fault g =
     (h : AreGathered behaviour l n fault g)
     × AreWanted behaviour (roster_of l) may_want 1 h.crew.mates

@@ -14,7 +14,7 @@ ghost use Rattle.canvas_engine.specs.steps.Crews.{HaveWorked, IsStart};
 ghost use Rattle.canvas_engine.specs.steps.Slots.{nothing_counted};
 
 use crate::threads::crew::{Hands, Site, are_done, fault_of, join_all, split_all, tally_all};
-use crate::threads::gathered::Base;
+use crate::threads::ending::Run;
 use crate::threads::publishing::publish_all;
 use crate::threads::slot::Slot;
 use crate::threads::workers::work_on_threads;
@@ -35,7 +35,7 @@ use std::thread::Threads;
 /// What a run has before its first publish.
 #[derive(Drop)]
 pub(crate) struct Start {
-    base: Base,
+    run: Run,
     slots: Vec<Slot>,
     envelopes: Vec<Letter>,
 }
@@ -73,7 +73,7 @@ fn reserve<R: Wait>(rt: &R, alloc: Global, plan: &Plan, workers: u32) -> Result<
     let envelopes = first_envelopes(alloc, plan)?;
     let (site, mut hands) = open(alloc, plan)?;
     let slots = split_all(rt, alloc, &site, &mut hands, workers)?;
-    let base = Base {
+    let run = Run {
         site,
         hands,
         first: envelopes.len(),
@@ -81,7 +81,7 @@ fn reserve<R: Wait>(rt: &R, alloc: Global, plan: &Plan, workers: u32) -> Result<
         tallies,
     };
     Ok(Start {
-        base,
+        run,
         slots,
         envelopes,
     })
@@ -98,7 +98,7 @@ fn gather<R, T, G>(
     gate: &G,
     stop: &Stop,
     start: Start,
-) -> Result<(Base, Option<Cause>), RunFault>
+) -> Result<(Run, Option<Cause>), RunFault>
 where
     R: Threads + Wait + RandomSource + AllocGlobal + Sync,
     T: Tasks + Sync,
@@ -111,24 +111,24 @@ where
         (IsThreadFault workers (states (T.behaviour tasks.now) (tree_of plan.now))) }
 {
     let Start {
-        mut base,
+        mut run,
         mut slots,
         envelopes,
     } = start;
-    match publish_all(rt, &base.site.broker, &mut base.hands.pass, envelopes) {
+    match publish_all(rt, &run.site.broker, &mut run.hands.pass, envelopes) {
         Ok(()) => (),
-        Err(Memory) => return Err(RunFault::halted_with(Cause::Memory, base.rows)),
+        Err(Memory) => return Err(RunFault::halted_with(Cause::Memory, run.rows)),
     }
     work_on_threads(
-        rt, alloc, &base.site, base.first, tasks, gate, stop, &mut slots,
+        rt, alloc, &run.site, run.first, tasks, gate, stop, &mut slots,
     );
     if !are_done(&slots) {
         return Err(RunFault::halted(Cause::Memory));
     }
-    tally_all(&slots, &mut base.tallies);
+    tally_all(&slots, &mut run.tallies);
     let fault = fault_of(&slots);
-    join_all(rt, &base.site, &mut base.hands, slots);
-    Ok((base, fault))
+    join_all(rt, &run.site, &mut run.hands, slots);
+    Ok((run, fault))
 }
 
 fn run_started<R, T, G>(
@@ -153,9 +153,9 @@ where
         (IsThreadFault workers (states (T.behaviour tasks.now) (tree_of plan.now))) }
 {
     match gather(rt, alloc, plan, tasks, workers, gate, stop, start) {
-        Ok((base, early)) => match early {
-            None => base.conclude(rt, alloc, plan, tasks, workers, gate, stop),
-            Some(cause) => Err(base.halt(plan, tasks, workers, cause)),
+        Ok((run, early)) => match early {
+            None => run.conclude(rt, alloc, plan, tasks, workers, gate, stop),
+            Some(cause) => Err(run.halt(plan, tasks, workers, cause)),
         },
         Err(fault) => Err(fault),
     }

@@ -1,10 +1,12 @@
-use Rattle.canvas_answer.proofs.KnownRows.{one_more, none_left}
+use Rattle.std.proofs.Common.{refl}
+use Rattle.canvas_task.proofs.Turns.{put_on, put_all}
+use Rattle.canvas_answer.specs.Told.{known_states}
 use Rattle.canvas_answer.proofs.named_rows.known_rows.Goals as goal
 
 pub loop-state-preserved : goal.loop-state-preserved
 loop-state-preserved c =
-    one_more _ _ c.loop-state.state-index c.state-item.result c.loop-state.rows.items _ c.loop-state-test.true c.state-item.is c.in_ok-push.ensures.items
-    c.loop-state.invariant
+    put_on known_states _ c.loop-state.state-index c.state-item.result _ c.loop-state.rows.items _ _ c.loop-state-test.true c.state-item.is refl
+    c.loop-state.invariant c.in_ok-push.ensures.items
 
 pub returns : goal.returns
-returns c = none_left _ _ c.loop-state.state-index c.loop-state.rows.items c.loop-state-test.false c.loop-state.invariant
+returns c = put_all known_states _ c.loop-state.state-index c.loop-state.rows.items _ c.loop-state-test.false refl c.loop-state.invariant

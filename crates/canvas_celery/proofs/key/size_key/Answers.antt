@@ -1,4 +1,4 @@
-use Rattle.std.proofs.Common.{◌≡◌, ◌∙◌, ◌++◌, ap, ap₂, codes}
+use Rattle.std.proofs.Common.{◌∙◌, ◌++◌, ap, ap₂, codes}
 use Rattle.canvas_celery.proofs.key.size_key.Goals as goal
 
 pub returns : goal.returns

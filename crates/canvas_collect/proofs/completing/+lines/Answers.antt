@@ -1,4 +1,6 @@
 use Rattle.std.proofs.Common.{◌∙◌, ◌+◌, ℕ, sym, subst, drop, map, List}
+use Rattle.std.proofs.lemmas.List.{drop_all}
+use Rattle.canvas_task.proofs.Turns.{item_first}
 use Rattle.canvas_semantics.specs.Evaluation.{member_rows}
 use Rattle.canvas_semantics.specs.FileOrder.{LineIn, LinesIn}
 use Rattle.canvas_semantics.specs.Line.{Line, stop, group_end, members, members_of}
@@ -10,7 +12,7 @@ use Rattle.canvas_rewrite.specs.declared.frozen.FrozenEnd.{FrozenEnd, out-Frozen
 use Rattle.canvas_rewrite.proofs.PlanLines.{in_none, in_some, in_group, in_chord}
 use Rattle.canvas_collect.specs.steps.Flows.{Reaches, ReachesAll, Leaves, LeavesAll}
 use Rattle.canvas_collect.proofs.KeptRows.{kept_refl, kept_trans}
-use Rattle.canvas_collect.proofs.Walking.{dropped, nothing_left, members_next, of_group, of_chord}
+use Rattle.canvas_collect.proofs.Walking.{members_next, of_group, of_chord}
 use Rattle.canvas_collect.proofs.Whole.{first_left, others_left, group_left, group_whole, header_left, header_table, body_left, tail_in}
 use Rattle.canvas_collect.proofs.completing.+lines.Goals as goal
 
@@ -26,7 +28,7 @@ complete_all-loop-line-preserved t c =
     let i = c.loop-line.line-index in
     let here = c.line-item.result in
     let others = drop (i + 1) lines in
-    let rest = dropped lines i here c.loop-line-test.true c.line-item.is in (
+    let rest = item_first lines i here c.loop-line-test.true c.line-item.is in (
       kept_trans c.args.rows.now c.loop-line.rows c.complete_line.new.rows c.loop-line.invariant.0 c.complete_line.ensures.keeps,
       λ s all w.
           let before = c.loop-line.invariant.1 s all w in
@@ -50,7 +52,7 @@ complete_all-loop-line-preserved t c =
 pub complete_all-returns-clause-whole : goal.complete_all-returns-clause-whole
 complete_all-returns-clause-whole t c s b all low high left inn w long =
     let done = c.loop-line.invariant.2 s b all low high left inn w long in
-    let none = nothing_left c.args.lines.now c.loop-line.line-index c.loop-line-test.false in
+    let none = drop_all c.loop-line.line-index c.args.lines.now c.loop-line-test.false in
     let P : List FrozenLine → Type 0 = λ ls. LeavesAll b (lines_of (map line_in ls)) all c.args.flow.now c.loop-line.rows s in
     let over = subst P none done.1 in
     (done.0, over.5 c.loop-line.rows (kept_refl c.loop-line.rows) done.0 tt)

@@ -1,4 +1,5 @@
 use Rattle.std.proofs.Common.{refl, ◌∙◌, ◌++◌, map, ap, sym}
+use Rattle.canvas_task.proofs.Turns.{put_on, put_all}
 use Rattle.canvas_rewrite.specs.FrozenView.{task_in, line_in, end_in}
 use Rattle.canvas_semantics.specs.Evaluation.{with_states}
 use Rattle.canvas_semantics.specs.Line.{members}
@@ -7,7 +8,6 @@ use Rattle.canvas_ran.specs.Seen.{into_body, seen}
 use Rattle.canvas_ran.specs.steps.SeenLists.{came_behind, tasks_seen, lines_seen}
 use Rattle.canvas_rewrite.proofs.PlanLines.{ok_same}
 use Rattle.canvas_rewrite.proofs.NameLines.{one_after}
-use Rattle.canvas_effects.proofs.Walked.{put_on, put_all}
 use Rattle.canvas_ran.proofs.Walks.{seen_none, seen_some, seen_group, seen_chord}
 use Rattle.canvas_ran.proofs.walk.+lines.Goals as goal
 

@@ -1,4 +1,5 @@
 use Rattle.std.proofs.Common.{refl, ◌∙◌, ◌++◌, ◌∷◌, [], map, ap, sym}
+use Rattle.canvas_task.proofs.Turns.{put_on, put_all}
 use Rattle.canvas_rewrite.specs.FrozenView.{task_in}
 use Rattle.canvas_semantics.specs.Evaluation.{state_of}
 use Rattle.canvas_semantics.specs.States.{rows_from}
@@ -7,7 +8,6 @@ use Rattle.canvas_ran.specs.steps.SeenLists.{callbacks_seen}
 use Rattle.canvas_rewrite.specs.declared.frozen.FrozenTask.{out-FrozenTask}
 use Rattle.canvas_rewrite.proofs.PlanLines.{ok_same}
 use Rattle.canvas_rewrite.proofs.NameLines.{two}
-use Rattle.canvas_effects.proofs.Walked.{put_on, put_all}
 use Rattle.canvas_ran.proofs.Walks.{task_seen}
 use Rattle.canvas_ran.proofs.walk.+tasks.Goals as goal
 

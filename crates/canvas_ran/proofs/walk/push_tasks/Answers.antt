@@ -1,7 +1,7 @@
 use Rattle.std.proofs.Common.{refl, map, ◌∙◌, ap}
+use Rattle.canvas_task.proofs.Turns.{put_all}
 use Rattle.canvas_rewrite.specs.FrozenView.{task_in}
 use Rattle.canvas_semantics.specs.States.{rows_from}
-use Rattle.canvas_effects.proofs.Walked.{put_all}
 use Rattle.canvas_ran.specs.Seen.{after}
 use Rattle.canvas_ran.specs.steps.SeenLists.{tasks_seen}
 use Rattle.canvas_ran.proofs.Walks.{tasks_on, behind_all}

@@ -1,7 +1,7 @@
-use Rattle.std.proofs.Common.{◌∙◌, ◌++◌, ◌∷◌, [], map, ap, refl}
+use Rattle.std.proofs.Common.{◌∙◌, ◌++◌, List, map, ap, refl}
+use Rattle.canvas_task.proofs.Turns.{put_on}
 use Rattle.canvas_semantics.specs.Evaluation.{State}
 use Rattle.canvas_report.specs.declared.row.Row.TheVariants as row
-use Rattle.canvas_report.proofs.WalkedLists.{written}
 use Rattle.canvas_report.proofs.shown.run_rows.Goals as goal
 
 pub loop-row-init : goal.loop-row-init
@@ -11,5 +11,5 @@ loop-row-init c =
 
 pub loop-row-preserved : goal.loop-row-preserved
 loop-row-preserved c =
-    written (λ (s : State). row.Known s ∷ []) (λ ss. map (λ s. row.Known s) ss) (λ s ss. refl) c.deref-row-items.result.now c.loop-row.row-index
-    c.row-item.result c.loop-row.rows.items _ _ c.loop-row-test.true c.row-item.is c.loop-row.invariant c.in_ok-push.ensures.items
+    put_on (λ (ss : List State). map (λ s. row.Known s) ss) c.deref-row-items.result.now c.loop-row.row-index c.row-item.result _ c.loop-row.rows.items _ _
+    c.loop-row-test.true c.row-item.is refl c.loop-row.invariant c.in_ok-push.ensures.items

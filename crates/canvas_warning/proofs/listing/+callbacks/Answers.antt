@@ -1,10 +1,10 @@
 use Rattle.std.proofs.Common.{◌∙◌, ◌++◌, map, refl, ap, sym, Some}
+use Rattle.canvas_task.proofs.Turns.{put_on, put_all}
 use Rattle.canvas_values.specs.SignatureView.{task_view, tasks_of}
 use Rattle.canvas_values.specs.ComposedRefusals.{its_call}
 use Rattle.canvas_values.specs.declared.task_sig.TaskSig.{out-TaskSig}
 use Rattle.canvas_warning.specs.Listed.{call_at, tasks_calls}
 use Rattle.canvas_warning.proofs.Listed.{calls_are}
-use Rattle.canvas_warning.proofs.Walked.{walked_on, walked_all}
 use Rattle.canvas_warning.proofs.Views.{ok_same, two}
 use Rattle.canvas_warning.proofs.listing.+callbacks.Goals as goal
 
@@ -24,9 +24,9 @@ list_task-returns t c =
 
 pub list_tasks-loop-sig-preserved : goal.list_tasks-loop-sig-preserved
 list_tasks-loop-sig-preserved t c =
-    walked_on (λ ss. tasks_calls (tasks_of (map task_view ss))) c.args.sigs.now c.loop-sig.sig-index c.sig-item.result _ _ _ _ c.loop-sig-test.true
-    c.sig-item.is refl c.in_ok-list_task.ensures c.loop-sig.invariant
+    put_on (λ ss. tasks_calls (tasks_of (map task_view ss))) c.args.sigs.now c.loop-sig.sig-index c.sig-item.result _ _ _ _ c.loop-sig-test.true
+    c.sig-item.is refl c.loop-sig.invariant c.in_ok-list_task.ensures
 
 pub list_tasks-returns : goal.list_tasks-returns
 list_tasks-returns t c =
-    walked_all (λ ss. tasks_calls (tasks_of (map task_view ss))) c.args.sigs.now c.loop-sig.sig-index _ _ c.loop-sig-test.false refl c.loop-sig.invariant
+    put_all (λ ss. tasks_calls (tasks_of (map task_view ss))) c.args.sigs.now c.loop-sig.sig-index _ _ c.loop-sig-test.false refl c.loop-sig.invariant

@@ -1,11 +1,11 @@
 use Rattle.std.proofs.Common.{◌∙◌, ◌++◌, ◌∷◌, [], map, refl, ap, sym}
+use Rattle.canvas_task.proofs.Turns.{put_on, put_all}
 use Rattle.canvas_values.specs.SignatureView.{task_view, tasks_of}
 use Rattle.canvas_values.specs.ComposedRefusals.{its_call}
 use Rattle.canvas_values.specs.declared.task_sig.TaskSig.{out-TaskSig}
 use Rattle.canvas_warning.specs.Calls.{expected}
 use Rattle.canvas_warning.specs.Foreseen.{of_call, tasks_told}
 use Rattle.canvas_warning.specs.declared.stand.Input.TheVariants.{Number, Identifier}
-use Rattle.canvas_warning.proofs.Walked.{walked_on, walked_all}
 use Rattle.canvas_warning.proofs.Views.{ok_same, task_is, two}
 use Rattle.canvas_warning.proofs.walk.+calls.Goals as goal
 
@@ -27,10 +27,10 @@ push_task-returns g t c =
 
 pub push_tasks-loop-sig-preserved : goal.push_tasks-loop-sig-preserved
 push_tasks-loop-sig-preserved g t c =
-    walked_on (λ ss. tasks_told (g.T.Tasks.behaviour c.args.tasks.now) (tasks_of (map task_view ss)) c.args.input)
-    c.args.sigs.now c.loop-sig.sig-index c.sig-item.result _ _ _ _ c.loop-sig-test.true c.sig-item.is refl c.in_ok-push_task.ensures c.loop-sig.invariant
+    put_on (λ ss. tasks_told (g.T.Tasks.behaviour c.args.tasks.now) (tasks_of (map task_view ss)) c.args.input)
+    c.args.sigs.now c.loop-sig.sig-index c.sig-item.result _ _ _ _ c.loop-sig-test.true c.sig-item.is refl c.loop-sig.invariant c.in_ok-push_task.ensures
 
 pub push_tasks-returns : goal.push_tasks-returns
 push_tasks-returns g t c =
-    walked_all (λ ss. tasks_told (g.T.Tasks.behaviour c.args.tasks.now) (tasks_of (map task_view ss)) c.args.input)
+    put_all (λ ss. tasks_told (g.T.Tasks.behaviour c.args.tasks.now) (tasks_of (map task_view ss)) c.args.input)
     c.args.sigs.now c.loop-sig.sig-index _ _ c.loop-sig-test.false refl c.loop-sig.invariant

@@ -1,8 +1,8 @@
 use Rattle.std.proofs.Common.{◌≡◌, ◌+◌, ◌-◌, ◌∷◌, ◌∙◌, map, drop, length, length-drop, refl, sym, ap, arith}
-use Rattle.std.proofs.lemmas.List.{drop_more, drop_all}
+use Rattle.std.proofs.lemmas.List.{drop_all}
+use Rattle.canvas_task.proofs.Turns.{item_first, put_on, put_all}
 use Rattle.canvas_values.specs.SignatureView.{view, trees_of}
 use Rattle.canvas_warning.specs.Foreseen.{elements_told, members_told, out_of_each}
-use Rattle.canvas_warning.proofs.Walked.{walked_on, walked_all}
 use Rattle.canvas_warning.proofs.Nodes.{task_found, chain_found, group_found, chord_found, task_out, chain_out, group_out, chord_out}
 use Rattle.canvas_warning.proofs.Views.{step_told, step_out}
 use Rattle.canvas_warning.proofs.walk.+nodes.Goals as goal
@@ -17,8 +17,7 @@ push_elements-loop-node-preserved g t c =
     let next = c.behind-here.result in
     let k = c.loop-node.left - 1 in
     let o = c.in_ok-out.out in
-    let here : drop i ns ≡ n ∷ drop (i + 1) ns =
-    drop_more ns i n (omega arith) ∙ ap (λ y. y ∷ drop (i + 1) ns) (sym c.node-item.is) in
+    let here : drop i ns ≡ n ∷ drop (i + 1) ns = item_first ns i n (omega arith) c.node-item.is in
     let left : k ≡ length (drop (i + 1) ns) = omega (arith, length-drop (i + 1) ns, c.loop-node.invariant.left) in
     record {
       told = step_told (g.T.Tasks.behaviour c.args.tasks.now) c.loop-node.found.items c.push_node.new.found.items n (drop i ns) (drop (i + 1) ns) now at
@@ -31,7 +30,7 @@ push_elements-loop-node-preserved g t c =
 
 pub push_elements-returns-clause-told : goal.push_elements-returns-clause-told
 push_elements-returns-clause-told g t c =
-    walked_all (λ ns. elements_told (g.T.Tasks.behaviour c.args.tasks.now) (trees_of (map view ns)) c.loop-node.here)
+    put_all (λ ns. elements_told (g.T.Tasks.behaviour c.args.tasks.now) (trees_of (map view ns)) c.loop-node.here)
     c.args.nodes.now c.loop-node.node-index _ _ c.loop-node-test.false refl c.loop-node.invariant.told
 
 pub push_elements-returns-clause-out : goal.push_elements-returns-clause-out
@@ -41,13 +40,13 @@ push_elements-returns-clause-out g t c =
 
 pub push_members-loop-node-preserved : goal.push_members-loop-node-preserved
 push_members-loop-node-preserved g t c =
-    walked_on (λ ns. members_told (g.T.Tasks.behaviour c.args.tasks.now) (trees_of (map view ns)) c.args.stand)
-    c.args.nodes.now c.loop-node.node-index c.node-item.result _ _ _ _ c.loop-node-test.true c.node-item.is refl c.in_ok-push_node.ensures.told
-    c.loop-node.invariant
+    put_on (λ ns. members_told (g.T.Tasks.behaviour c.args.tasks.now) (trees_of (map view ns)) c.args.stand)
+    c.args.nodes.now c.loop-node.node-index c.node-item.result _ _ _ _ c.loop-node-test.true c.node-item.is refl c.loop-node.invariant
+    c.in_ok-push_node.ensures.told
 
 pub push_members-returns : goal.push_members-returns
 push_members-returns g t c =
-    walked_all (λ ns. members_told (g.T.Tasks.behaviour c.args.tasks.now) (trees_of (map view ns)) c.args.stand)
+    put_all (λ ns. members_told (g.T.Tasks.behaviour c.args.tasks.now) (trees_of (map view ns)) c.args.stand)
     c.args.nodes.now c.loop-node.node-index _ _ c.loop-node-test.false refl c.loop-node.invariant
 
 pub push_node-returns-in_ok-push_task-in-Task-clause-told : goal.push_node-returns-in_ok-push_task-in-Task-clause-told

@@ -2,6 +2,7 @@ use Rattle.std.proofs.Common.{◌∙◌, [], ◌∷◌, ◌++◌, List, map, cod
 use Rattle.std.proofs.lemmas.Result.{IfOk-from_err}
 use Rattle.json.specs.Token.{Token, begin_array, end_object, key}
 use Rattle.serde_json.specs.Data.{string}
+use Rattle.canvas_task.proofs.Turns.{put_part, put_on, put_end}
 use Rattle.canvas_wire.specs.steps.Tokens.{data_tokens, rest_tokens, member_tokens}
 use Rattle.canvas_rewrite.specs.FrozenView.{p_tasks_of, p_lines_of, p_task_view, p_line_view}
 use Rattle.canvas_rewrite.specs.declared.frozen.Carried.{out-Carried}
@@ -11,7 +12,6 @@ use Rattle.canvas_message.specs.Wire.{task_wire, tasks_wire, line_wire, members_
 use Rattle.canvas_wire.proofs.Writers.{Stands, after_ok, then_tokens}
 use Rattle.canvas_writing.proofs.TaskTokens.{alike, no_place, no_chord, a_chord, behind_is, task_written, chord_written, group_written, rest_written, no_link, some_link, opened}
 use Rattle.canvas_writing.proofs.LineTokens.{is_end, is_task, is_chain_to_end, is_chain}
-use Rattle.canvas_writing.proofs.Turns.{put_on, put_all, put_none}
 use Rattle.canvas_writing.proofs.frozen.+write_task.Goals as goal
 
 pub write_link-returns-then-is_empty : goal.write_link-returns-then-is_empty
@@ -60,8 +60,8 @@ write_chain_before-loop-task-init t c =
     (c.in_ok-key.ensures.ok, c.in_ok-key.ensures.room.0) in
     let begun = then_tokens out c.key.new.self c.begin_array.new.self _ (begin_array ∷ []) named
     (c.in_ok-begin_array.ensures.ok, c.in_ok-begin_array.ensures.room.0) in (
-      put_none out.tokens _ c.begin_array.new.self.tokens each _ begun.0
-          (opened (opening_tokens c.args.size) (key (codes "tasks") ∷ []) (begin_array ∷ []) each),
+      put_part out.tokens _ c.begin_array.new.self.tokens _ each _ begun.0
+          (sym (opened (opening_tokens c.args.size) (key (codes "tasks") ∷ []) (begin_array ∷ []) each)) refl,
       begun.1,
     )
 
@@ -76,7 +76,7 @@ write_chain_before-loop-task-preserved t c = (
 pub write_chain_before-returns : goal.write_chain_before-returns
 write_chain_before-returns t c =
     let before = c.loop-task.out.tokens in (
-      put_all (λ ts. each_tokens (map p_task_view ts)) c.args.tasks.now c.loop-task.task-index before before _ c.loop-task-test.false
+      put_end (λ ts. each_tokens (map p_task_view ts)) c.args.tasks.now c.loop-task.task-index before before _ c.loop-task-test.false
           c.loop-task.invariant.0 (sym (append-nil before)),
       c.loop-task.invariant.1,
     )
@@ -87,7 +87,7 @@ write_rest-loop-line-init t c =
     let rest = rest_tokens (members_wire (p_lines_of (map p_line_view c.as_slice-lines.result.now))) in
     let begun = then_tokens out c.key.new.self c.begin_array.new.self (key c.args.name.now ∷ []) (begin_array ∷ [])
     (c.in_ok-key.ensures.ok, c.in_ok-key.ensures.room.0) (c.in_ok-begin_array.ensures.ok, c.in_ok-begin_array.ensures.room.0) in
-    (put_none out.tokens _ c.begin_array.new.self.tokens rest _ begun.0 refl, begun.1)
+    (put_part out.tokens _ c.begin_array.new.self.tokens _ rest _ begun.0 refl refl, begun.1)
 
 pub write_rest-returns : goal.write_rest-returns
 write_rest-returns t c =
@@ -95,7 +95,7 @@ write_rest-returns t c =
     let lines = c.as_slice-lines.result.now in
     let of_lines : List FrozenLine → List Token = λ ls. rest_tokens (members_wire (p_lines_of (map p_line_view ls))) in
     let members : Stands out c.end_array.new.self (member_tokens c.args.name.now (members_wire (p_lines_of (map p_line_view lines)))) = (
-      put_all of_lines lines c.loop-line.line-index c.loop-line.out.tokens c.end_array.new.self.tokens _ c.loop-line-test.false
+      put_end of_lines lines c.loop-line.line-index c.loop-line.out.tokens c.end_array.new.self.tokens _ c.loop-line-test.false
           c.loop-line.invariant.0 c.in_ok-end_array.ensures.ok,
       c.in_ok-end_array.ensures.room.0 ∙ c.loop-line.invariant.1,
     ) in

@@ -1,4 +1,4 @@
-use Rattle.std.proofs.Common.{◌≡◌, ◌∙◌, arith, [], ◌∷◌, ◌++◌, List, ℕ, ap, ap₂, subst, sym, refl}
+use Rattle.std.proofs.Common.{◌≡◌, ◌∙◌, arith, [], ◌∷◌, ◌++◌, ap, ap₂, subst, sym, refl}
 use Rattle.std.specs.Str.{IsUtf8}
 use Rattle.json.specs.Print.{print}
 use Rattle.canvas_rewrite.specs.FrozenView.{p_line_view}

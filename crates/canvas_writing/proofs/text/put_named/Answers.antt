@@ -1,11 +1,11 @@
 use Rattle.std.proofs.lemmas.Result.{IfOk-weaker, IfOk-from_err}
-use Rattle.std.proofs.Common.{◌∙◌, ◌∷◌, [], ◌++◌, false, true, sym, ap}
+use Rattle.std.proofs.Common.{◌∙◌, ◌∷◌, [], ◌++◌, false, true, refl, sym, ap}
 use Rattle.std.specs.Prelude.{string_bytes}
 use Rattle.serde_json.specs.Written.{comma_if, compact_text, members_text}
 use Rattle.canvas_task.specs.Entries.{named}
+use Rattle.canvas_task.proofs.Turns.{put_part}
 use Rattle.canvas_wire.specs.Writing.{arg_wire, kwargs_wire}
 use Rattle.json.specs.Print.{quoted}
-use Rattle.canvas_writing.proofs.Turns.{put_behind}
 use Rattle.canvas_writing.proofs.text.put_named.Goals as goal
 
 pub returns-in_err-put_comma : goal.returns-in_err-put_comma
@@ -40,9 +40,9 @@ loop-name-preserved c =
     let value = compact_text (arg_wire c.in-Some.arg.now) in
     let name = quoted (string_bytes c.in-Some.name.now) in
     let begun = ap (λ es. string_bytes c.loop-name.out ++ members_text c.loop-name.later (kwargs_wire (named es))) (sym c.in-Some.ensures.steps) ∙ c.loop-name.invariant in
-    put_behind (string_bytes c.put.new.out) value rest (string_bytes c.put_arg.new.out) all c.in_ok-put_arg.ensures
-    (put_behind (string_bytes c.put_string.new.out) (58 ∷ []) (value ++ rest) (string_bytes c.put.new.out) all c.in_ok-put.ensures
-    (put_behind (string_bytes c.put_comma.new.out) name (58 ∷ (value ++ rest)) (string_bytes c.put_string.new.out) all
-    (c.in_ok-put_string.ensures ∙ ap (λ k. string_bytes c.put_comma.new.out ++ quoted k) c.deref.ensures)
-    (put_behind (string_bytes c.loop-name.out) (comma_if c.loop-name.later) (name ++ (58 ∷ (value ++ rest))) (string_bytes c.put_comma.new.out) all
-    c.in_ok-put_comma.ensures begun)))
+    put_part (string_bytes c.put.new.out) value (string_bytes c.put_arg.new.out) _ rest all c.in_ok-put_arg.ensures refl
+    (put_part (string_bytes c.put_string.new.out) (58 ∷ []) (string_bytes c.put.new.out) _ (value ++ rest) all c.in_ok-put.ensures refl
+    (put_part (string_bytes c.put_comma.new.out) name (string_bytes c.put_string.new.out) _ (58 ∷ (value ++ rest)) all
+    (c.in_ok-put_string.ensures ∙ ap (λ k. string_bytes c.put_comma.new.out ++ quoted k) c.deref.ensures) refl
+    (put_part (string_bytes c.loop-name.out) (comma_if c.loop-name.later) (string_bytes c.put_comma.new.out) _ (name ++ (58 ∷ (value ++ rest))) all
+    c.in_ok-put_comma.ensures refl begun)))

@@ -1,6 +1,7 @@
 use Rattle.std.proofs.Common.{◌∷◌, [], ◌∙◌, ◌++◌, ap, refl}
+use Rattle.canvas_task.proofs.Turns.{put_on, put_all}
 use Rattle.canvas_effects.specs.steps.Walks.{successes}
-use Rattle.canvas_effects.proofs.Walked.{put_on, put_all, one_success}
+use Rattle.canvas_effects.proofs.Walked.{one_success}
 use Rattle.canvas_effects.proofs.effects.header.numbers_of.Goals as goal
 
 pub loop-ended-init : goal.loop-ended-init

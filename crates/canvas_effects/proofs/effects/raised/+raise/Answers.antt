@@ -1,9 +1,10 @@
 use Rattle.std.proofs.Common.{◌≡◌, ◌∙◌, ◌∷◌, ◌++◌, map, refl, ap}
+use Rattle.canvas_task.proofs.Turns.{put_part, put_on, put_all}
 use Rattle.canvas_rewrite.specs.FrozenView.{p_line_view}
 use Rattle.canvas_effects.specs.steps.Walks.{raised_stores, all_raised_stores, raised_messages, all_raised_messages}
 use Rattle.canvas_rewrite.proofs.PlanLines.{ok_same}
 use Rattle.canvas_effects.proofs.Raised.{first_there, raised_on, first_messages, raised_tail, raised_tail_messages, never_whole, stores_group, messages_group, stores_chord, messages_chord, ok_there}
-use Rattle.canvas_effects.proofs.Walked.{joined, put_on, put_all, whole_on}
+use Rattle.canvas_effects.proofs.Walked.{whole_on}
 use Rattle.canvas_effects.proofs.effects.raised.+raise.Goals as goal
 
 pub raise_line-raise_task-requires-clause-number : goal.raise_line-raise_task-requires-clause-number
@@ -52,15 +53,15 @@ raise_line-returns-in-None-tail-clause-messages t c =
 
 pub raise_end-returns-in-Some-clause-stores : goal.raise_end-returns-in-Some-clause-stores
 raise_end-returns-in-Some-clause-stores t c =
-    ok_same _ _ _ _ (joined _ _ _ _ _ c.in_ok-raise_lines.ensures.stores
+    ok_same _ _ _ _ (put_part _ _ _ _ _ _ c.in_ok-raise_lines.ensures.stores
     (stores_chord c.args.fault.now _ c.args.end.now c.in-Some.body _ c.in-Some.is
-    c.whole_members-members.ensures.value c.fault_behind-behind.ensures)) c.raise_line.ensures.stores
+    c.whole_members-members.ensures.value c.fault_behind-behind.ensures) refl) c.raise_line.ensures.stores
 
 pub raise_end-returns-in-Some-clause-messages : goal.raise_end-returns-in-Some-clause-messages
 raise_end-returns-in-Some-clause-messages t c =
-    ok_same _ _ _ _ (joined _ _ _ _ _ c.in_ok-raise_lines.ensures.messages
+    ok_same _ _ _ _ (put_part _ _ _ _ _ _ c.in_ok-raise_lines.ensures.messages
     (messages_chord c.args.fault.now _ c.args.end.now c.in-Some.body _ c.in-Some.is
-    c.whole_members-members.ensures.value c.fault_behind-behind.ensures)) c.raise_line.ensures.messages
+    c.whole_members-members.ensures.value c.fault_behind-behind.ensures) refl) c.raise_line.ensures.messages
 
 pub raise_end-returns-in-None-clause-stores : goal.raise_end-returns-in-None-clause-stores
 raise_end-returns-in-None-clause-stores t c =

@@ -1,8 +1,9 @@
 use Rattle.std.proofs.Common.{◌∙◌, ◌++◌, map, refl, ap, sym}
+use Rattle.canvas_task.proofs.Turns.{put_part, put_on, put_all}
 use Rattle.canvas_rewrite.specs.FrozenView.{p_line_view}
 use Rattle.canvas_rewrite.proofs.PlanLines.{ok_same}
 use Rattle.canvas_effects.specs.steps.Walks.{skipped, all_skipped}
-use Rattle.canvas_effects.proofs.Walked.{joined, put_on, put_all, skipped_line, skipped_rest_none, skipped_rest_some, skipped_end_none, skipped_end_some}
+use Rattle.canvas_effects.proofs.Walked.{skipped_line, skipped_rest_none, skipped_rest_some, skipped_end_none, skipped_end_some}
 use Rattle.canvas_effects.proofs.effects.skipped.+skip.Goals as goal
 
 pub skip_line-returns : goal.skip_line-returns
@@ -12,8 +13,8 @@ skip_line-returns t c =
 
 pub skip_rest-returns-in-Some : goal.skip_rest-returns-in-Some
 skip_rest-returns-in-Some t c =
-    ok_same _ _ _ _ (joined _ _ _ _ _ c.in_ok-skip_tasks.ensures
-    (skipped_rest_some c.args.fault.now c.args.tasks.now c.args.tail.now c.in-Some.end c.in-Some.is c.deref.result.now c.deref.ensures)) c.skip_end.ensures
+    ok_same _ _ _ _ (put_part _ _ _ _ _ _ c.in_ok-skip_tasks.ensures
+    (skipped_rest_some c.args.fault.now c.args.tasks.now c.args.tail.now c.in-Some.end c.in-Some.is c.deref.result.now c.deref.ensures) refl) c.skip_end.ensures
 
 pub skip_rest-returns-in-None : goal.skip_rest-returns-in-None
 skip_rest-returns-in-None t c =
@@ -22,9 +23,9 @@ skip_rest-returns-in-None t c =
 
 pub skip_end-returns-in-Some : goal.skip_end-returns-in-Some
 skip_end-returns-in-Some t c =
-    ok_same _ _ _ _ (joined _ _ _ _ _ c.in_ok-skip_lines.ensures
+    ok_same _ _ _ _ (put_part _ _ _ _ _ _ c.in_ok-skip_lines.ensures
     (skipped_end_some c.args.fault.now c.args.end.now c.in-Some.body c.in-Some.is c.deref.result.now
-    (c.deref.ensures.value ∙ c.get.ensures))) c.skip_line.ensures
+    (c.deref.ensures.value ∙ c.get.ensures)) refl) c.skip_line.ensures
 
 pub skip_end-returns-in-None : goal.skip_end-returns-in-None
 skip_end-returns-in-None t c =

@@ -18,8 +18,8 @@ returns-in-Err-clause-err g c =
     let start = c.args.start in
     let l : Line = c.args.plan.now in
     subst (IsThreadFault c.args.workers (states (g.T.Tasks.behaviour c.args.tasks.now) (tree_of l))) (sym c.halted_with.ensures)
-    (halted_may c.args.workers (states (g.T.Tasks.behaviour c.args.tasks.now) (tree_of l)) Memory start.base.rows.items c.requires.workers
-    (pending_may start.base.rows.items (states (g.T.Tasks.behaviour c.args.tasks.now) (tree_of l))
+    (halted_may c.args.workers (states (g.T.Tasks.behaviour c.args.tasks.now) (tree_of l)) Memory start.run.rows.items c.requires.workers
+    (pending_may start.run.rows.items (states (g.T.Tasks.behaviour c.args.tasks.now) (tree_of l))
     (c.requires.start.rows ∙ sym (long_states (g.T.Tasks.behaviour c.args.tasks.now) l)) c.requires.start.pending))
 
 pub join_all-requires-clause-others : goal.join_all-requires-clause-others
@@ -29,12 +29,12 @@ join_all-requires-clause-others g c =
     ≡ c.work_on_threads.new.slots =
     take_at c.work_on_threads.new.slots _ start.slots.len (search rules) in
     let many : length c.work_on_threads.new.slots ≡ length start.slots.items = search rules in
-    let ran : AllRan (g.T.Tasks.behaviour c.args.tasks.now) (g.G.Gate.may_want c.args.gate.now) start.base.site.backend.plan start.slots.items c.work_on_threads.new.slots = search rules in
+    let ran : AllRan (g.T.Tasks.behaviour c.args.tasks.now) (g.G.Gate.may_want c.args.gate.now) start.run.site.backend.plan start.slots.items c.work_on_threads.new.slots = search rules in
     let done : All (λ s. LeftARecord s.post)
     (take start.slots.len (c.work_on_threads.new.slots ++ drop (length c.work_on_threads.new.slots) start.slots.items)) = search rules in
-    subst (AreOf start.base.site.broker start.base.site.backend.id) (sym whole)
-    (are_of (g.T.Tasks.behaviour c.args.tasks.now) (g.G.Gate.may_want c.args.gate.now) start.base.site.broker start.base.site.backend.id start.base.site.backend.plan start.slots.items c.work_on_threads.new.slots c.requires.start.ready
-    (each_ran (g.T.Tasks.behaviour c.args.tasks.now) (g.G.Gate.may_want c.args.gate.now) start.base.site.backend.plan start.slots.items c.work_on_threads.new.slots many ran)
+    subst (AreOf start.run.site.broker start.run.site.backend.id) (sym whole)
+    (are_of (g.T.Tasks.behaviour c.args.tasks.now) (g.G.Gate.may_want c.args.gate.now) start.run.site.broker start.run.site.backend.id start.run.site.backend.plan start.slots.items c.work_on_threads.new.slots c.requires.start.ready
+    (each_ran (g.T.Tasks.behaviour c.args.tasks.now) (g.G.Gate.may_want c.args.gate.now) start.run.site.backend.plan start.slots.items c.work_on_threads.new.slots many ran)
     (subst (All (λ (s : Slot). LeftARecord s.post)) whole done))
 
 pub returns-clause-ok : goal.returns-clause-ok
@@ -44,12 +44,12 @@ returns-clause-ok g c =
     ≡ c.work_on_threads.new.slots =
     take_at c.work_on_threads.new.slots _ start.slots.len (search rules) in
     let many : length c.work_on_threads.new.slots ≡ length start.slots.items = search rules in
-    let ran : AllRan (g.T.Tasks.behaviour c.args.tasks.now) (g.G.Gate.may_want c.args.gate.now) start.base.site.backend.plan start.slots.items c.work_on_threads.new.slots = search rules in
-    let made : Makes start.base.hands.pass (published_all start.envelopes.items) c.publish_all.new.pass = search rules in
-    let taken : TakesIn start.base.site.backend.plan c.publish_all.new.pass start.base.hands.seat c.work_on_threads.new.slots c.join_all.new.hands.pass c.join_all.new.hands.seat =
-    subst (λ xs. TakesIn start.base.site.backend.plan c.publish_all.new.pass start.base.hands.seat xs c.join_all.new.hands.pass c.join_all.new.hands.seat) whole c.join_all.ensures.taken in
+    let ran : AllRan (g.T.Tasks.behaviour c.args.tasks.now) (g.G.Gate.may_want c.args.gate.now) start.run.site.backend.plan start.slots.items c.work_on_threads.new.slots = search rules in
+    let made : Makes start.run.hands.pass (published_all start.envelopes.items) c.publish_all.new.pass = search rules in
+    let taken : TakesIn start.run.site.backend.plan c.publish_all.new.pass start.run.hands.seat c.work_on_threads.new.slots c.join_all.new.hands.pass c.join_all.new.hands.seat =
+    subst (λ xs. TakesIn start.run.site.backend.plan c.publish_all.new.pass start.run.hands.seat xs c.join_all.new.hands.pass c.join_all.new.hands.seat) whole c.join_all.ensures.taken in
     let judged : c.deref-3.result.now ≡ c.work_on_threads.new.slots = search rules in
-    let counted : c.tally_all.new.tallies.items ≡ start.base.tallies.items ++ map tally_in c.deref-3.result.now = search rules in
+    let counted : c.tally_all.new.tallies.items ≡ start.run.tallies.items ++ map tally_in c.deref-3.result.now = search rules in
     let all = gathered (g.T.Tasks.behaviour c.args.tasks.now) (g.G.Gate.may_want c.args.gate.now) c.args.plan.now c.args.workers start c.requires.start c.publish_all.new.pass c.work_on_threads.new.slots c.join_all.new.hands.pass c.join_all.new.hands.seat made ran many taken in (
       record {
         planned = c.requires.start.planned;
@@ -60,7 +60,7 @@ returns-clause-ok g c =
         rows = c.requires.start.rows;
         well = if_none c.fault_of-fault.result
             (λ all_well. well_gathered
-            (g.T.Tasks.behaviour c.args.tasks.now) c.args.plan.now all.0.mates c.deref-3.result.now c.work_on_threads.new.slots start.base.tallies.items c.tally_all.new.tallies.items judged c.requires.start.tallies all.2 all.3 (all_well, counted))
+            (g.T.Tasks.behaviour c.args.tasks.now) c.args.plan.now all.0.mates c.deref-3.result.now c.work_on_threads.new.slots start.run.tallies.items c.tally_all.new.tallies.items judged c.requires.start.tallies all.2 all.3 (all_well, counted))
             (why_well c.deref-3.result.now c.fault_of-fault.result c.fault_of-fault.ensures);
       },
       all.1,

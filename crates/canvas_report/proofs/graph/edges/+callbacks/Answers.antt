@@ -1,4 +1,5 @@
 use Rattle.std.proofs.Common.{◌∙◌, ◌++◌, List, map, ap, sym, refl}
+use Rattle.canvas_task.proofs.Turns.{put_all}
 use Rattle.canvas_rewrite.specs.declared.frozen.FrozenTask.{FrozenTask}
 use Rattle.canvas_rewrite.specs.FrozenView.{task_in}
 use Rattle.canvas_rewrite.proofs.PlanLines.{ok_same}
@@ -6,7 +7,6 @@ use Rattle.canvas_rewrite.proofs.NameLines.{one_after}
 use Rattle.canvas_report.specs.declared.graph.edges.Leads.TheVariants.{Link, Errback}
 use Rattle.canvas_report.specs.steps.EdgeLists.{callbacks_edges}
 use Rattle.canvas_report.proofs.EdgeParts.{callbacks_next, number_is, task_is}
-use Rattle.canvas_report.proofs.WalkedLists.{ended}
 use Rattle.canvas_report.proofs.graph.edges.+callbacks.Goals as goal
 
 pub push_task-returns : goal.push_task-returns
@@ -31,5 +31,5 @@ push_callbacks-loop-callback-preserved t c =
 
 pub push_callbacks-returns : goal.push_callbacks-returns
 push_callbacks-returns t c =
-    ended (λ (us : List FrozenTask). callbacks_edges c.args.leads c.args.from (map task_in us)) c.args.callbacks.now c.loop-callback.callback-index
+    put_all (λ (us : List FrozenTask). callbacks_edges c.args.leads c.args.from (map task_in us)) c.args.callbacks.now c.loop-callback.callback-index
     c.loop-callback.edges.items _ c.loop-callback-test.false refl c.loop-callback.invariant

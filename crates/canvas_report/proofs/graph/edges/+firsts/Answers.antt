@@ -1,4 +1,5 @@
 use Rattle.std.proofs.Common.{List, ◌∙◌, ◌++◌, map, ap, sym, refl, slice_get, append-nil}
+use Rattle.canvas_task.proofs.Turns.{put_on, put_all}
 use Rattle.canvas_rewrite.specs.declared.frozen.FrozenLine.{FrozenLine}
 use Rattle.canvas_rewrite.specs.FrozenView.{line_in, end_in}
 use Rattle.canvas_report.specs.Picture.{firsts}
@@ -6,7 +7,6 @@ use Rattle.canvas_rewrite.proofs.PlanLines.{ok_same}
 use Rattle.canvas_rewrite.proofs.NameLines.{one_after}
 use Rattle.canvas_report.specs.steps.EdgeLists.{lines_firsts}
 use Rattle.canvas_report.proofs.EdgeParts.{end_firsts, first_pushed, firsts_end, firsts_none}
-use Rattle.canvas_report.proofs.WalkedLists.{written, ended}
 use Rattle.canvas_report.proofs.graph.edges.+firsts.Goals as goal
 
 pub push_end_firsts-returns : goal.push_end_firsts-returns
@@ -41,11 +41,10 @@ push_all_firsts-loop-line-init t c = refl
 
 pub push_all_firsts-loop-line-preserved : goal.push_all_firsts-loop-line-preserved
 push_all_firsts-loop-line-preserved t c =
-    written (λ (l : FrozenLine). firsts (line_in l)) (λ ls. lines_firsts (map line_in ls)) (λ l ls. refl) c.args.lines.now c.loop-line.line-index
-    c.line-item.result c.loop-line.nodes.items _ _
-    c.loop-line-test.true c.line-item.is c.loop-line.invariant c.in_ok-push_firsts.ensures
+    put_on (λ (ls : List FrozenLine). lines_firsts (map line_in ls)) c.args.lines.now c.loop-line.line-index c.line-item.result _ c.loop-line.nodes.items _ _
+    c.loop-line-test.true c.line-item.is refl c.loop-line.invariant c.in_ok-push_firsts.ensures
 
 pub push_all_firsts-returns : goal.push_all_firsts-returns
 push_all_firsts-returns t c =
-    ended (λ (ls : List FrozenLine). lines_firsts (map line_in ls)) c.args.lines.now c.loop-line.line-index c.loop-line.nodes.items _
+    put_all (λ (ls : List FrozenLine). lines_firsts (map line_in ls)) c.args.lines.now c.loop-line.line-index c.loop-line.nodes.items _
     c.loop-line-test.false refl c.loop-line.invariant

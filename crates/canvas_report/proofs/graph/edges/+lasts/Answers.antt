@@ -1,4 +1,5 @@
 use Rattle.std.proofs.Common.{List, ◌∙◌, ◌++◌, ◌∷◌, [], ◌-◌, map, ap, sym, refl, slice_get, length, append-nil}
+use Rattle.canvas_task.proofs.Turns.{put_on, put_all}
 use Rattle.canvas_rewrite.specs.FrozenView.{line_in, end_in}
 use Rattle.canvas_rewrite.specs.declared.frozen.FrozenLine.{FrozenLine, out-FrozenLine}
 use Rattle.canvas_rewrite.proofs.PlanLines.{in_chord, ok_same, ends_last, ends_never}
@@ -6,7 +7,6 @@ use Rattle.canvas_rewrite.proofs.NameLines.{one_after}
 use Rattle.canvas_report.specs.Picture.{lasts}
 use Rattle.canvas_report.specs.steps.EdgeLists.{lines_lasts}
 use Rattle.canvas_report.proofs.EdgeParts.{group_lasts, number_is, end_lasts, lasts_some, lasts_none}
-use Rattle.canvas_report.proofs.WalkedLists.{written, ended}
 use Rattle.canvas_report.proofs.graph.edges.+lasts.Goals as goal
 
 pub push_member_lasts-returns : goal.push_member_lasts-returns
@@ -42,13 +42,12 @@ push_all_lasts-loop-line-init t c = refl
 
 pub push_all_lasts-loop-line-preserved : goal.push_all_lasts-loop-line-preserved
 push_all_lasts-loop-line-preserved t c =
-    written (λ (l : FrozenLine). lasts (line_in l)) (λ ls. lines_lasts (map line_in ls)) (λ l ls. refl) c.args.lines.now c.loop-line.line-index
-    c.line-item.result c.loop-line.nodes.items _ _
-    c.loop-line-test.true c.line-item.is c.loop-line.invariant c.in_ok-push_lasts.ensures
+    put_on (λ (ls : List FrozenLine). lines_lasts (map line_in ls)) c.args.lines.now c.loop-line.line-index c.line-item.result _ c.loop-line.nodes.items _ _
+    c.loop-line-test.true c.line-item.is refl c.loop-line.invariant c.in_ok-push_lasts.ensures
 
 pub push_all_lasts-returns : goal.push_all_lasts-returns
 push_all_lasts-returns t c =
-    ended (λ (ls : List FrozenLine). lines_lasts (map line_in ls)) c.args.lines.now c.loop-line.line-index c.loop-line.nodes.items _
+    put_all (λ (ls : List FrozenLine). lines_lasts (map line_in ls)) c.args.lines.now c.loop-line.line-index c.loop-line.nodes.items _
     c.loop-line-test.false refl c.loop-line.invariant
 
 pub push_end_lasts-returns-in-Some : goal.push_end_lasts-returns-in-Some

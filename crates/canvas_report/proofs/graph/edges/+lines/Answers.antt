@@ -1,4 +1,5 @@
 use Rattle.std.proofs.Common.{List, ◌∙◌, ◌++◌, None, map, ap, sym, refl, append_assoc}
+use Rattle.canvas_task.proofs.Turns.{put_on, put_all}
 use Rattle.canvas_rewrite.specs.declared.frozen.FrozenLine.{FrozenLine}
 use Rattle.canvas_rewrite.specs.FrozenView.{task_in, line_in, end_in}
 use Rattle.canvas_rewrite.proofs.PlanLines.{ok_same}
@@ -6,7 +7,6 @@ use Rattle.canvas_rewrite.proofs.NameLines.{one_after}
 use Rattle.canvas_report.specs.Picture.{firsts, joined, member_lasts, line_edges}
 use Rattle.canvas_report.specs.steps.EdgeLists.{tasks_edges, last_node, lines_edges}
 use Rattle.canvas_report.proofs.EdgeParts.{line_none, line_some, group_edges, chord_edges}
-use Rattle.canvas_report.proofs.WalkedLists.{written, ended}
 use Rattle.canvas_report.proofs.graph.edges.+lines.Goals as goal
 
 pub push_line-returns-in-None : goal.push_line-returns-in-None
@@ -50,11 +50,10 @@ push_lines-loop-line-init t c = refl
 
 pub push_lines-loop-line-preserved : goal.push_lines-loop-line-preserved
 push_lines-loop-line-preserved t c =
-    written (λ (l : FrozenLine). line_edges None (line_in l)) (λ ls. lines_edges (map line_in ls)) (λ l ls. refl) c.args.lines.now c.loop-line.line-index
-    c.line-item.result c.loop-line.edges.items _ _
-    c.loop-line-test.true c.line-item.is c.loop-line.invariant c.in_ok-push_line.ensures
+    put_on (λ (ls : List FrozenLine). lines_edges (map line_in ls)) c.args.lines.now c.loop-line.line-index c.line-item.result _ c.loop-line.edges.items _ _
+    c.loop-line-test.true c.line-item.is refl c.loop-line.invariant c.in_ok-push_line.ensures
 
 pub push_lines-returns : goal.push_lines-returns
 push_lines-returns t c =
-    ended (λ (ls : List FrozenLine). lines_edges (map line_in ls)) c.args.lines.now c.loop-line.line-index c.loop-line.edges.items _
+    put_all (λ (ls : List FrozenLine). lines_edges (map line_in ls)) c.args.lines.now c.loop-line.line-index c.loop-line.edges.items _
     c.loop-line-test.false refl c.loop-line.invariant

@@ -1,9 +1,9 @@
 use Rattle.std.proofs.Common.{List, map, refl}
+use Rattle.canvas_task.proofs.Turns.{put_all}
 use Rattle.canvas_rewrite.specs.FrozenView.{task_in}
 use Rattle.canvas_rewrite.specs.declared.frozen.FrozenTask.{FrozenTask}
 use Rattle.canvas_report.specs.steps.EdgeLists.{tasks_edges}
 use Rattle.canvas_report.proofs.EdgeParts.{tasks_next, last_next, last_ended}
-use Rattle.canvas_report.proofs.WalkedLists.{ended}
 use Rattle.canvas_report.proofs.graph.edges.push_tasks.Goals as goal
 
 pub loop-task-init : goal.loop-task-init
@@ -23,7 +23,7 @@ loop-task-preserved c =
 
 pub returns-clause-pushed : goal.returns-clause-pushed
 returns-clause-pushed c =
-    ended (λ (ts : List FrozenTask). tasks_edges c.loop-task.before (map task_in ts)) c.args.tasks.now c.loop-task.task-index c.loop-task.edges.items _
+    put_all (λ (ts : List FrozenTask). tasks_edges c.loop-task.before (map task_in ts)) c.args.tasks.now c.loop-task.task-index c.loop-task.edges.items _
     c.loop-task-test.false refl c.loop-task.invariant.pushed
 
 pub returns-clause-last : goal.returns-clause-last

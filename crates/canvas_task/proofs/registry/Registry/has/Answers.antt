@@ -1,5 +1,6 @@
 use Rattle.std.proofs.Common.{◌∙◌, sym}
-use Rattle.canvas_task.proofs.Lookups.{item_first, named_here, named_later, named_nowhere}
+use Rattle.canvas_task.proofs.Turns.{item_first}
+use Rattle.canvas_task.proofs.Lookups.{named_here, named_later, named_nowhere}
 use Rattle.canvas_task.proofs.registry.Registry.has.Goals as goal
 
 pub returns-then-is_called : goal.returns-then-is_called

@@ -9,7 +9,7 @@ use Rattle.canvas_callers.specs.Rows.{reads_from}
 use Rattle.canvas_engine.specs.Evidence.{IsThreadFault}
 use Rattle.canvas_engine.specs.steps.Crews.{IsHaltedFor}
 use Rattle.canvas_engine.proofs.OnThreads.ThreadRuns.{halted_may, unworked_may}
-use Rattle.canvas_engine.proofs.threads.gathered.Base.halt.Goals as goal
+use Rattle.canvas_engine.proofs.threads.ending.Run.halt.Goals as goal
 
 pub returns-clause-err : goal.returns-clause-err
 returns-clause-err g c =

@@ -11,7 +11,7 @@ use Rattle.canvas_engine.specs.declared.threads.records.Records.{Records}
 use Rattle.canvas_engine.proofs.OnThreads.Slots.{finished_of}
 use Rattle.canvas_engine.proofs.OnThreads.ThreadRuns.{concluded, halted_may, worked_may}
 use Rattle.canvas_engine.proofs.OnThreads.Wanted.{only_wanted}
-use Rattle.canvas_engine.proofs.threads.gathered.Base.conclude.Goals as goal
+use Rattle.canvas_engine.proofs.threads.ending.Run.conclude.Goals as goal
 
 pub finish-requires-clause-own : goal.finish-requires-clause-own
 finish-requires-clause-own g c =

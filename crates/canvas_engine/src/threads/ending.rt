@@ -29,7 +29,7 @@ use std::sync::Wait;
 
 /// What a run has besides its workers' places: before they begin, and once they have ended.
 #[derive(Drop)]
-pub(crate) struct Base {
+pub(crate) struct Run {
     pub site: Site,
     /// Worker 0's, with what it has taken in.
     pub hands: Hands,
@@ -128,7 +128,7 @@ fn finish(
     }
 }
 
-impl Base {
+impl Run {
     /// The fault of a run that ended early, with the rows that it has.
     pub(crate) fn halt<T: Tasks>(
         self,
@@ -146,7 +146,7 @@ impl Base {
     {
         // For the clauses alone.
         let _tasks = tasks;
-        let Base {
+        let Run {
             site,
             mut hands,
             mut rows,
@@ -178,7 +178,7 @@ impl Base {
     {
         // For the clauses alone.
         let _gate = gate;
-        let Base {
+        let Run {
             site,
             hands,
             first,

@@ -5,7 +5,7 @@ use Rattle.canvas_history.specs.Roster.{roster_of}
 use Rattle.canvas_runs.specs.Following.{Serves}
 use Rattle.canvas_callers.specs.Rows.{reads_from}
 use Rattle.canvas_engine.specs.steps.Crews.{AreRead}
-use Rattle.canvas_engine.proofs.threads.gathered.finish.Goals as goal
+use Rattle.canvas_engine.proofs.threads.ending.finish.Goals as goal
 
 pub returns-in-Some-clause-err : goal.returns-in-Some-clause-err
 returns-in-Some-clause-err c =

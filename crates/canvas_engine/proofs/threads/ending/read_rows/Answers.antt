@@ -5,7 +5,7 @@ use Rattle.canvas_history.specs.Table.{read, found}
 use Rattle.canvas_history.specs.Roster.{Roster}
 use Rattle.canvas_history.specs.Seats.{Stands}
 use Rattle.canvas_engine.proofs.OnThreads.SeatRows.{row_read}
-use Rattle.canvas_engine.proofs.threads.gathered.read_rows.Goals as goal
+use Rattle.canvas_engine.proofs.threads.ending.read_rows.Goals as goal
 
 pub read-requires-clause-task : goal.read-requires-clause-task
 read-requires-clause-task c =
