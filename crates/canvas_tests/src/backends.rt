@@ -4,10 +4,10 @@ ghost use Rattle.std.specs.Prelude.{◌≡◌, ◌≤◌, IsTrue, IfSome, All};
 ghost use Rattle.canvas_history.specs.Roster.{is_chord, is_member};
 ghost use Rattle.canvas_task.specs.Apply.{IsInRange};
 
+use crate::samples::sample::plan_of;
+use crate::samples::worked::a_hundred_and_their_sum;
 use crate::tasks::group;
 use canvas_backend::{Backend, BackendSeat, Roster, Stored};
-use canvas_samples::sample::plan_of;
-use canvas_samples::worked::a_hundred_and_their_sum;
 use canvas_task::{Fault, GroupNo, Outcome, TaskNo, Why};
 use std::alloc::Global;
 use std::test::*;

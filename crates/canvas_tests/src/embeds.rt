@@ -1,8 +1,8 @@
 //! What goes with a call, and its refusals: all of them 7.
 
 use crate::envelopes::embed_code;
+use crate::samples::frozen_texts::filled;
 use crate::tables::{Spot, first_wrong};
-use canvas_samples::frozen_texts::filled;
 use std::alloc::{AllocError, Global};
 
 pub(crate) const HEADERS: &str = r#"{"id":"%1","task":"x"}"#;

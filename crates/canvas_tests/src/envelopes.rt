@@ -1,9 +1,9 @@
 //! Envelopes and their refusals. The numbers were worked out by hand from the rules of messages.
 
+use crate::samples::frozen_texts::bytes_of;
 use crate::tables::{Spot, first_wrong};
 use canvas_codec::decode;
 use canvas_message::{Envelope, Message, MessageFault};
-use canvas_samples::frozen_texts::bytes_of;
 use canvas_task::{ListOf, TaskNo};
 use std::alloc::{AllocError, Global};
 

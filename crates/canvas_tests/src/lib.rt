@@ -28,6 +28,8 @@ mod registries;
 #[cfg(test)]
 mod runs;
 #[cfg(test)]
+mod samples;
+#[cfg(test)]
 mod tables;
 #[cfg(test)]
 mod tasks;

@@ -1,8 +1,8 @@
 //! Rows that are missing in a report.
 
+use crate::samples::sample::plan_of;
 use canvas_report::{Report, report_text};
 use canvas_rewrite::Plan;
-use canvas_samples::sample::plan_of;
 use canvas_task::{ListOf, Outcome};
 use std::alloc::{AllocError, Global};
 

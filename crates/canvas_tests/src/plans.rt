@@ -1,7 +1,7 @@
 //! Plans of canvases, worked out by hand.
 
+use crate::samples::sample::plan_of;
 use canvas_rewrite::{Ends, Plan};
-use canvas_samples::sample::plan_of;
 use canvas_task::{GroupNo, TaskNo};
 use std::alloc::Global;
 

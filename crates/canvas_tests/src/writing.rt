@@ -1,8 +1,8 @@
 //! Canvases and arguments that were composed, with their texts.
 
+use crate::samples::composed::calls;
+use crate::samples::notation::is_written;
 use crate::tasks::list;
-use canvas_samples::composed::calls;
-use canvas_samples::notation::is_written;
 use canvas_sig::{Canvas, Node, SigFault, TaskSig, write_arg, write_canvas};
 use canvas_task::{Arg, ListOf, TextOf};
 use serde_json::Value;

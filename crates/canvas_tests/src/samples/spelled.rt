@@ -5,7 +5,7 @@
 //! its header and body; `+..>` is the next call with links, `?..>` with error callbacks. A call is
 //! written `add:1,2`. In a report `#7` is the identifier of task 7.
 
-use crate::notation::piece;
+use crate::samples::notation::piece;
 use canvas_task::Memory;
 use std::alloc::Global;
 
@@ -29,7 +29,7 @@ fn behind(sign: char) -> &'static str {
 }
 
 /// The JSON text of a canvas.
-pub fn canvas(alloc: Global, frame: &str, calls: &str) -> Result<String, Memory> {
+pub(crate) fn canvas(alloc: Global, frame: &str, calls: &str) -> Result<String, Memory> {
     let mut text = String::new(alloc);
     let mut calls = calls.split_whitespace();
     for sign in frame.chars() {
@@ -51,7 +51,7 @@ fn push_behind(text: &mut String, named: Option<u32>, sign: char) -> Result<(), 
 }
 
 /// The text of a report.
-pub fn report(alloc: Global, short: &str) -> Result<String, Memory> {
+pub(crate) fn report(alloc: Global, short: &str) -> Result<String, Memory> {
     let mut text = String::new(alloc);
     let mut named: Option<u32> = None;
     for sign in short.chars() {

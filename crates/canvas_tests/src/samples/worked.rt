@@ -1,19 +1,19 @@
 //! Canvases whose reports are worked out by hand.
 
-use crate::notation::{filled, repeated};
-use crate::spelled;
+use crate::samples::notation::{filled, repeated};
+use crate::samples::spelled;
 use canvas_task::Memory;
 use std::alloc::Global;
 
 /// A canvas's text, and its report.
 #[derive(Drop)]
-pub struct Worked {
+pub(crate) struct Worked {
     pub text: String,
     pub report: String,
 }
 
 /// The canvas of a frame and its calls, with a report that is spelled shortly.
-pub fn of_frame(alloc: Global, frame: &str, calls: &str, report: &str) -> Result<Worked, Memory> {
+pub(crate) fn of_frame(alloc: Global, frame: &str, calls: &str, report: &str) -> Result<Worked, Memory> {
     Ok(Worked {
         text: spelled::canvas(alloc, frame, calls)?,
         report: spelled::report(alloc, report)?,
@@ -42,7 +42,7 @@ fn doubled(alloc: Global, count: u32, last: &str) -> Result<String, Memory> {
 }
 
 /// A group that doubles the numbers below a hundred, and the sum of what it gives.
-pub fn a_hundred_and_their_sum(alloc: Global) -> Result<Worked, Memory> {
+pub(crate) fn a_hundred_and_their_sum(alloc: Global) -> Result<Worked, Memory> {
     let group = repeated(alloc, 'G', ".", 100)?;
     let frame = filled(alloc, "C(_,.)", &group)?;
     let mut calls = doubles(alloc, 100)?;
@@ -53,7 +53,7 @@ pub fn a_hundred_and_their_sum(alloc: Global) -> Result<Worked, Memory> {
 
 /// A chord with a member that fails: its body fails with an exception of its own, and runs its
 /// error callback.
-pub fn a_failed_member(alloc: Global) -> Result<Worked, Memory> {
+pub(crate) fn a_failed_member(alloc: Global) -> Result<Worked, Memory> {
     let calls = "add:4,4 div:1,0 add:8,8 xsum: log_error:";
     of_frame(alloc, "H[.,.,.|?.>]", calls, A_FAILED_MEMBER)
 }

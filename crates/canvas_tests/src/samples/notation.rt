@@ -5,7 +5,7 @@ use canvas_sig::{Node, read_canvas, write_node};
 use std::alloc::{AllocError, Global};
 
 /// What a sign stands for.
-pub fn piece(sign: char) -> &'static str {
+pub(crate) fn piece(sign: char) -> &'static str {
     match sign {
         'C' => r#"{"task":"x","subtask_type":"chain","kwargs":{"tasks":"#,
         'G' => r#"{"task":"x","subtask_type":"group","kwargs":{"tasks":"#,
@@ -20,7 +20,7 @@ pub fn piece(sign: char) -> &'static str {
 }
 
 /// A primitive over a part that is given several times.
-pub fn repeated(
+pub(crate) fn repeated(
     alloc: Global,
     primitive: char,
     part: &str,
@@ -37,7 +37,7 @@ pub fn repeated(
 }
 
 /// A notation with a part in the place of its `_`.
-pub fn filled(alloc: Global, frame: &str, part: &str) -> Result<String, AllocError> {
+pub(crate) fn filled(alloc: Global, frame: &str, part: &str) -> Result<String, AllocError> {
     match frame.split_once('_') {
         Some((before, behind)) => format!(in alloc; "{before}{part}{behind}"),
         None => String::from_str(alloc, frame),
@@ -53,7 +53,7 @@ fn is_text(alloc: Global, node: &Node, text: &str) -> bool {
 }
 
 /// Whether a text is a canvas that is written so.
-pub fn is_written(alloc: Global, text: &str, written: &str) -> bool {
+pub(crate) fn is_written(alloc: Global, text: &str, written: &str) -> bool {
     match read_canvas(alloc, text.as_bytes()) {
         Ok(canvas) => is_text(alloc, canvas.node(), written),
         Err(_) => false,

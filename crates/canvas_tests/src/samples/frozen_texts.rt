@@ -33,7 +33,7 @@ fn push_sign(text: &mut String, sign: char) -> Result<(), AllocError> {
 }
 
 /// The text of the notation.
-pub fn filled(alloc: Global, text: &str) -> Result<String, AllocError> {
+pub(crate) fn filled(alloc: Global, text: &str) -> Result<String, AllocError> {
     let mut all = String::new(alloc);
     for sign in text.chars() {
         push_sign(&mut all, sign)?;
@@ -42,6 +42,6 @@ pub fn filled(alloc: Global, text: &str) -> Result<String, AllocError> {
 }
 
 /// Its bytes.
-pub fn bytes_of(alloc: Global, text: &str) -> Result<ListOf<u8>, AllocError> {
+pub(crate) fn bytes_of(alloc: Global, text: &str) -> Result<ListOf<u8>, AllocError> {
     Ok(ListOf::of(filled(alloc, text)?.into_bytes()))
 }

@@ -5,7 +5,7 @@ use canvas_task::ListOf;
 use std::alloc::{AllocError, Global};
 
 /// The calls of these names, each with its numbers.
-pub fn calls(alloc: Global, named: &[(&str, &[i64])]) -> Result<ListOf<Node>, AllocError> {
+pub(crate) fn calls(alloc: Global, named: &[(&str, &[i64])]) -> Result<ListOf<Node>, AllocError> {
     let mut nodes = Vec::new(alloc);
     for (name, numbers) in named {
         nodes.push(Node::call(alloc, name, numbers)?)?;
