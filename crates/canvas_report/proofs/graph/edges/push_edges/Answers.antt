@@ -17,5 +17,5 @@ loop-node-preserved c =
 
 pub returns : goal.returns
 returns c =
-    put_all (λ (ns : List Node). map (λ n. edge Next c.args.from n) ns) c.args.to.now c.loop-node.node-index c.loop-node.edges.items _ c.loop-node-test.false refl
-    c.loop-node.invariant
+    put_all (λ (ns : List Node). map (λ n. edge Next c.args.from n) ns) c.args.to.now c.loop-node.node-index c.loop-node.edges.items _
+    c.loop-node-test.false refl c.loop-node.invariant
