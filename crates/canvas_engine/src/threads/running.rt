@@ -153,9 +153,9 @@ where
         (IsThreadFault workers (states (T.behaviour tasks.now) (tree_of plan.now))) }
 {
     match gather(rt, alloc, plan, tasks, workers, gate, stop, start) {
-        Ok((run, early)) => match early {
-            None => run.conclude(rt, alloc, plan, tasks, workers, gate, stop),
-            Some(cause) => Err(run.halt(plan, tasks, workers, cause)),
+        Ok((ended, early)) => match early {
+            None => ended.conclude(rt, alloc, plan, tasks, workers, gate, stop),
+            Some(cause) => Err(ended.halt(plan, tasks, workers, cause)),
         },
         Err(fault) => Err(fault),
     }

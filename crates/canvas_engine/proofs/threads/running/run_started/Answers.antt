@@ -7,4 +7,4 @@ conclude-requires-clause-gathered g c =
     let behaviour = g.T.Tasks.behaviour c.args.tasks.now in
     let may_want = g.G.Gate.may_want c.args.gate.now in
     let none : c.in-Ok.early ≡ None = search rules in
-    subst (λ x. HaveWorked behaviour may_want c.args.plan.now c.args.workers x c.in-Ok.run) none c.in-Ok.ensures.ok
+    subst (λ x. HaveWorked behaviour may_want c.args.plan.now c.args.workers x c.in-Ok.ended) none c.in-Ok.ensures.ok
