@@ -4,7 +4,7 @@ use crate::answer::Answer;
 use crate::refusal::Refusal;
 use crate::reporting::{FAILED, Form, Manner};
 use crate::warnings::Warnings;
-use canvas_message::Envelope;
+use canvas_envelope::Envelope;
 use canvas_rewrite::Plan;
 use canvas_values::Depths;
 use std::alloc::{AllocError, Global};

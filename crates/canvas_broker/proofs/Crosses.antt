@@ -11,7 +11,7 @@ use denote.Struct.Tuple.{type_at, field_at, TupleAt}
 use mir.Syntax.{named}
 use Rattle.atomic_blocks.proofs.web.Seat.TheSendSync.{the_send as seat_send}
 use Rattle.atomic_blocks.proofs.web.Web.TheSendSync.{the_sync as web_sync}
-use Rattle.canvas_message.proofs.Crosses.{letter}
+use Rattle.canvas_envelope.proofs.Crosses.{letter}
 use Rattle.canvas_broker.specs.contracts.broker.Broker as Broker
 use Rattle.canvas_broker.specs.contracts.pass.BrokerPass as BrokerPass
 

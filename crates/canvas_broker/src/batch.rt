@@ -3,7 +3,7 @@ ghost use Rattle.std.specs.Prelude.{◌≡◌, [], ◌∷◌, MatchOption};
 
 use crate::item::Item;
 use arrayvec::ArrayVec;
-use canvas_message::Letter;
+use canvas_envelope::Letter;
 use std::marker::Model;
 use std::mem;
 
@@ -19,7 +19,7 @@ pub struct Batch {
 
 impl Model for Batch {
     ghost use Rattle.std.specs.Prelude.{List, drop};
-    ghost use Rattle.canvas_message.specs.declared.envelope.Envelope.{Envelope};
+    ghost use Rattle.canvas_envelope.specs.declared.envelope.Envelope.{Envelope};
     ghost use Rattle.canvas_broker.specs.steps.Rule.{envelopes};
 
     ghost Value = { List Envelope };

@@ -2,7 +2,7 @@
 use crate::item::Item;
 use crate::rule::OneHistory;
 use crate::view::View;
-use canvas_message::Letter;
+use canvas_envelope::Letter;
 use crossbeam_queue::{RuledSegQueue, SegPass};
 use std::marker::Model;
 
@@ -17,7 +17,7 @@ pub struct BrokerPass {
 
 impl Model for BrokerPass {
     ghost use Rattle.std.specs.Prelude.{◌≡◌, None};
-    ghost use Rattle.canvas_message.specs.declared.envelope.Envelope.{Envelope};
+    ghost use Rattle.canvas_envelope.specs.declared.envelope.Envelope.{Envelope};
     ghost use Rattle.canvas_history.specs.Passes.{Pass};
     ghost use Rattle.canvas_broker.specs.steps.Rule.{IsReady};
 

@@ -3,7 +3,7 @@ ghost use Rattle.std.specs.Prelude.{◌≡◌, [], ◌∷◌, ◌++◌, true, �
 ghost use Rattle.canvas_history.specs.Queue.{publish, take, answer_of, next};
 
 use crate::Refused;
-use canvas_message::Letter;
+use canvas_envelope::Letter;
 use std::alloc::Global;
 use std::collections::VecDeque;
 use std::marker::Model;
@@ -17,7 +17,7 @@ pub struct PlainBroker {
 
 impl Model for PlainBroker {
     ghost use Rattle.std.specs.Prelude.{List};
-    ghost use Rattle.canvas_message.specs.declared.envelope.Envelope.{Envelope};
+    ghost use Rattle.canvas_envelope.specs.declared.envelope.Envelope.{Envelope};
 
     ghost Value = { List Envelope };
 

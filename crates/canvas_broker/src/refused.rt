@@ -1,6 +1,6 @@
 //! The answer to a publish for which there was no memory.
 
-use canvas_message::Letter;
+use canvas_envelope::Letter;
 use thiserror::Error;
 
 /// An envelope that was not published, because memory was refused.

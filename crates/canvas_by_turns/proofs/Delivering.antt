@@ -3,7 +3,7 @@ use Rattle.std.proofs.Common.{◌≡◌, ◌<◌, ℕ, Bool, true, false, inl, i
 use Rattle.std.specs.Prelude.{IsSome, get_or, slice_get}
 use Rattle.std.specs.List.{remove}
 use Rattle.std.proofs.lemmas.Option.{slice_get_read, same_Some}
-use Rattle.canvas_message.specs.declared.envelope.Envelope.{Envelope}
+use Rattle.canvas_envelope.specs.declared.envelope.Envelope.{Envelope}
 use Rattle.canvas_runs.specs.Core.{taking, resting, over, failed, owning, doing, reading, acking, is_inside}
 use Rattle.canvas_turns.specs.Spending.{Entry, wanted, spent, has, without}
 use Rattle.canvas_core.specs.CoreState as standing

@@ -2,10 +2,10 @@
 use Rattle.std.proofs.Common.{◌≡◌, sym, ap, ◌∙◌}
 use Rattle.canvas_task.specs.Text.{Text}
 use Rattle.serde_json.specs.Written.{compact_text}
-use Rattle.canvas_message.specs.Content.{Content}
-use Rattle.canvas_message.specs.EnvelopeFaults.{Says}
-use Rattle.canvas_message.specs.Wire.{properties_wire, headers_wire, body_wire}
-use Rattle.canvas_message.specs.declared.envelope.Envelope.{Envelope}
+use Rattle.canvas_envelope.specs.Content.{Content}
+use Rattle.canvas_envelope.specs.EnvelopeFaults.{Says}
+use Rattle.canvas_envelope.specs.Wire.{properties_wire, headers_wire, body_wire}
+use Rattle.canvas_envelope.specs.declared.envelope.Envelope.{Envelope}
 use Rattle.canvas_runs.proofs.Envelopes.Readings.{says_reading}
 use Rattle.canvas_runs.specs.Worker.{read_envelope, sealed}
 use Rattle.canvas_by_turns.specs.steps.Stages.{ReadsAs}

@@ -1,7 +1,7 @@
 -- What the answer to an ask of a core leaves, where the queue and the table have changed as they should.
 use Rattle.std.proofs.Common.{◌≡◌, inr, ℕ, Bool, List, Option, Result, Ok, Err, OnOk, OnErr, refl, sym, ap, ◌∙◌, subst}
 use Rattle.canvas_task.specs.Apply.{Behaviour}
-use Rattle.canvas_message.specs.declared.envelope.Envelope.{Envelope}
+use Rattle.canvas_envelope.specs.declared.envelope.Envelope.{Envelope}
 use Rattle.canvas_history.specs.declared.stored.Stored.{Stored}
 use Rattle.canvas_history.specs.declared.stored.Stored.TheVariants.{First}
 use Rattle.canvas_history.specs.Table as table

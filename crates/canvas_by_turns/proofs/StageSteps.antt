@@ -7,8 +7,8 @@ use Rattle.canvas_runs.specs.Calls.{scripts_of, of_scripts, held_by, held_after}
 use Rattle.canvas_task.specs.Apply.{Behaviour}
 use Rattle.canvas_semantics.specs.Line.{Line}
 use Rattle.canvas_rewrite.specs.FrozenView.{PCarried}
-use Rattle.canvas_message.specs.Content.{Content}
-use Rattle.canvas_message.specs.declared.envelope.Envelope.{Envelope}
+use Rattle.canvas_envelope.specs.Content.{Content}
+use Rattle.canvas_envelope.specs.declared.envelope.Envelope.{Envelope}
 use Rattle.canvas_history.specs.Table.{Results}
 use Rattle.canvas_backend.specs.Plain.{held}
 use Rattle.canvas_history.specs.Roster.{Roster, roster_of}

@@ -28,7 +28,7 @@ use Rattle.canvas_core.specs.CoreState.{Standing, begun}
 use Rattle.canvas_core.specs.declared.cause.Cause.{Cause}
 use Rattle.canvas_core.specs.declared.cause.Cause.TheVariants.{Memory, Stopped}
 use Rattle.canvas_by_turns.specs.Correct.{IsAsked, IsWholeRun, IsWholeWithin, IsWholeAgain, IsRunFault, IsFaultWithin}
-use Rattle.canvas_message.specs.declared.envelope.Envelope.{Envelope}
+use Rattle.canvas_envelope.specs.declared.envelope.Envelope.{Envelope}
 use Rattle.canvas_by_turns.specs.Traced.{IsTraced}
 use Rattle.canvas_by_turns.specs.steps.Noting.{Noted, kept}
 use Rattle.canvas_by_turns.specs.steps.AgainRuns.{IsAgainWithin, IsKeptWithin, IsCutAgain, IsAgainFault}

@@ -7,7 +7,7 @@ ghost use Rattle.canvas_effects.specs.Effects.{first_messages};
 ghost use Rattle.canvas_turns.specs.Turns.{FirstsRead};
 
 use canvas_effects::FirstMessages;
-use canvas_message::{Letter, Message};
+use canvas_envelope::{Letter, Message};
 use canvas_rewrite::Plan;
 use canvas_task::Memory;
 use std::alloc::Global;

@@ -16,7 +16,7 @@ ghost use Rattle.canvas_by_turns.specs.steps.Stages.{rows_of, Given, Reached, Ha
 use crate::RunFault;
 use crate::stage::Stage;
 use canvas_core::Cause;
-use canvas_message::Envelope;
+use canvas_envelope::Envelope;
 use canvas_report::Report;
 use canvas_rewrite::Plan;
 use canvas_runs::When;

@@ -2,7 +2,7 @@
 ghost use Rattle.std.specs.Prelude.{◌≡◌, ◌∷◌, [], OnOk};
 ghost use Rattle.canvas_by_turns.specs.steps.Noting.{Noted};
 
-use canvas_message::{Envelope, Letter};
+use canvas_envelope::{Envelope, Letter};
 use canvas_task::Memory;
 use std::alloc::Global;
 

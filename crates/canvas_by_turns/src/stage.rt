@@ -27,7 +27,7 @@ use crate::sent::Sent;
 use canvas_backend::{PlainBackend, Stored};
 use canvas_broker::PlainBroker;
 use canvas_core::{Ask, Cause, Core, Reply};
-use canvas_message::{Envelope, Letter};
+use canvas_envelope::{Envelope, Letter};
 use canvas_rewrite::Plan;
 use canvas_runs::When;
 use canvas_task::{Memory, Outcome, TaskNo, Tasks};

@@ -5,10 +5,10 @@ use Rattle.canvas_task.specs.Apply.{Behaviour}
 use Rattle.canvas_history.specs.History.{among, made_by, Sole}
 use Rattle.canvas_history.proofs.Histories.{fresh_from}
 use Rattle.canvas_semantics.specs.Line.{Line}
-use Rattle.canvas_message.specs.Content.{Content}
+use Rattle.canvas_envelope.specs.Content.{Content}
 use Rattle.canvas_effects.specs.Effects.{first_messages}
 use Rattle.canvas_history.specs.Lists.{In, by, total}
-use Rattle.canvas_message.specs.declared.envelope.Envelope.{Envelope}
+use Rattle.canvas_envelope.specs.declared.envelope.Envelope.{Envelope}
 use Rattle.canvas_history.specs.Table.{Log, no_results, reply_of, next_of, May}
 use Rattle.canvas_history.specs.Roster.{Roster, roster_of}
 use Rattle.canvas_history.specs.Queue as queue

@@ -6,7 +6,7 @@ use Rattle.canvas_history.specs.History.{split, join, calls, by_of, live_from, l
 use Rattle.canvas_history.proofs.Histories.{StartsWith, In, in_cases, in_here, in_left, in_right, live_append, named_append, legal_right}
 use Rattle.canvas_history.proofs.Histories.{made_append, made_here, made_off, OnlyCalls, OthersCall, named_first, live_first, fresh_at, others_call}
 use Rattle.canvas_history.specs.Roster.{Roster}
-use Rattle.canvas_message.specs.declared.envelope.Envelope.{Envelope}
+use Rattle.canvas_envelope.specs.declared.envelope.Envelope.{Envelope}
 use Rattle.canvas_history.specs.Queue.{QueueEntry as Entries, answer_of, next, May, IsLegal}
 use Rattle.canvas_history.specs.Passes.{Stands, Parted, IsHistory}
 use Rattle.canvas_history.specs.Callers.{Owes}

@@ -7,7 +7,7 @@ use Rattle.canvas_semantics.specs.Line.{Line, tree_of}
 use Rattle.canvas_rewrite.specs.Planned.{IsPlan}
 use Rattle.canvas_semantics.specs.NormalLine.{normal}
 use Rattle.canvas_semantics.specs.Tree.{Tree, IsFull, numbered}
-use Rattle.canvas_message.specs.declared.envelope.Envelope.{Envelope}
+use Rattle.canvas_envelope.specs.declared.envelope.Envelope.{Envelope}
 use Rattle.canvas_history.specs.Table.{results}
 use Rattle.canvas_history.specs.Roster.{roster_of}
 use Rattle.canvas_history.specs.Queue.{QueueEntry as Entries}

@@ -5,9 +5,9 @@ use Rattle.canvas_sig.specs.steps.Clean.{IsClean, AreClean}
 use Rattle.canvas_semantics.specs.Tree.{Call}
 use Rattle.canvas_sig.proofs.CleanWire.{args_clean, kwargs_clean, all_above, args_depth, kwargs_depth}
 use Rattle.canvas_semantics.specs.PlacedLine.{PTask, p_task, PTasks, PPlace, PLine, p_stop, p_step, p_group_end, p_chord_end}
-use Rattle.canvas_message.specs.Content.{Content}
-use Rattle.canvas_message.specs.Fits.{tasks_ok, tasks_reach, place_reach, fits}
-use Rattle.canvas_message.specs.Wire.{parent_id, tasks_wire, carried_wire, elements_wire, onto_reversed, list_or_null, embed_wire, body_wire, headers_wire, properties_wire}
+use Rattle.canvas_envelope.specs.Content.{Content}
+use Rattle.canvas_envelope.specs.Fits.{tasks_ok, tasks_reach, place_reach, fits}
+use Rattle.canvas_envelope.specs.Wire.{parent_id, tasks_wire, carried_wire, elements_wire, onto_reversed, list_or_null, embed_wire, body_wire, headers_wire, properties_wire}
 use Rattle.canvas_codec.proofs.CleanLines.{place_id_clean, tasks_clean, elements_clean, place_id_depth, tasks_depth, carried_depth, elements_depth}
 use Rattle.canvas_codec.proofs.Wholes.{RestFits, Whole, as_content, whole_of}
 

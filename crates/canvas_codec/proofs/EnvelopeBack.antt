@@ -10,10 +10,10 @@ use Rattle.canvas_values.specs.CanvasText.{json_of}
 use Rattle.canvas_sig.specs.steps.Clean.{IsClean}
 use Rattle.canvas_task.specs.Text.{Text}
 use Rattle.canvas_sig.proofs.ReadsAgain.{text_read}
-use Rattle.canvas_message.specs.Content.{Content}
-use Rattle.canvas_message.specs.Fits.{fits}
+use Rattle.canvas_envelope.specs.Content.{Content}
+use Rattle.canvas_envelope.specs.Fits.{fits}
 use Rattle.canvas_codec.specs.steps.Reading.{envelope_reading}
-use Rattle.canvas_message.specs.Wire.{body_wire, headers_wire, properties_wire}
+use Rattle.canvas_envelope.specs.Wire.{body_wire, headers_wire, properties_wire}
 use Rattle.canvas_codec.proofs.CleanMessage.{texts}
 use Rattle.canvas_codec.proofs.MessageBack.{message_back}
 

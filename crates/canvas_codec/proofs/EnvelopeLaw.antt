@@ -18,15 +18,15 @@ use Rattle.canvas_values.specs.declared.fault.SigFault.{SigFault}
 use Rattle.canvas_values.specs.declared.fault.SigFault.TheVariants.{BadArgs}
 use Rattle.canvas_semantics.specs.PlacedLine.{PTask, PLine, p_step}
 use Rattle.canvas_rewrite.specs.FrozenView.{p_steps}
-use Rattle.canvas_message.specs.Content.{Content}
-use Rattle.canvas_message.specs.EnvelopeContent.{task_number, place_from, line_from, task_in, last_in, line_in, args_in, kwargs_in, embed_in, content_in, content_said}
-use Rattle.canvas_message.specs.EnvelopeFaults.{bad_place, bad_elements, bad_task, bad_last, bad_line, not_version_2, same_task, other_task, bad_id, bad_content_type, bad_body, bad_argument, bad_args, bad_members, bad_embed, first_of, refusals, envelope_fault, Says}
-use Rattle.canvas_message.specs.Fits.{fits}
-use Rattle.canvas_message.specs.FrozenGrammar.{task_of, group_of, levels}
+use Rattle.canvas_envelope.specs.Content.{Content}
+use Rattle.canvas_envelope.specs.EnvelopeContent.{task_number, place_from, line_from, task_in, last_in, line_in, args_in, kwargs_in, embed_in, content_in, content_said}
+use Rattle.canvas_envelope.specs.EnvelopeFaults.{bad_place, bad_elements, bad_task, bad_last, bad_line, not_version_2, same_task, other_task, bad_id, bad_content_type, bad_body, bad_argument, bad_args, bad_members, bad_embed, first_of, refusals, envelope_fault, Says}
+use Rattle.canvas_envelope.specs.Fits.{fits}
+use Rattle.canvas_envelope.specs.FrozenGrammar.{task_of, group_of, levels}
 use Rattle.canvas_codec.specs.steps.FrozenReading.{link_reading, step_reading, last_reading, line_reading, place_with}
 use Rattle.canvas_codec.specs.steps.Reading.{Fails, Gives, ◌so◌, must, some_or, refused_as, is_version_2, is_that_task, correlates, is_group_or_null, ids_ok, id_reading, is_json, parts_of, GivenParts, given_reading, chain_reading, Embed, embed_ok, embed_reading, if_fits, content_of, message_reading, envelope_reading}
-use Rattle.canvas_message.specs.declared.fault.MessageFault.{MessageFault}
-use Rattle.canvas_message.specs.declared.fault.MessageFault.TheVariants.{NotJson, NotVersion2, BadId, BadContentType, BadBody, BadEmbed, Memory, BadArgs as bad_arguments}
+use Rattle.canvas_envelope.specs.declared.fault.MessageFault.{MessageFault}
+use Rattle.canvas_envelope.specs.declared.fault.MessageFault.TheVariants.{NotJson, NotVersion2, BadId, BadContentType, BadBody, BadEmbed, Memory, BadArgs as bad_arguments}
 use Rattle.canvas_codec.proofs.FrozenLaw.{seen, but_for, then_seen, made_seen, each_seen, unless_seen, argument_seen, named_seen, any_content, place_seen, level}
 
 -- ---- the arguments

@@ -18,12 +18,12 @@ use Rattle.canvas_values.specs.declared.primitive.Primitive.TheVariants as kind
 use Rattle.canvas_values.proofs.Depth.{AllLow, field_low, listed_low, inner_low, link_low, same_map}
 use Rattle.canvas_rewrite.specs.FrozenView.{p_tasks_of, p_lines_of}
 use Rattle.canvas_semantics.specs.PlacedLine.{PTask, p_task, PPlace, p_nowhere, p_group, p_chord, PLine, p_step, p_stop, p_group_end, p_chord_end}
-use Rattle.canvas_message.specs.FrozenGrammar.{task_of, group_of, is_chain, levels}
-use Rattle.canvas_message.specs.EnvelopeContent.{task_number, args_in, kwargs_in, embed_in, json_in, content_in, content_said, group_number, size_in, place_from, task_from, element_from, line_from, task_within, last_within, line_within, task_in, last_in, line_in}
-use Rattle.canvas_message.specs.EnvelopeFaults.{not_json, not_version_2, bad_id, bad_content_type, bad_body, bad_args, bad_members, bad_embed, first_of, envelope_fault, bad_size, bad_place, bad_task_by, bad_group_by, bad_chord_by, bad_last_by, bad_elements, bad_task_within, bad_last_within, bad_line_within, bad_task, bad_last, bad_line}
-use Rattle.canvas_message.specs.Content.{Content}
-use Rattle.canvas_message.specs.Fits.{fits}
-use Rattle.canvas_message.specs.declared.fault.MessageFault.TheVariants.{NotJson, NotVersion2, BadId, BadContentType, BadBody, BadArgs, BadEmbed}
+use Rattle.canvas_envelope.specs.FrozenGrammar.{task_of, group_of, is_chain, levels}
+use Rattle.canvas_envelope.specs.EnvelopeContent.{task_number, args_in, kwargs_in, embed_in, json_in, content_in, content_said, group_number, size_in, place_from, task_from, element_from, line_from, task_within, last_within, line_within, task_in, last_in, line_in}
+use Rattle.canvas_envelope.specs.EnvelopeFaults.{not_json, not_version_2, bad_id, bad_content_type, bad_body, bad_args, bad_members, bad_embed, first_of, envelope_fault, bad_size, bad_place, bad_task_by, bad_group_by, bad_chord_by, bad_last_by, bad_elements, bad_task_within, bad_last_within, bad_line_within, bad_task, bad_last, bad_line}
+use Rattle.canvas_envelope.specs.Content.{Content}
+use Rattle.canvas_envelope.specs.Fits.{fits}
+use Rattle.canvas_envelope.specs.declared.fault.MessageFault.TheVariants.{NotJson, NotVersion2, BadId, BadContentType, BadBody, BadArgs, BadEmbed}
 use Rattle.canvas_codec.specs.FrozenParts.{bad_members_within, content_within, bad_embed_within, envelope_fault_within, SameEnvelope, ReadsShallow, bad_line_by, line_by, RefusedByParts, SaidByParts, SameWithin}
 
 read_of : (b : Bool) (o : Option Data) (d : Data) → (if b then o else None) ≡ Some d → o ≡ Some d

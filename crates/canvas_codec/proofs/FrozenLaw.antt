@@ -17,10 +17,10 @@ use Rattle.canvas_values.specs.declared.primitive.Primitive.{Primitive}
 use Rattle.canvas_values.specs.declared.primitive.Primitive.TheVariants as kind
 use Rattle.canvas_rewrite.specs.FrozenView.{PCarried, p_tasks_of, p_lines_of}
 use Rattle.canvas_semantics.specs.PlacedLine.{PTask, p_task, p_nowhere, p_group, p_chord, PLine, p_stop, p_step, p_group_end, p_chord_end}
-use Rattle.canvas_message.specs.EnvelopeContent.{group_number, natural, size_in, place_from, task_from, element_from, line_from, task_within, last_within, line_within}
-use Rattle.canvas_message.specs.EnvelopeFaults.{is_size, bad_size, bad_place, is_task, bad_task_by, bad_group_by, bad_chord_by, bad_last_by, bad_elements, bad_task_within, bad_last_within, bad_line_within, bad_argument}
-use Rattle.canvas_message.specs.Fits.{size_ok}
-use Rattle.canvas_message.specs.FrozenGrammar.{task_of, group_of, but_a_place, is_chain}
+use Rattle.canvas_envelope.specs.EnvelopeContent.{group_number, natural, size_in, place_from, task_from, element_from, line_from, task_within, last_within, line_within}
+use Rattle.canvas_envelope.specs.EnvelopeFaults.{is_size, bad_size, bad_place, is_task, bad_task_by, bad_group_by, bad_chord_by, bad_last_by, bad_elements, bad_task_within, bad_last_within, bad_line_within, bad_argument}
+use Rattle.canvas_envelope.specs.Fits.{size_ok}
+use Rattle.canvas_envelope.specs.FrozenGrammar.{task_of, group_of, but_a_place, is_chain}
 use Rattle.canvas_codec.specs.steps.FrozenReading.{if_numbered, sized, size_reading, call_reading, carried_with, place_with, task_with, task_as, group_with, chord_with, header_fault, step_as, last_as, elements_with, link_reading, step_reading, last_reading, line_reading}
 
 -- ---- a reading without its faults

@@ -6,7 +6,7 @@ use Rattle.canvas_values.specs.Fields.{listed, tasks, subtype}
 use Rattle.canvas_values.specs.Answers.{unless}
 use Rattle.canvas_values.specs.Grammar.{own_fault, primitive_of}
 use Rattle.canvas_codec.specs.steps.FrozenReading.{task_as, step_as, last_as, elements_with, link_reading, step_reading, last_reading, line_reading}
-use Rattle.canvas_message.specs.FrozenGrammar.{is_chain}
+use Rattle.canvas_envelope.specs.FrozenGrammar.{is_chain}
 
 pub link_level_below : (n : ℕ) (d : Data) → n ≢ 0 → link_reading n d ≡ task_as true (link_reading (n - 1)) (line_reading (n - 1)) d
 link_level_below zero d h = absurd (h refl)

@@ -19,12 +19,12 @@ use Rattle.canvas_rewrite.specs.declared.frozen.FrozenLine.{FrozenLine, roll-Fro
 use Rattle.canvas_rewrite.specs.declared.frozen.FrozenEnd.{roll-FrozenEnd}
 use Rattle.canvas_rewrite.specs.declared.frozen.Place.{Place}
 use Rattle.canvas_rewrite.proofs.FrozenViews.{made_line, made_group, made_chord}
-use Rattle.canvas_message.specs.MessageView.{place_seen}
-use Rattle.canvas_message.proofs.Seen.{task_made}
+use Rattle.canvas_envelope.specs.MessageView.{place_seen}
+use Rattle.canvas_envelope.proofs.Seen.{task_made}
 use Rattle.canvas_codec.specs.steps.Elements.{line_with, reversed_with, element_view}
 use Rattle.canvas_codec.specs.steps.Reading.{parts_of, chain_reading}
 use Rattle.canvas_codec.specs.declared.read.made.Element.{Element}
-use Rattle.canvas_message.specs.FrozenGrammar.{task_of, group_of, levels}
+use Rattle.canvas_envelope.specs.FrozenGrammar.{task_of, group_of, levels}
 use Rattle.canvas_codec.specs.steps.FrozenReading.{if_numbered, place_with, task_with, group_with, chord_with, elements_with, step_reading, last_reading}
 
 -- ---- tasks

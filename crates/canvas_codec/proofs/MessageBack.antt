@@ -12,13 +12,13 @@ use Rattle.canvas_sig.proofs.RoundTrip.{args_back, kwargs_back}
 use Rattle.canvas_semantics.proofs.RowNumbers.{same_number}
 use Rattle.canvas_rewrite.specs.FrozenView.{p_steps}
 use Rattle.canvas_semantics.specs.PlacedLine.{PTask, p_task, PTasks, PPlace, PLine, p_stop, p_step, p_group_end, p_chord_end}
-use Rattle.canvas_message.specs.Content.{Content}
-use Rattle.canvas_message.specs.Fits.{parent_ok, task_ok, line_ok, greatest_reach, fits}
-use Rattle.canvas_message.specs.FrozenGrammar.{task_of, levels}
+use Rattle.canvas_envelope.specs.Content.{Content}
+use Rattle.canvas_envelope.specs.Fits.{parent_ok, task_ok, line_ok, greatest_reach, fits}
+use Rattle.canvas_envelope.specs.FrozenGrammar.{task_of, levels}
 use Rattle.canvas_codec.specs.steps.FrozenReading.{step_reading, last_reading}
 use Rattle.canvas_codec.specs.steps.Reading.{must, id_reading, given_reading, chain_reading, embed_reading, if_fits, content_of, message_reading}
-use Rattle.canvas_message.specs.declared.fault.MessageFault.TheVariants.{BadEmbed}
-use Rattle.canvas_message.specs.Wire.{parent_id, place_id, task_wire, tasks_wire, group_wire, chord_wire, line_wire, elements_wire, members_wire, onto_reversed, list_or_null, embed_wire, body_wire, headers_wire, properties_wire}
+use Rattle.canvas_envelope.specs.declared.fault.MessageFault.TheVariants.{BadEmbed}
+use Rattle.canvas_envelope.specs.Wire.{parent_id, place_id, task_wire, tasks_wire, group_wire, chord_wire, line_wire, elements_wire, members_wire, onto_reversed, list_or_null, embed_wire, body_wire, headers_wire, properties_wire}
 use Rattle.canvas_codec.proofs.RoundTrip.{task_id_back, listed_tasks, tasks_listed, tasks_back, step_back, elements_back}
 use Rattle.canvas_codec.proofs.Wholes.{RestFits, Whole, as_content, whole_of}
 

@@ -7,8 +7,8 @@ use Rattle.std.specs.List.{slice_index}
 use Rattle.std.specs.Prelude.{string_bytes, IfSome}
 use Rattle.std.specs.Str.{IsUtf8, IsCharBoundary}
 use Rattle.std.specs.String.{string_len}
-use Rattle.canvas_message.specs.declared.pieces.Piece.{Piece}
-use Rattle.canvas_message.specs.Pieces.{piece_text, shared_text}
+use Rattle.canvas_envelope.specs.declared.pieces.Piece.{Piece}
+use Rattle.canvas_envelope.specs.Pieces.{piece_text, shared_text}
 
 pub first_part : (all xs ys : List ℕ) (n : ℕ) → n ≡ length xs → all ≡ xs ++ ys → take n all ≡ xs
 first_part all xs ys n is both = ap (λ k. take k all) is ∙ ap (take (length xs)) both ∙ take-append_seam xs ys

@@ -9,7 +9,7 @@ use Rattle.canvas_values.specs.Grammar.{arg_reading, named_reading}
 use Rattle.canvas_values.specs.declared.fault.SigFault.{SigFault}
 use Rattle.canvas_values.specs.declared.fault.SigFault.TheVariants.{Memory}
 use Rattle.canvas_semantics.specs.PlacedLine.{PTask, PLine}
-use Rattle.canvas_message.specs.FrozenGrammar.{task_of}
+use Rattle.canvas_envelope.specs.FrozenGrammar.{task_of}
 use Rattle.canvas_codec.specs.steps.FrozenReading.{if_numbered, place_with, task_with}
 
 pub refused_first : {A B : Type 0} (e : SigFault) (r : Result A SigFault) (g : A → Result B SigFault) → Fails e r → Fails e (r >>= g)

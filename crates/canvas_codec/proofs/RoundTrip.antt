@@ -23,10 +23,10 @@ use Rattle.canvas_sig.proofs.RoundTrip.{args_back, args_kinds, args_numbers, kwa
 use Rattle.canvas_semantics.specs.Line.{in_group}
 use Rattle.canvas_rewrite.specs.FrozenView.{p_tasks_of, p_lines_of}
 use Rattle.canvas_semantics.specs.PlacedLine.{PTask, p_task, PTasks, no_p_tasks, and_p_task, PPlace, p_nowhere, p_group, p_chord, PLine, p_stop, p_step, p_group_end, p_chord_end, PLines, no_p_lines, and_p_line, strip}
-use Rattle.canvas_message.specs.Fits.{is_task_number, size_ok, is_less, is_below, ascends, call_ok, task_ok, tasks_ok, place_ok, line_ok, members_ok, how_many, task_reach, tasks_reach, place_reach, line_reach, greatest_reach, members_reach}
+use Rattle.canvas_envelope.specs.Fits.{is_task_number, size_ok, is_less, is_below, ascends, call_ok, task_ok, tasks_ok, place_ok, line_ok, members_ok, how_many, task_reach, tasks_reach, place_reach, line_reach, greatest_reach, members_reach}
 use Rattle.canvas_codec.specs.steps.FrozenReading.{size_reading, call_reading, place_with, task_with, task_as, step_as, last_as, elements_with, link_reading, step_reading, last_reading, line_reading}
-use Rattle.canvas_message.specs.FrozenGrammar.{task_of, group_of, but_a_place}
-use Rattle.canvas_message.specs.Wire.{task_id, group_id, place_id, member_unless_null, task_options, call_wire, chain_wire, group_wire, chord_wire, task_wire, tasks_wire, carried_wire, line_wire, elements_wire, members_wire}
+use Rattle.canvas_envelope.specs.FrozenGrammar.{task_of, group_of, but_a_place}
+use Rattle.canvas_envelope.specs.Wire.{task_id, group_id, place_id, member_unless_null, task_options, call_wire, chain_wire, group_wire, chord_wire, task_wire, tasks_wire, carried_wire, line_wire, elements_wire, members_wire}
 
 -- ---- what fits
 

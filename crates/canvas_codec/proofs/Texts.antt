@@ -5,7 +5,7 @@ use Rattle.canvas_values.specs.declared.fault.SigFault.{SigFault}
 use Rattle.canvas_values.specs.declared.fault.SigFault.TheVariants.{Memory}
 use Rattle.canvas_values.specs.Answers.{Fails}
 use Rattle.canvas_values.specs.steps.Reading as sig
-use Rattle.canvas_message.specs.declared.fault.MessageFault.TheVariants.{NotJson}
+use Rattle.canvas_envelope.specs.declared.fault.MessageFault.TheVariants.{NotJson}
 use Rattle.canvas_codec.specs.steps.Reading.{some_or}
 
 -- one that doesn't read

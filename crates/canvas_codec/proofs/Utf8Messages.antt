@@ -13,9 +13,9 @@ use Rattle.canvas_semantics.specs.Tree.{Call}
 use Rattle.canvas_semantics.specs.PlacedLine.{PTask, p_task, PTasks, no_p_tasks, and_p_task, PPlace, p_nowhere, p_group, p_chord, PLine, p_stop, p_step, p_group_end, p_chord_end, PLines, no_p_lines, and_p_line}
 use Rattle.canvas_wire.specs.Writing.{numbers_wire, arg_wire, args_wire, kwargs_wire, member_unless_empty, tasks_member, chord_members}
 use Rattle.canvas_rewrite.specs.Utf8.{IsUtf8Arg, AreUtf8Args, AreUtf8Entries, IsUtf8Call}
-use Rattle.canvas_message.specs.Content.{Content, number_of}
-use Rattle.canvas_message.specs.Fits.{fits}
-use Rattle.canvas_message.specs.Wire.{parent_id, place_id, member_unless_null, size_member, frozen_wire, task_options, call_wire, chain_wire, group_options, group_wire, chord_wire, task_wire, tasks_wire, carried_wire, line_wire, elements_wire, members_wire, onto_reversed, list_or_null, embed_wire, body_wire, headers_wire, properties_wire}
+use Rattle.canvas_envelope.specs.Content.{Content, number_of}
+use Rattle.canvas_envelope.specs.Fits.{fits}
+use Rattle.canvas_envelope.specs.Wire.{parent_id, place_id, member_unless_null, size_member, frozen_wire, task_options, call_wire, chain_wire, group_options, group_wire, chord_wire, task_wire, tasks_wire, carried_wire, line_wire, elements_wire, members_wire, onto_reversed, list_or_null, embed_wire, body_wire, headers_wire, properties_wire}
 use Rattle.canvas_codec.proofs.CleanMessage.{texts}
 use Rattle.canvas_writing.proofs.IdentifierTexts.{task_ascii, group_ascii}
 use Rattle.canvas_codec.proofs.Utf8Data.{IsUtf8Data, AreUtf8Items, AreUtf8Members, compact_utf8}

@@ -7,12 +7,12 @@ use Rattle.canvas_values.proofs.FittingCalls.{CallFits}
 use Rattle.canvas_values.proofs.ComposedLemmas.{both}
 use Rattle.canvas_sig.specs.steps.Clean.{IsClean}
 use Rattle.canvas_semantics.specs.PlacedLine.{p_task, PTasks, PPlace, p_nowhere, p_group, p_chord, PLine, p_stop, p_step, p_group_end, p_chord_end}
-use Rattle.canvas_message.specs.Content.{Content}
-use Rattle.canvas_message.specs.Fits.{is_task_number, size_ok, parent_ok, task_ok, tasks_ok, place_ok, line_ok, task_reach, tasks_reach, place_reach, line_reach, greatest_reach, fits}
+use Rattle.canvas_envelope.specs.Content.{Content}
+use Rattle.canvas_envelope.specs.Fits.{is_task_number, size_ok, parent_ok, task_ok, tasks_ok, place_ok, line_ok, task_reach, tasks_reach, place_reach, line_reach, greatest_reach, fits}
 use Rattle.canvas_codec.specs.steps.FrozenReading.{place_with, line_reading}
-use Rattle.canvas_message.specs.FrozenGrammar.{levels}
+use Rattle.canvas_envelope.specs.FrozenGrammar.{levels}
 use Rattle.canvas_codec.specs.steps.Reading.{is_group_or_null}
-use Rattle.canvas_message.specs.Wire.{place_id, carried_wire}
+use Rattle.canvas_envelope.specs.Wire.{place_id, carried_wire}
 use Rattle.canvas_codec.proofs.CleanLines.{carried_clean}
 use Rattle.canvas_codec.proofs.RoundTrip.{group_id_back, task_parts, place_back}
 

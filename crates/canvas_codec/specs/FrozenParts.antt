@@ -16,13 +16,13 @@ use Rattle.canvas_values.specs.Refusals.{named_of}
 use Rattle.canvas_values.specs.Grammar.{argument_of, own_fault, primitive_of}
 use Rattle.canvas_rewrite.specs.FrozenView.{p_tasks_of}
 use Rattle.canvas_semantics.specs.PlacedLine.{PTask, p_task, PLine}
-use Rattle.canvas_message.specs.Content.{Content}
-use Rattle.canvas_message.specs.Fits.{fits}
-use Rattle.canvas_message.specs.FrozenGrammar.{task_of, is_chain}
-use Rattle.canvas_message.specs.EnvelopeContent.{task_number, place_from, args_in, kwargs_in, embed_in, json_in, content_said, task_from, element_from, line_from, task_within, last_within, line_within, task_in, last_in, line_in}
-use Rattle.canvas_message.specs.EnvelopeFaults.{not_json, not_version_2, bad_id, bad_content_type, bad_body, bad_args, bad_place, first_of, envelope_fault, bad_task_by, bad_last_by, bad_elements, bad_task_within, bad_last_within, bad_line_within, bad_task, bad_last, bad_line}
-use Rattle.canvas_message.specs.declared.fault.MessageFault.{MessageFault}
-use Rattle.canvas_message.specs.declared.fault.MessageFault.TheVariants.{NotJson, NotVersion2, BadId, BadContentType, BadBody, BadArgs, BadEmbed}
+use Rattle.canvas_envelope.specs.Content.{Content}
+use Rattle.canvas_envelope.specs.Fits.{fits}
+use Rattle.canvas_envelope.specs.FrozenGrammar.{task_of, is_chain}
+use Rattle.canvas_envelope.specs.EnvelopeContent.{task_number, place_from, args_in, kwargs_in, embed_in, json_in, content_said, task_from, element_from, line_from, task_within, last_within, line_within, task_in, last_in, line_in}
+use Rattle.canvas_envelope.specs.EnvelopeFaults.{not_json, not_version_2, bad_id, bad_content_type, bad_body, bad_args, bad_place, first_of, envelope_fault, bad_task_by, bad_last_by, bad_elements, bad_task_within, bad_last_within, bad_line_within, bad_task, bad_last, bad_line}
+use Rattle.canvas_envelope.specs.declared.fault.MessageFault.{MessageFault}
+use Rattle.canvas_envelope.specs.declared.fault.MessageFault.TheVariants.{NotJson, NotVersion2, BadId, BadContentType, BadBody, BadArgs, BadEmbed}
 
 -- what a text reads as, and so all that stands in it
 abbrev pub ReadsShallow : Type 0

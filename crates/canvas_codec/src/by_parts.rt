@@ -4,7 +4,7 @@ ghost use Rattle.std.specs.Prelude.{◌≤◌, ℕ};
 ghost use Rattle.serde_json.specs.Data.{Data, depth};
 ghost use Rattle.serde_json.specs.Read.{max_depth};
 ghost use Rattle.canvas_task.specs.Text.{Text};
-ghost use Rattle.canvas_message.specs.FrozenGrammar.{levels};
+ghost use Rattle.canvas_envelope.specs.FrozenGrammar.{levels};
 ghost use Rattle.canvas_codec.specs.FrozenParts.{ReadsShallow, RefusedByParts, SaidByParts, SameEnvelope, SameWithin};
 
 /// What is said of a frozen signature is said by what is said of those in it, however deep they

@@ -2,17 +2,17 @@
 
 ghost use Rattle.std.specs.Prelude.{◌≡◌, ◌≢◌, IfOk, IfErr};
 ghost use Rattle.canvas_sig.specs.Datum.{view, value_at};
-ghost use Rattle.canvas_message.specs.declared.fault.MessageFault.TheVariants.{BadArgs, BadEmbed, Memory};
+ghost use Rattle.canvas_envelope.specs.declared.fault.MessageFault.TheVariants.{BadArgs, BadEmbed, Memory};
 ghost use Rattle.canvas_codec.specs.steps.Elements.{given_view, embed_view};
-ghost use Rattle.canvas_message.specs.EnvelopeFaults.{Says, envelope_fault};
+ghost use Rattle.canvas_envelope.specs.EnvelopeFaults.{Says, envelope_fault};
 ghost use Rattle.canvas_codec.specs.steps.Reading.{Gives, refused_as, given_reading, embed_reading, if_fits, content_of, message_reading, json_reading};
-ghost use Rattle.canvas_message.specs.MessageView.{draft_view};
+ghost use Rattle.canvas_envelope.specs.MessageView.{draft_view};
 
 use crate::read::{
     Embed, Given, Parts, is_json, is_version_2, parts_of, read_embed, read_given, read_id, task_of,
 };
 use bumpalo::Bump;
-use canvas_message::{Draft, Envelope, Message, MessageFault};
+use canvas_envelope::{Draft, Envelope, Message, MessageFault};
 use canvas_sig::SigFault;
 use canvas_sig::parts::{Datum, parse, text_of};
 use canvas_task::{TaskNo, TextOf};

@@ -3,14 +3,14 @@
 ghost use Rattle.std.specs.Prelude.{◌≡◌, true, IfOk, IfSome, string_bytes};
 ghost use Rattle.canvas_task.specs.Identifiers.{task_text};
 ghost use Rattle.serde_json.specs.Written.{compact_text};
-ghost use Rattle.canvas_message.specs.Content.{number_of};
+ghost use Rattle.canvas_envelope.specs.Content.{number_of};
 ghost use Rattle.std.specs.Str.{IsUtf8};
-ghost use Rattle.canvas_message.specs.Fits.{fits};
-ghost use Rattle.canvas_message.specs.EnvelopeFaults.{Says};
-ghost use Rattle.canvas_message.specs.Pieces.{joined, body_text};
-ghost use Rattle.canvas_message.specs.Wire.{properties_wire, headers_wire, body_wire};
+ghost use Rattle.canvas_envelope.specs.Fits.{fits};
+ghost use Rattle.canvas_envelope.specs.EnvelopeFaults.{Says};
+ghost use Rattle.canvas_envelope.specs.Pieces.{joined, body_text};
+ghost use Rattle.canvas_envelope.specs.Wire.{properties_wire, headers_wire, body_wire};
 
-use canvas_message::{Envelope, Message, Pieces};
+use canvas_envelope::{Envelope, Message, Pieces};
 use canvas_task::{ListOf, Memory, TaskNo, task_text};
 use canvas_writing::{Body, ascii, body_of, put_headers, put_properties};
 use std::alloc::{AllocError, Global};

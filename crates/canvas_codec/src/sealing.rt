@@ -2,13 +2,13 @@
 
 ghost use Rattle.std.specs.Prelude.{◌≡◌, ◌≢◌, IfOk, IfErr, Some};
 ghost use Rattle.serde_json.specs.Written.{compact_text};
-ghost use Rattle.canvas_message.specs.EnvelopeFaults.{Says, envelope_fault};
-ghost use Rattle.canvas_message.specs.declared.fault.MessageFault.TheVariants as fault;
-ghost use Rattle.canvas_message.specs.Wire.{properties_wire, headers_wire, body_wire};
+ghost use Rattle.canvas_envelope.specs.EnvelopeFaults.{Says, envelope_fault};
+ghost use Rattle.canvas_envelope.specs.declared.fault.MessageFault.TheVariants as fault;
+ghost use Rattle.canvas_envelope.specs.Wire.{properties_wire, headers_wire, body_wire};
 
 use crate::decode;
 use crate::encoding::pieces_of;
-use canvas_message::{Envelope, Letter, Message, MessageFault, following};
+use canvas_envelope::{Envelope, Letter, Message, MessageFault, following};
 use canvas_task::Memory;
 use canvas_writing::line_text;
 use std::alloc::{AllocError, Global};

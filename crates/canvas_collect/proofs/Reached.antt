@@ -10,7 +10,7 @@ use Rattle.canvas_semantics.specs.Evaluation.{passed_on, eval, eval_chain, membe
 use Rattle.canvas_rewrite.specs.FrozenView.{task_in, p_task_view, p_tasks_of}
 use Rattle.canvas_rewrite.specs.declared.frozen.FrozenTask.{FrozenTask, out-FrozenTask}
 use Rattle.canvas_semantics.specs.PlacedLine.{strip_task, strip_tasks}
-use Rattle.canvas_message.proofs.Seen.{task_seen}
+use Rattle.canvas_envelope.proofs.Seen.{task_seen}
 use Rattle.canvas_collect.specs.steps.Flows.{listed}
 use Rattle.canvas_collect.specs.Completed.{HasRows, state_at}
 

@@ -6,7 +6,7 @@ use Rattle.canvas_task.specs.Apply.{Behaviour}
 use Rattle.canvas_task.specs.Text.{Text}
 use Rattle.canvas_semantics.specs.Evaluation.{State}
 use Rattle.canvas_semantics.specs.Line.{Line}
-use Rattle.canvas_message.specs.declared.envelope.Envelope.{Envelope}
+use Rattle.canvas_envelope.specs.declared.envelope.Envelope.{Envelope}
 use Rattle.canvas_report.specs.MessageLines.{message_wire}
 use Rattle.canvas_engine.specs.Traced.{IsTraced}
 use Rattle.canvas_answer.specs.Answers.{AnswersAll}

@@ -1,7 +1,7 @@
 -- What contracts see of an ask and of a reply.
 use Rattle.std.specs.Prelude.{ℕ, Bool, true, false, Option, Some, None}
 use Rattle.canvas_task.specs.Apply.{IsInRange}
-use Rattle.canvas_message.specs.declared.envelope.Envelope.{Envelope}
+use Rattle.canvas_envelope.specs.declared.envelope.Envelope.{Envelope}
 use Rattle.canvas_history.specs.Table as table
 use Rattle.canvas_history.specs.Queue as queue
 use Rattle.canvas_runs.specs.Core as C

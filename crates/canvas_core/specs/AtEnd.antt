@@ -1,7 +1,7 @@
 -- When a core is at its end, and that it stays there.
 use Rattle.std.specs.Prelude.{◌≡◌, false, List, [], ◌∷◌, ◌++◌, None}
 use Rattle.canvas_task.specs.Apply.{Behaviour}
-use Rattle.canvas_message.specs.declared.envelope.Envelope.{Envelope}
+use Rattle.canvas_envelope.specs.declared.envelope.Envelope.{Envelope}
 use Rattle.canvas_runs.specs.Book.{Book}
 use Rattle.canvas_history.specs.Queue.{publish}
 use Rattle.canvas_runs.specs.Core.{failed, end, rest, to_queue, rested, refused}

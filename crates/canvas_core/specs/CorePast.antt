@@ -4,7 +4,7 @@ use Rattle.std.specs.Prelude.{◌≡◌, ℕ, ◌+◌, min, if◌then◌else◌,
 use Rattle.canvas_task.specs.Apply.{Behaviour}
 use Rattle.canvas_runs.specs.Book.{Book}
 use Rattle.canvas_runs.specs.Calls.{held_after}
-use Rattle.canvas_message.specs.declared.envelope.Envelope.{Envelope}
+use Rattle.canvas_envelope.specs.declared.envelope.Envelope.{Envelope}
 use Rattle.canvas_runs.specs.Core.{taking, answered, left_after, ReadsBack, IsCoreRun, is_inside}
 use Rattle.canvas_runs.specs.Worker.{opened}
 use Rattle.canvas_core.specs.Asks.{Asked, Answer, suits, shown, to_send, replied}

@@ -3,9 +3,9 @@ use Rattle.std.specs.Option.{option_map}
 use Rattle.std.specs.Prelude.{ℕ, ◌+◌, ◌∷◌, min, is_some, if◌then◌else◌, Bool, false, Option, Some, None}
 use Rattle.canvas_task.specs.Apply.{Behaviour}
 use Rattle.canvas_rewrite.specs.FrozenView.{PCarried}
-use Rattle.canvas_message.specs.Content.{Content, number_of}
+use Rattle.canvas_envelope.specs.Content.{Content, number_of}
 use Rattle.canvas_effects.specs.Job.{publish}
-use Rattle.canvas_message.specs.declared.envelope.Envelope.{Envelope}
+use Rattle.canvas_envelope.specs.declared.envelope.Envelope.{Envelope}
 use Rattle.canvas_history.specs.Roster.{Roster}
 use Rattle.canvas_runs.specs.Book.{Book}
 use Rattle.canvas_runs.specs.Following.{Working, Followed}

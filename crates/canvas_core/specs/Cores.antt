@@ -4,7 +4,7 @@ use Rattle.std.specs.Prelude.{◌≡◌, List, map}
 use Rattle.canvas_task.specs.Apply.{Behaviour}
 use Rattle.canvas_semantics.specs.Line.{Line}
 use Rattle.canvas_rewrite.specs.FrozenView.{PCarried}
-use Rattle.canvas_message.specs.Content.{Content}
+use Rattle.canvas_envelope.specs.Content.{Content}
 use Rattle.canvas_effects.specs.Effects.{outcome_of}
 use Rattle.canvas_history.specs.Roster.{roster_of}
 use Rattle.canvas_runs.specs.Core.{CoreState, taking, resting, over, failed, owning, doing, reading, ask, left_after, Between, ReadsBack, IsCoreRun, acking}

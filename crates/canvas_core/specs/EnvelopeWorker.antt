@@ -8,13 +8,13 @@ use Rattle.canvas_task.specs.declared.outcome.Fault.TheVariants.{Plain}
 use Rattle.canvas_task.specs.declared.outcome.Outcome.{Outcome}
 use Rattle.canvas_task.specs.declared.outcome.Outcome.TheVariants.{Failure}
 use Rattle.canvas_rewrite.specs.FrozenView.{PCarried}
-use Rattle.canvas_message.specs.Content.{Content, number_of}
+use Rattle.canvas_envelope.specs.Content.{Content, number_of}
 use Rattle.canvas_effects.specs.Effects.{outcome_of, after, body_after, script}
-use Rattle.canvas_message.specs.EnvelopeContent.{content_said}
-use Rattle.canvas_message.specs.EnvelopeFaults.{envelope_fault}
-use Rattle.canvas_message.specs.Fits.{fits}
+use Rattle.canvas_envelope.specs.EnvelopeContent.{content_said}
+use Rattle.canvas_envelope.specs.EnvelopeFaults.{envelope_fault}
+use Rattle.canvas_envelope.specs.Fits.{fits}
 use Rattle.canvas_effects.specs.Job.{Job, store, publish, part}
-use Rattle.canvas_message.specs.declared.envelope.Envelope.{Envelope}
+use Rattle.canvas_envelope.specs.declared.envelope.Envelope.{Envelope}
 use Rattle.canvas_history.specs.Roster.{Roster}
 use Rattle.canvas_runs.specs.Book.{Book, book_on}
 use Rattle.canvas_runs.specs.Protocol.{Protocol}

@@ -1,6 +1,6 @@
 -- What the parts of a core stand for.
 use Rattle.std.specs.Prelude.{◌≡◌, Bool, false, [], ◌∷◌, is_some, not, unwrap_or}
-use Rattle.canvas_message.specs.MessageView.{carried_view}
+use Rattle.canvas_envelope.specs.MessageView.{carried_view}
 use Rattle.canvas_effects.specs.Job.{store, publish, part}
 use Rattle.canvas_history.specs.declared.stored.Stored.TheVariants.{First}
 use Rattle.canvas_runs.specs.Core.{taking, resting, over, failed, owning, doing, reading, acking}

@@ -4,7 +4,7 @@ ghost use Rattle.std.specs.Prelude.{◌≡◌};
 ghost use Rattle.canvas_core.specs.Asks.{suits};
 
 use canvas_backend::Stored;
-use canvas_message::Letter;
+use canvas_envelope::Letter;
 use canvas_task::{GroupNo, Outcome, TaskNo};
 
 /// What a core asks for next.

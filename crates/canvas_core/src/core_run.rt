@@ -18,7 +18,7 @@ use crate::known::message_known;
 use crate::phase::{Phase, acknowledged, rested, returned};
 use crate::stages::Owned;
 use crate::{Ask, Book, Reply};
-use canvas_message::{Letter, Message, MessageFault};
+use canvas_envelope::{Letter, Message, MessageFault};
 use canvas_runs::When;
 use canvas_task::{Memory, TaskNo, Tasks};
 use std::alloc::Global;
@@ -42,7 +42,7 @@ impl Model for Core {
     ghost use Rattle.canvas_core.specs.Phases.{left_of, is_out};
     ghost use Rattle.canvas_core.specs.CoreState.{Standing};
     ghost use Rattle.std.specs.Coded.{codes};
-    ghost use Rattle.canvas_message.specs.codes.ContentCode.{content_code};
+    ghost use Rattle.canvas_envelope.specs.codes.ContentCode.{content_code};
     ghost use Rattle.canvas_core.specs.codes.CoreCode.{carried_code};
 
     ghost Value = { Standing };

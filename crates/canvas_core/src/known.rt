@@ -2,14 +2,14 @@
 
 ghost use Rattle.std.specs.Prelude.{◌≡◌, map};
 ghost use Rattle.canvas_rewrite.specs.FrozenView.{p_tasks_of, p_lines_of, p_task_view, p_line_view, p_end_view};
-ghost use Rattle.canvas_message.specs.Fits.{how_many};
+ghost use Rattle.canvas_envelope.specs.Fits.{how_many};
 ghost use Rattle.canvas_effects.specs.Placing.{last_task};
-ghost use Rattle.canvas_message.specs.MessageView.{place_seen, rest_seen};
+ghost use Rattle.canvas_envelope.specs.MessageView.{place_seen, rest_seen};
 ghost use Rattle.canvas_runs.specs.Book.{task_known, tasks_known, place_known, line_known, members_known, message_known, parent_known, has_size};
 ghost use Rattle.canvas_core.specs.steps.Lasts.{or_zero, last_number};
 
 use crate::Book;
-use canvas_message::Message;
+use canvas_envelope::Message;
 use canvas_rewrite::{FrozenEnd, FrozenLine, FrozenTask, Place};
 use canvas_task::{GroupNo, TaskNo};
 

@@ -5,7 +5,7 @@ ghost use Rattle.std.specs.Option.{option_map};
 ghost use Rattle.canvas_task.specs.Apply.{IsInRange};
 ghost use Rattle.canvas_effects.specs.Carrying.{carried_ok};
 ghost use Rattle.canvas_effects.specs.Effects.{after, outcome_of, script as whole, part_jobs};
-ghost use Rattle.canvas_message.specs.MessageView.{carried_view};
+ghost use Rattle.canvas_envelope.specs.MessageView.{carried_view};
 ghost use Rattle.canvas_effects.specs.Job as job;
 ghost use Rattle.canvas_effects.specs.Job.{store, publish};
 ghost use Rattle.canvas_effects.specs.Todos.{part_view};
@@ -26,7 +26,7 @@ use crate::stages::{Owned, Publishing, Reading, Storing};
 use crate::{Book, Reply};
 use canvas_backend::Stored;
 use canvas_effects::{ChordBody, PartCall, into_body, into_todo};
-use canvas_message::{Letter, Message};
+use canvas_envelope::{Letter, Message};
 use canvas_task::{GroupNo, Memory, Outcome, TaskNo, Tasks};
 use std::alloc::Global;
 

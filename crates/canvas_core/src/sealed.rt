@@ -2,11 +2,11 @@
 
 ghost use Rattle.std.specs.Prelude.{◌≡◌, Ok, IfOk};
 ghost use Rattle.std.specs.Coded.{codes};
-ghost use Rattle.canvas_message.specs.codes.ContentCode.{content_code};
+ghost use Rattle.canvas_envelope.specs.codes.ContentCode.{content_code};
 ghost use Rattle.canvas_runs.specs.Worker.{read_envelope};
 ghost use Rattle.canvas_core.specs.EnvelopeWorker.{said, envelope_of};
 
-use canvas_message::{Letter, Message};
+use canvas_envelope::{Letter, Message};
 use canvas_task::Memory;
 use std::alloc::Global;
 

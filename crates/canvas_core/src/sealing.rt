@@ -11,7 +11,7 @@ use crate::script::Script;
 use crate::sealed::{Sealed, seal};
 use canvas_backend::Stored;
 use canvas_effects::Todo;
-use canvas_message::Message;
+use canvas_envelope::Message;
 use canvas_task::Memory;
 use std::alloc::Global;
 use std::collections::VecDeque;

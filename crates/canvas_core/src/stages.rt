@@ -6,8 +6,8 @@ ghost use Rattle.std.proofs.Props.{props};
 ghost use Rattle.std.specs.Coded.{codes};
 ghost use Rattle.canvas_task.specs.Apply.{IsInRange};
 ghost use Rattle.canvas_effects.specs.Carrying.{carried_ok};
-ghost use Rattle.canvas_message.specs.Content.{number_of};
-ghost use Rattle.canvas_message.specs.codes.ContentCode.{content_code};
+ghost use Rattle.canvas_envelope.specs.Content.{number_of};
+ghost use Rattle.canvas_envelope.specs.codes.ContentCode.{content_code};
 ghost use Rattle.canvas_effects.specs.Effects.{after, script as whole};
 ghost use Rattle.canvas_runs.specs.Worker.{read_envelope};
 ghost use Rattle.canvas_core.specs.codes.CoreCode.{carried_code, range_prop};
@@ -17,7 +17,7 @@ ghost use Rattle.canvas_core.specs.Scripts.{jobs_of};
 
 use crate::script::Script;
 use canvas_effects::ChordBody;
-use canvas_message::Letter;
+use canvas_envelope::Letter;
 use canvas_task::{GroupNo, Outcome, TaskNo};
 
 /// An envelope whose task's outcome isn't stored yet, with all that follows where that store is the

@@ -11,19 +11,19 @@ use Rattle.canvas_rewrite.specs.declared.frozen.FrozenTask.{FrozenTask}
 use Rattle.canvas_rewrite.specs.declared.frozen.FrozenLine.{FrozenLine, out-FrozenLine}
 use Rattle.canvas_rewrite.specs.declared.frozen.FrozenEnd.{FrozenEnd, out-FrozenEnd}
 use Rattle.canvas_effects.specs.Carrying.{can_stand, AllStand, callbacks_ok, input_ok}
-use Rattle.canvas_message.specs.Content.{Content, place_of}
+use Rattle.canvas_envelope.specs.Content.{Content, place_of}
 use Rattle.canvas_effects.specs.Effects.{message, callbacks, messages_in, part_of}
-use Rattle.canvas_message.specs.Fits.{parent_ok, fits}
+use Rattle.canvas_envelope.specs.Fits.{parent_ok, fits}
 use Rattle.canvas_effects.specs.Flowing.{Input, list_input}
-use Rattle.canvas_message.specs.steps.Parts.{is_stop}
+use Rattle.canvas_envelope.specs.steps.Parts.{is_stop}
 use Rattle.canvas_effects.specs.Placing.{placed}
-use Rattle.canvas_message.specs.MessageView.{place_view}
+use Rattle.canvas_envelope.specs.MessageView.{place_view}
 use Rattle.canvas_effects.specs.steps.Walks.{at_place, tail_seen, begins_with_task, first_message, member_place, started, all_started}
 use Rattle.canvas_effects.proofs.Walked.{begins_seen}
 use Rattle.canvas_effects.proofs.Copied.{line_parts}
 use Rattle.canvas_effects.proofs.Entered.{started_group, started_chord}
-use Rattle.canvas_message.proofs.FitLemmas.{counted}
-use Rattle.canvas_message.proofs.Seen.{line_some, end_none, end_some}
+use Rattle.canvas_envelope.proofs.FitLemmas.{counted}
+use Rattle.canvas_envelope.proofs.Seen.{line_some, end_none, end_some}
 use Rattle.canvas_effects.proofs.Standing.{message_fits, called_parts, same_at, group_stands, header_stands, few_members, body_stands}
 
 -- ---- callbacks

@@ -9,13 +9,13 @@ use Rattle.canvas_rewrite.specs.declared.frozen.FrozenTask.{FrozenTask, out-Froz
 use Rattle.canvas_rewrite.specs.declared.frozen.FrozenLine.{FrozenLine, out-FrozenLine, roll-FrozenLine}
 use Rattle.canvas_rewrite.specs.declared.frozen.FrozenEnd.{FrozenEnd, out-FrozenEnd, roll-FrozenEnd}
 use Rattle.canvas_rewrite.proofs.FrozenViews.{made_line, made_longer, made_group, made_chord}
-use Rattle.canvas_message.specs.Content.{place_of}
+use Rattle.canvas_envelope.specs.Content.{place_of}
 use Rattle.canvas_effects.specs.Placing.{placed}
-use Rattle.canvas_message.specs.MessageView.{place_seen}
+use Rattle.canvas_envelope.specs.MessageView.{place_seen}
 use Rattle.canvas_effects.specs.steps.Walks.{at_place, tail_seen}
-use Rattle.canvas_message.specs.steps.Parts.{is_stop}
-use Rattle.canvas_message.proofs.FitLemmas.{never_stops, end_stands}
-use Rattle.canvas_message.proofs.Seen.{task_made, task_seen, line_none, line_some, end_none, end_some}
+use Rattle.canvas_envelope.specs.steps.Parts.{is_stop}
+use Rattle.canvas_envelope.proofs.FitLemmas.{never_stops, end_stands}
+use Rattle.canvas_envelope.proofs.Seen.{task_made, task_seen, line_none, line_some, end_none, end_some}
 
 -- ---- tasks
 

@@ -4,7 +4,7 @@ use Rattle.canvas_semantics.specs.PlacedLine.{PLine, p_stop, p_step, p_group_end
 use Rattle.canvas_rewrite.specs.FrozenView.{p_lines_of, p_line_view, p_end_view}
 use Rattle.canvas_rewrite.specs.declared.frozen.FrozenLine.{FrozenLine}
 use Rattle.canvas_rewrite.specs.declared.frozen.FrozenEnd.{FrozenEnd, out-FrozenEnd}
-use Rattle.canvas_message.proofs.Seen.{end_none, end_some}
+use Rattle.canvas_envelope.proofs.Seen.{end_none, end_some}
 
 abbrev mutual
   pub ends_in : PLine → ℕ

@@ -17,7 +17,7 @@ use Rattle.canvas_semantics.specs.Tree.{Call, Task, task, no_tasks, and_task}
 use Rattle.canvas_semantics.specs.Line.{Line, stop, step, group_end, chord_end, Lines, no_lines, and_line}
 use Rattle.canvas_rewrite.specs.FrozenView.{PCarried}
 use Rattle.canvas_semantics.specs.PlacedLine.{PTask, p_task, PTasks, no_p_tasks, and_p_task, p_nowhere, p_chord, p_stop, bare, bare_task, bare_tasks}
-use Rattle.canvas_message.specs.Content.{Content, number_of}
+use Rattle.canvas_envelope.specs.Content.{Content, number_of}
 use Rattle.canvas_effects.specs.Effects.{after, body_after, first_messages}
 use Rattle.canvas_effects.specs.Events.{EventJobs, evaluated}
 use Rattle.canvas_effects.specs.Job as job

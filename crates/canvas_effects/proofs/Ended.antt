@@ -18,13 +18,13 @@ use Rattle.canvas_rewrite.specs.declared.frozen.Carried as block
 use Rattle.canvas_rewrite.specs.declared.frozen.Carried.{Carried, out-Carried}
 use Rattle.canvas_rewrite.specs.declared.frozen.FrozenTask.{FrozenTask, out-FrozenTask}
 use Rattle.canvas_effects.specs.Carrying.{is_whole, carried_ok, place_stands}
-use Rattle.canvas_message.specs.Content.{Content, line, number_of, links_of, errbacks_of, place_of, call_of}
+use Rattle.canvas_envelope.specs.Content.{Content, line, number_of, links_of, errbacks_of, place_of, call_of}
 use Rattle.canvas_effects.specs.Effects.{Jobs, Effect, Part, message, callbacks, called, part_of, enter, enter_all, effect_of, stores_in, messages_in, part_in, after, body_after, into_body}
-use Rattle.canvas_message.specs.MessageView.{carried_view, place_seen}
-use Rattle.canvas_message.specs.Fits.{parent_ok, line_ok, members_ok, line_reach, how_many, fits}
+use Rattle.canvas_envelope.specs.MessageView.{carried_view, place_seen}
+use Rattle.canvas_envelope.specs.Fits.{parent_ok, line_ok, members_ok, line_reach, how_many, fits}
 use Rattle.canvas_effects.specs.Flowing.{Input, number_input, list_input, id_input, run, skips, raise, after_outcome}
 use Rattle.canvas_effects.specs.Ordered.{in_order}
-use Rattle.canvas_message.specs.steps.Parts.{is_stop}
+use Rattle.canvas_envelope.specs.steps.Parts.{is_stop}
 use Rattle.canvas_effects.specs.Placing.{last_at, placed, end_place, last_task}
 use Rattle.canvas_effects.specs.steps.Walks.{last_of, started, skipped, raised_stores, raised_messages, part_at_end, first_failure, successes}
 use Rattle.canvas_effects.proofs.Copied.{place_there}

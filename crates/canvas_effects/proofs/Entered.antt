@@ -5,9 +5,9 @@ use Rattle.canvas_task.specs.declared.outcome.Outcome.{Outcome}
 use Rattle.canvas_task.specs.declared.outcome.Outcome.TheVariants.{Success, Failure}
 use Rattle.canvas_semantics.specs.PlacedLine.{PTask, PTasks, no_p_tasks, and_p_task, PPlace, p_nowhere, p_group, p_chord, PLine, p_stop, p_step, p_group_end, p_chord_end, PLines, no_p_lines, and_p_line}
 use Rattle.canvas_rewrite.specs.FrozenView.{p_steps, p_lines_of}
-use Rattle.canvas_message.specs.Content.{number_of, errbacks_of}
+use Rattle.canvas_envelope.specs.Content.{number_of, errbacks_of}
 use Rattle.canvas_effects.specs.Effects.{Jobs, message, callbacks, called, part_of, enter, enter_all, fault_behind, stores_in, messages_in, part_in}
-use Rattle.canvas_message.specs.Fits.{how_many}
+use Rattle.canvas_envelope.specs.Fits.{how_many}
 use Rattle.canvas_effects.specs.Flowing.{Input, number_input, id_input, run, skips, raise}
 use Rattle.canvas_effects.specs.Job.{store, publish, part}
 use Rattle.canvas_effects.specs.Placing.{placed}

@@ -9,8 +9,8 @@ use Rattle.canvas_rewrite.specs.declared.frozen.FrozenLine.{FrozenLine, out-Froz
 use Rattle.canvas_rewrite.specs.declared.frozen.FrozenEnd.{FrozenEnd, out-FrozenEnd}
 use Rattle.canvas_rewrite.specs.declared.frozen.FrozenTask.{FrozenTask}
 use Rattle.canvas_rewrite.specs.FrozenView.{p_steps, p_task_view, p_line_view, p_end_view}
-use Rattle.canvas_message.specs.Content.{Content, number_of}
-use Rattle.canvas_message.specs.Fits.{how_many}
+use Rattle.canvas_envelope.specs.Content.{Content, number_of}
+use Rattle.canvas_envelope.specs.Fits.{how_many}
 use Rattle.canvas_effects.specs.Carrying.{is_whole, can_stand, AllStand}
 use Rattle.canvas_effects.specs.Effects.{Jobs, enter, enter_all, first_messages, messages_in, part_of, when_empty}
 use Rattle.canvas_effects.specs.Flowing.{Input, no_input, list_input, run}

@@ -12,14 +12,14 @@ use Rattle.canvas_rewrite.specs.Planned.{IsPlan}
 use Rattle.canvas_rewrite.specs.Runnable.{TaskSound, TasksSound, AreSound}
 use Rattle.canvas_semantics.proofs.Numbered.{count_elements, groups_elements}
 use Rattle.canvas_effects.specs.Carrying.{is_whole}
-use Rattle.canvas_message.specs.Fits.{is_task_number, call_ok, how_many, most_members, task_ok, tasks_ok, line_ok, members_ok, task_reach, tasks_reach, line_reach, greatest_reach, members_reach}
+use Rattle.canvas_envelope.specs.Fits.{is_task_number, call_ok, how_many, most_members, task_ok, tasks_ok, line_ok, members_ok, task_reach, tasks_reach, line_reach, greatest_reach, members_reach}
 use Rattle.canvas_effects.specs.Placing.{end_place}
-use Rattle.canvas_message.specs.Content.{Content, number_of}
+use Rattle.canvas_envelope.specs.Content.{Content, number_of}
 use Rattle.canvas_effects.specs.Effects.{first_messages}
 use Rattle.canvas_effects.specs.Flowing.{no_input}
 use Rattle.canvas_effects.specs.Ordered.{in_order}
 use Rattle.canvas_effects.specs.steps.Walks.{started}
-use Rattle.canvas_message.specs.steps.Parts.{is_stop}
+use Rattle.canvas_envelope.specs.steps.Parts.{is_stop}
 use Rattle.canvas_effects.proofs.FitsOn.{all_true, call_is}
 
 -- ---- reaches are those of the tree

@@ -13,14 +13,14 @@ use Rattle.canvas_rewrite.specs.declared.frozen.FrozenTask.{FrozenTask, out-Froz
 use Rattle.canvas_rewrite.specs.declared.frozen.FrozenLine.{FrozenLine, out-FrozenLine}
 use Rattle.canvas_rewrite.specs.declared.frozen.FrozenEnd.{FrozenEnd, out-FrozenEnd}
 use Rattle.canvas_effects.specs.Carrying.{is_whole, AllWhole}
-use Rattle.canvas_message.specs.Content.{Content, number_of, errbacks_of}
+use Rattle.canvas_envelope.specs.Content.{Content, number_of, errbacks_of}
 use Rattle.canvas_effects.specs.Effects.{callbacks, messages_in, fault_at_end, fault_behind}
-use Rattle.canvas_message.specs.Fits.{members_ok}
+use Rattle.canvas_envelope.specs.Fits.{members_ok}
 use Rattle.canvas_effects.specs.Flowing.{id_input}
 use Rattle.canvas_effects.specs.steps.Walks.{last_of, skipped, skipped_tasks, raised_stores, all_raised_stores, raised_messages, all_raised_messages, tail_seen}
 use Rattle.canvas_effects.proofs.Begun.{line_first, line_tail}
 use Rattle.canvas_effects.proofs.Entered.{skipped_steps, raised_step, raised_step_messages, raised_group, raised_group_messages, raised_chord, raised_chord_messages}
-use Rattle.canvas_message.proofs.Seen.{line_empty, end_none, end_some}
+use Rattle.canvas_envelope.proofs.Seen.{line_empty, end_none, end_some}
 use Rattle.canvas_effects.proofs.Standing.{Stepped, first_stepped, Member, member_first, group_whole, header_whole}
 use Rattle.canvas_effects.proofs.Walked.{number_seen, last_number, never_last}
 

@@ -5,16 +5,16 @@ use Rattle.std.specs.Option.{option_map}
 use Rattle.std.specs.declared.sync.Arc.{Arc}
 use Rattle.std.proofs.lemmas.List.{reverse-append}
 use Rattle.canvas_rewrite.specs.FrozenView.{PCarried}
-use Rattle.canvas_message.proofs.Seen.{chord_place}
-use Rattle.canvas_message.specs.MessageView.{carried_view, place_view}
+use Rattle.canvas_envelope.proofs.Seen.{chord_place}
+use Rattle.canvas_envelope.specs.MessageView.{carried_view, place_view}
 use Rattle.canvas_rewrite.specs.declared.frozen.Carried.{Carried}
 use Rattle.canvas_rewrite.specs.declared.frozen.Place.{Place, out-Place}
 use Rattle.canvas_effects.proofs.Ended.{carried_seen}
 use Rattle.canvas_semantics.specs.PlacedLine.{PTask, PPlace, p_nowhere, p_chord, PLine, p_stop, p_step, p_group_end, p_chord_end}
-use Rattle.canvas_message.specs.SharedTexts.{AreEnds, AreTexts, IsLineText, SaysRinged, SaysCarried, core_of, inner_place, place_behind, rings_of}
-use Rattle.canvas_message.specs.declared.texts.Texts.{Texts}
-use Rattle.canvas_message.specs.declared.carried_text.CarriedText.{CarriedText}
-use Rattle.canvas_message.specs.steps.Parts.{is_stop}
+use Rattle.canvas_envelope.specs.SharedTexts.{AreEnds, AreTexts, IsLineText, SaysRinged, SaysCarried, core_of, inner_place, place_behind, rings_of}
+use Rattle.canvas_envelope.specs.declared.texts.Texts.{Texts}
+use Rattle.canvas_envelope.specs.declared.carried_text.CarriedText.{CarriedText}
+use Rattle.canvas_envelope.specs.steps.Parts.{is_stop}
 use Rattle.canvas_effects.specs.Placing.{placed, end_place}
 use Rattle.canvas_effects.specs.Carrying.{carrying_place}
 

@@ -14,11 +14,11 @@ use Rattle.canvas_semantics.specs.Line.{in_group}
 use Rattle.canvas_semantics.specs.PlacedLine.{PTask, p_task, PTasks, and_p_task, PPlace, p_nowhere, p_group, p_chord, PLine, p_stop, p_step, p_group_end, p_chord_end, PLines, no_p_lines, and_p_line, strip}
 use Rattle.canvas_rewrite.specs.FrozenView.{p_lines_of}
 use Rattle.canvas_effects.specs.Carrying.{is_whole, can_stand, AllWhole, AllStand, callbacks_ok, place_stands, input_ok}
-use Rattle.canvas_message.specs.Content.{number_of, call_of, links_of, errbacks_of, place_of}
+use Rattle.canvas_envelope.specs.Content.{number_of, call_of, links_of, errbacks_of, place_of}
 use Rattle.canvas_effects.specs.Effects.{message}
-use Rattle.canvas_message.specs.Fits.{is_task_number, size_ok, call_ok, ascends, parent_ok, how_many, most_members, task_ok, tasks_ok, place_ok, line_ok, members_ok, task_reach, tasks_reach, place_reach, line_reach, greatest_reach, members_reach, fits}
+use Rattle.canvas_envelope.specs.Fits.{is_task_number, size_ok, call_ok, ascends, parent_ok, how_many, most_members, task_ok, tasks_ok, place_ok, line_ok, members_ok, task_reach, tasks_reach, place_reach, line_reach, greatest_reach, members_reach, fits}
 use Rattle.canvas_effects.specs.Flowing.{Input, no_input, number_input, list_input, id_input, input_flow, given, parent_for}
-use Rattle.canvas_message.specs.steps.Parts.{is_stop}
+use Rattle.canvas_envelope.specs.steps.Parts.{is_stop}
 use Rattle.canvas_effects.specs.Placing.{last_at, placed, end_place}
 use Rattle.canvas_effects.specs.steps.Walks.{at_place, member_place, last_of}
 use Rattle.canvas_effects.proofs.FitsOn.{all_true}

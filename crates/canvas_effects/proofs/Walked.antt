@@ -12,16 +12,16 @@ use Rattle.canvas_rewrite.specs.FrozenView.{p_steps, p_task_view, p_line_view, p
 use Rattle.canvas_rewrite.specs.declared.frozen.FrozenTask.{FrozenTask, out-FrozenTask}
 use Rattle.canvas_rewrite.specs.declared.frozen.FrozenLine.{FrozenLine, out-FrozenLine}
 use Rattle.canvas_rewrite.specs.declared.frozen.FrozenEnd.{FrozenEnd, out-FrozenEnd}
-use Rattle.canvas_message.specs.Content.{number_of}
-use Rattle.canvas_message.specs.Fits.{line_ok, task_ok}
-use Rattle.canvas_message.specs.steps.Parts.{is_stop}
+use Rattle.canvas_envelope.specs.Content.{number_of}
+use Rattle.canvas_envelope.specs.Fits.{line_ok, task_ok}
+use Rattle.canvas_envelope.specs.steps.Parts.{is_stop}
 use Rattle.canvas_effects.specs.Carrying.{is_whole, AllWhole}
 use Rattle.canvas_effects.specs.Placing.{last_task}
 use Rattle.canvas_effects.specs.steps.Walks.{last_of, successes, skipped, all_skipped, skipped_tasks, tail_seen, begins_with_task}
 use Rattle.canvas_effects.proofs.Copied.{line_parts}
 use Rattle.canvas_effects.proofs.Entered.{skipped_steps, skipped_group, skipped_chord}
-use Rattle.canvas_message.proofs.FitLemmas.{end_stands, never_stops}
-use Rattle.canvas_message.proofs.Seen.{task_seen, line_none, line_some, line_last, line_empty, end_none, end_some}
+use Rattle.canvas_envelope.proofs.FitLemmas.{end_stands, never_stops}
+use Rattle.canvas_envelope.proofs.Seen.{task_seen, line_none, line_some, line_last, line_empty, end_none, end_some}
 
 pub number_seen : (t : FrozenTask) → number_of (p_task_view t) ≡ (out-FrozenTask t).no
 number_seen t = ap number_of (task_seen t)

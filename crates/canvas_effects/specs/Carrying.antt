@@ -6,7 +6,7 @@ use Rattle.canvas_task.specs.Numbers.{in_range}
 use Rattle.canvas_semantics.specs.Bounds.{most_reach}
 use Rattle.canvas_rewrite.specs.FrozenView.{PCarried}
 use Rattle.canvas_semantics.specs.PlacedLine.{PLine, PPlace, PTasks, p_chord}
-use Rattle.canvas_message.specs.Fits.{is_task_number, size_ok, tasks_ok, place_ok, place_reach, tasks_reach, line_ok, line_reach}
+use Rattle.canvas_envelope.specs.Fits.{is_task_number, size_ok, tasks_ok, place_ok, place_reach, tasks_reach, line_ok, line_reach}
 use Rattle.canvas_effects.specs.Flowing.{Input, no_input, number_input, list_input, id_input}
 use Rattle.canvas_effects.specs.Placing.{placed}
 

@@ -9,10 +9,10 @@ use Rattle.canvas_semantics.specs.Tree.{Task, task, Tasks, no_tasks, and_task}
 use Rattle.canvas_semantics.specs.Line.{Line, stop, step, group_end, chord_end, Lines, no_lines, and_line, no_of}
 use Rattle.canvas_rewrite.specs.FrozenView.{PCarried}
 use Rattle.canvas_semantics.specs.PlacedLine.{PPlace, p_nowhere, p_group, p_chord, bare, all_bare, bare_task}
-use Rattle.canvas_message.specs.Among.{In}
-use Rattle.canvas_message.specs.Content.{Content}
+use Rattle.canvas_envelope.specs.Among.{In}
+use Rattle.canvas_envelope.specs.Content.{Content}
 use Rattle.canvas_effects.specs.Effects.{Jobs, message, outcome_of, part_of, header_flow}
-use Rattle.canvas_message.specs.Fits.{how_many}
+use Rattle.canvas_envelope.specs.Fits.{how_many}
 use Rattle.canvas_effects.specs.Flowing.{Input, no_input, number_input, id_input, LineFlow, run, skips, raise, after_outcome}
 use Rattle.canvas_effects.specs.Job.{Job, store, publish}
 use Rattle.canvas_effects.specs.Placing.{last_at, placed, last_task}

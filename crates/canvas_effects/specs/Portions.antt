@@ -1,7 +1,7 @@
 -- The messages that lines begin with when a run starts, line by line.
 use Rattle.std.specs.Prelude.{List, map, flat_map, None}
 use Rattle.canvas_semantics.specs.PlacedLine.{PLine, PPlace}
-use Rattle.canvas_message.specs.Content.{Content}
+use Rattle.canvas_envelope.specs.Content.{Content}
 use Rattle.canvas_effects.specs.Flowing.{no_input}
 use Rattle.canvas_effects.specs.steps.Walks.{started}
 

@@ -1,7 +1,7 @@
 -- What a worker is told to do, as data: the effects of `Effects` (Celery user guide, Canvas).
 use Rattle.std.specs.Prelude.{option_map}
 use Rattle.canvas_effects.specs.Effects.{Effect, Part}
-use Rattle.canvas_message.specs.MessageView.{carried_view}
+use Rattle.canvas_envelope.specs.MessageView.{carried_view}
 use Rattle.canvas_effects.specs.declared.todo.PartCall.{PartCall}
 use Rattle.canvas_effects.specs.declared.todo.Todo.{Todo}
 

@@ -1,12 +1,12 @@
 //! What follows a chord, with its text.
 
 ghost use Rattle.std.specs.Prelude.{◌≡◌, IfOk, IfSome};
-ghost use Rattle.canvas_message.specs.MessageView.{carried_view};
-ghost use Rattle.canvas_message.specs.SharedTexts.{SaysCarried};
+ghost use Rattle.canvas_envelope.specs.MessageView.{carried_view};
+ghost use Rattle.canvas_envelope.specs.SharedTexts.{SaysCarried};
 ghost use Rattle.canvas_effects.specs.Carrying.{carrying_place};
 ghost use Rattle.canvas_effects.specs.Placing.{end_place};
 
-use canvas_message::{CarriedText, share_carried};
+use canvas_envelope::{CarriedText, share_carried};
 use canvas_rewrite::Carried;
 use std::alloc::{AllocError, Global};
 use std::marker::Model;
@@ -25,8 +25,8 @@ pub struct ChordBody {
 impl Model for ChordBody {
     ghost use Rattle.std.specs.Prelude.{IfSome};
     ghost use Rattle.canvas_rewrite.specs.FrozenView.{PCarried};
-    ghost use Rattle.canvas_message.specs.MessageView.{carried_view};
-    ghost use Rattle.canvas_message.specs.SharedTexts.{SaysCarried};
+    ghost use Rattle.canvas_envelope.specs.MessageView.{carried_view};
+    ghost use Rattle.canvas_envelope.specs.SharedTexts.{SaysCarried};
     ghost use Rattle.canvas_effects.specs.Carrying.{carrying_place};
     ghost use Rattle.canvas_effects.specs.codes.PlaceCode.{carried_code};
 

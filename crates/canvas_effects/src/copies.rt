@@ -3,10 +3,10 @@
 ghost use Rattle.std.specs.Prelude.{◌≡◌, IfOk, map};
 ghost use Rattle.canvas_rewrite.specs.FrozenView.{p_task_view, p_line_view, p_end_view};
 ghost use Rattle.canvas_rewrite.specs.declared.frozen.FrozenTask.{out-FrozenTask};
-ghost use Rattle.canvas_message.specs.MessageView.{place_seen, place_view};
+ghost use Rattle.canvas_envelope.specs.MessageView.{place_seen, place_view};
 ghost use Rattle.canvas_effects.specs.steps.Walks.{at_place};
 
-use canvas_message::share_carried;
+use canvas_envelope::share_carried;
 use canvas_rewrite::{FrozenEnd, FrozenLine, FrozenTask, Place};
 use canvas_task::{Arg, ListOf, MapOf, TextOf, copy_args, copy_kwargs};
 use std::alloc::{AllocError, Global};

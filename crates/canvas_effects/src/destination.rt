@@ -1,11 +1,11 @@
 //! Where the end of a line goes, with the text of what the place carries.
 
 ghost use Rattle.std.specs.Prelude.{◌≡◌, IfOk, IfSome};
-ghost use Rattle.canvas_message.specs.MessageView.{place_view};
-ghost use Rattle.canvas_message.specs.SharedTexts.{SaysCarried, inner_place};
+ghost use Rattle.canvas_envelope.specs.MessageView.{place_view};
+ghost use Rattle.canvas_envelope.specs.SharedTexts.{SaysCarried, inner_place};
 
 use crate::copies::share_place;
-use canvas_message::{CarriedText, share_text};
+use canvas_envelope::{CarriedText, share_text};
 use canvas_rewrite::Place;
 use canvas_writing::carried_text;
 use std::alloc::{AllocError, Global};
@@ -22,8 +22,8 @@ pub(crate) struct Destination {
 impl Model for Destination {
     ghost use Rattle.std.specs.Prelude.{IfSome};
     ghost use Rattle.canvas_semantics.specs.PlacedLine.{PPlace};
-    ghost use Rattle.canvas_message.specs.MessageView.{place_view};
-    ghost use Rattle.canvas_message.specs.SharedTexts.{SaysCarried};
+    ghost use Rattle.canvas_envelope.specs.MessageView.{place_view};
+    ghost use Rattle.canvas_envelope.specs.SharedTexts.{SaysCarried};
     ghost use Rattle.canvas_effects.specs.codes.PlaceCode.{place_code};
 
     ghost Value = { PPlace };

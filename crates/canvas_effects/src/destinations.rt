@@ -1,13 +1,13 @@
 //! Where the end of a line goes, if it goes anywhere.
 
 ghost use Rattle.std.specs.Prelude.{◌≡◌, IfOk, IfSome};
-ghost use Rattle.canvas_message.specs.MessageView.{place_seen};
-ghost use Rattle.canvas_message.specs.SharedTexts.{SaysCarried};
+ghost use Rattle.canvas_envelope.specs.MessageView.{place_seen};
+ghost use Rattle.canvas_envelope.specs.SharedTexts.{SaysCarried};
 ghost use Rattle.canvas_rewrite.specs.FrozenView.{place_or};
 
 use crate::copies::share_place;
 use crate::destination::Destination;
-use canvas_message::CarriedText;
+use canvas_envelope::CarriedText;
 use canvas_rewrite::Place;
 use std::alloc::AllocError;
 use std::sync::Arc;

@@ -4,7 +4,7 @@ ghost use Rattle.std.specs.Prelude.{◌≡◌, IfOk, map};
 ghost use Rattle.canvas_rewrite.specs.FrozenView.{p_steps, p_task_view, p_line_view, p_end_view};
 ghost use Rattle.canvas_semantics.specs.PlacedLine.{p_stop};
 ghost use Rattle.canvas_effects.specs.Placing.{placed};
-ghost use Rattle.canvas_message.specs.MessageView.{place_seen, rest_seen};
+ghost use Rattle.canvas_envelope.specs.MessageView.{place_seen, rest_seen};
 ghost use Rattle.canvas_effects.specs.steps.Walks.{at_place};
 
 use canvas_rewrite::{FrozenEnd, FrozenLine, FrozenTask, Place};

@@ -3,9 +3,9 @@
 ghost use Rattle.std.specs.Prelude.{◌≡◌, true};
 ghost use Rattle.canvas_effects.specs.Carrying.{carried_ok};
 ghost use Rattle.canvas_effects.specs.codes.KnownText.{SaysBody, known_prop};
-ghost use Rattle.canvas_message.specs.MessageView.{carried_view};
+ghost use Rattle.canvas_envelope.specs.MessageView.{carried_view};
 
-use canvas_message::{CarriedText, Message};
+use canvas_envelope::{CarriedText, Message};
 use canvas_rewrite::Carried;
 use canvas_task::{GroupNo, ListOf, Outcome, TaskNo};
 use std::sync::Arc;

@@ -16,8 +16,8 @@ use Rattle.canvas_semantics.specs.States.{states, numbers_from}
 use Rattle.canvas_values.specs.CanvasText.{json_of}
 use Rattle.canvas_values.specs.Fields.{field}
 use Rattle.canvas_history.specs.Lists.{In, by, total}
-use Rattle.canvas_message.specs.FrozenGrammar.{task_of}
-use Rattle.canvas_message.specs.declared.envelope.Envelope.{Envelope}
+use Rattle.canvas_envelope.specs.FrozenGrammar.{task_of}
+use Rattle.canvas_envelope.specs.declared.envelope.Envelope.{Envelope}
 use Rattle.canvas_history.specs.Table as table
 use Rattle.canvas_history.specs.TableLaws.{IsCompleting}
 use Rattle.canvas_history.specs.Roster.{roster_of}

@@ -11,8 +11,8 @@ use Rattle.canvas_task.specs.Text.{Text}
 use Rattle.canvas_values.proofs.ComposedLemmas.{both}
 use Rattle.canvas_semantics.specs.Line.{in_group}
 use Rattle.canvas_semantics.specs.PlacedLine.{PLine, p_stop, p_step, p_group_end, p_chord_end, PLines, no_p_lines, and_p_line, strip}
-use Rattle.canvas_message.specs.Content.{Content}
-use Rattle.canvas_message.specs.Fits.{is_task_number, how_many, line_ok, members_ok}
+use Rattle.canvas_envelope.specs.Content.{Content}
+use Rattle.canvas_envelope.specs.Fits.{is_task_number, how_many, line_ok, members_ok}
 use Rattle.canvas_codec.proofs.RoundTrip.{chord_parts}
 use Rattle.canvas_celery.specs.Run.{piece, run_group}
 use Rattle.canvas_celery.specs.Keys.{size_key}

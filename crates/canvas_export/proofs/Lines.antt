@@ -12,9 +12,9 @@ use Rattle.canvas_rewrite.specs.FrozenView.{p_lines_of, p_task_view, p_line_view
 use Rattle.canvas_rewrite.specs.declared.frozen.FrozenTask.{FrozenTask}
 use Rattle.canvas_rewrite.specs.declared.frozen.FrozenLine.{FrozenLine, out-FrozenLine}
 use Rattle.canvas_rewrite.specs.declared.frozen.FrozenEnd.{FrozenEnd, out-FrozenEnd}
-use Rattle.canvas_message.specs.Content.{call_of}
-use Rattle.canvas_message.specs.Wire.{list_or_null}
-use Rattle.canvas_message.specs.steps.Parts.{is_stop}
+use Rattle.canvas_envelope.specs.Content.{call_of}
+use Rattle.canvas_envelope.specs.Wire.{list_or_null}
+use Rattle.canvas_envelope.specs.steps.Parts.{is_stop}
 use Rattle.canvas_export.specs.Signatures.{Naming, Sig, task_sig, elements, members_wire, each_wire, behind, first_wire, carried_wire, member_wire}
 use Rattle.canvas_export.specs.steps.Elements.{call_front, sig_rest, sig_tokens, first_front, first_rest, each_tokens, task_sigs, tail_sigs}
 use Rattle.canvas_export.proofs.Sigs.{each-append, each_items, each_reversed, one_reversed, is_some, first_carried, first_then, first_last, task_carried, listed_back}

@@ -15,10 +15,10 @@ use Rattle.canvas_sig.proofs.CleanWire.{args_clean, kwargs_clean, all_above, arg
 use Rattle.canvas_sig.proofs.ReadsAgain.{text_read}
 use Rattle.canvas_semantics.specs.Tree.{Call}
 use Rattle.canvas_semantics.specs.PlacedLine.{PTask, p_task, PTasks, PPlace, p_nowhere, p_group, p_chord, PLine, p_stop, p_step, p_group_end, p_chord_end}
-use Rattle.canvas_message.specs.Content.{Content}
-use Rattle.canvas_message.specs.Fits.{parent_ok, fits}
-use Rattle.canvas_message.specs.FrozenGrammar.{levels}
-use Rattle.canvas_message.specs.Wire.{list_or_null}
+use Rattle.canvas_envelope.specs.Content.{Content}
+use Rattle.canvas_envelope.specs.Fits.{parent_ok, fits}
+use Rattle.canvas_envelope.specs.FrozenGrammar.{levels}
+use Rattle.canvas_envelope.specs.Wire.{list_or_null}
 use Rattle.canvas_codec.proofs.Wholes.{RestFits, Whole, as_content, whole_of}
 use Rattle.canvas_export.specs.Signatures.{Naming, task_id, group_id, index_wire, sig_wire, each_wire, tasks_wire, elements}
 use Rattle.canvas_export.specs.Envelope.{body_wire, parent_id, headers_wire, properties_wire, envelope_wire, message_text}

@@ -7,9 +7,9 @@ use Rattle.canvas_rewrite.specs.FrozenView.{p_steps, p_task_view, p_line_view, p
 use Rattle.canvas_rewrite.specs.declared.frozen.FrozenTask.{FrozenTask}
 use Rattle.canvas_rewrite.specs.declared.frozen.FrozenLine.{FrozenLine, out-FrozenLine}
 use Rattle.canvas_rewrite.specs.declared.frozen.FrozenEnd.{FrozenEnd, out-FrozenEnd}
-use Rattle.canvas_message.specs.steps.Parts.{is_stop}
-use Rattle.canvas_message.proofs.FitLemmas.{never_stops, end_stands}
-use Rattle.canvas_message.proofs.Seen.{line_none, line_some, end_none, end_some}
+use Rattle.canvas_envelope.specs.steps.Parts.{is_stop}
+use Rattle.canvas_envelope.proofs.FitLemmas.{never_stops, end_stands}
+use Rattle.canvas_envelope.proofs.Seen.{line_none, line_some, end_none, end_some}
 use Rattle.canvas_export.specs.steps.Elements.{has_more}
 
 step_more : (t : PTask) (l : PLine) → is_stop l ≡ false → has_more (p_step t l) ≡ true

@@ -16,7 +16,7 @@ use Rattle.canvas_values.specs.declared.fault.SigFault.{SigFault}
 use Rattle.canvas_values.proofs.FittingCalls.{ArgFits, ArgsFit, KwargsFit, CallFits}
 use Rattle.canvas_sig.proofs.RoundTrip.{arg_back}
 use Rattle.canvas_semantics.specs.Tree.{Call}
-use Rattle.canvas_message.specs.Fits.{is_task_number}
+use Rattle.canvas_envelope.specs.Fits.{is_task_number}
 use Rattle.canvas_codec.proofs.RoundTrip.{numbered}
 use Rattle.canvas_celery.specs.Run.{run_task, run_group}
 use Rattle.canvas_celery.proofs.Pieces.{in_run_seen}

@@ -8,8 +8,8 @@ use Rattle.canvas_semantics.specs.PlacedLine.{bare}
 use Rattle.canvas_semantics.proofs.Numbered.{count_elements}
 use Rattle.canvas_rewrite.specs.Planned.{IsPlan}
 use Rattle.canvas_rewrite.proofs.Members.{few_members}
-use Rattle.canvas_message.specs.Content.{Content}
-use Rattle.canvas_message.specs.Fits.{fits}
+use Rattle.canvas_envelope.specs.Content.{Content}
+use Rattle.canvas_envelope.specs.Fits.{fits}
 use Rattle.canvas_effects.specs.Carrying.{is_whole}
 use Rattle.canvas_effects.proofs.Standing.{whole_ok}
 use Rattle.canvas_export.specs.Envelope.{body_wire, message_text}

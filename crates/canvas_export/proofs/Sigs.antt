@@ -9,8 +9,8 @@ use Rattle.canvas_semantics.specs.PlacedLine.{PTask, p_task, PTasks, PPlace, p_n
 use Rattle.canvas_wire.specs.Writing.{tasks_member, chord_members, member_unless_empty}
 use Rattle.canvas_wire.specs.steps.Tokens.{data_tokens, rest_tokens, rest_members, front_tokens, flag_tokens, kwargs_tokens, kind_tokens, name_tokens, link_tokens, member_tokens, opening_tokens, closing_tokens}
 use Rattle.canvas_rewrite.specs.FrozenView.{p_tasks_of}
-use Rattle.canvas_message.specs.Content.{call_of}
-use Rattle.canvas_message.specs.Wire.{list_or_null}
+use Rattle.canvas_envelope.specs.Content.{call_of}
+use Rattle.canvas_envelope.specs.Wire.{list_or_null}
 use Rattle.canvas_writing.specs.steps.Tokens.{named_tokens, links_tokens, list_tokens}
 use Rattle.canvas_export.specs.Signatures.{Naming, task_id, Sig, sig_wire, each_wire, own_option, place_options, task_sig, tasks_wire, body_at, chord_sigs, elements, members_wire, behind, first_wire, carried_wire, member_wire, chain_wire}
 use Rattle.canvas_export.specs.steps.Elements as part

@@ -9,9 +9,9 @@ use Rattle.canvas_semantics.specs.PlacedLine.{PPlace, p_nowhere, p_group, p_chor
 use Rattle.canvas_rewrite.specs.declared.frozen.Carried.{Carried}
 use Rattle.canvas_rewrite.specs.declared.frozen.Place.{Place, out-Place}
 use Rattle.canvas_wire.specs.steps.Tokens.{Appends, data_tokens}
-use Rattle.canvas_message.specs.MessageView.{place_view}
+use Rattle.canvas_envelope.specs.MessageView.{place_view}
 use Rattle.canvas_writing.specs.steps.Tokens.{named_tokens}
-use Rattle.canvas_message.proofs.Seen.{group_place, chord_place}
+use Rattle.canvas_envelope.proofs.Seen.{group_place, chord_place}
 use Rattle.canvas_export.specs.Signatures.{Naming, task_id, group_id, index_wire}
 use Rattle.canvas_export.specs.Envelope.{place_headers, parent_id}
 use Rattle.canvas_export.specs.steps.Tokens.{header_place}

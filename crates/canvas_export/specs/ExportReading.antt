@@ -6,8 +6,8 @@ use Rattle.std.specs.Str.{bytes_eq}
 use Rattle.std.specs.Str.Parse.{digits_value}
 use Rattle.serde_json.specs.Data.{string}
 use Rattle.canvas_task.specs.Text.{Text}
-use Rattle.canvas_message.specs.Content.{Content}
-use Rattle.canvas_message.specs.Fits.{is_task_number}
+use Rattle.canvas_envelope.specs.Content.{Content}
+use Rattle.canvas_envelope.specs.Fits.{is_task_number}
 use Rattle.canvas_celery.specs.Run.{piece}
 use Rattle.canvas_export.specs.Reading.{◌>>=◌, read}
 use Rattle.canvas_export.specs.MessageReading.{group_number, read_message}

@@ -16,9 +16,9 @@ use Rattle.canvas_values.specs.declared.primitive.Primitive.{Primitive}
 use Rattle.canvas_values.specs.declared.primitive.Primitive.TheVariants as kind
 use Rattle.canvas_rewrite.specs.FrozenView.{p_tasks_of, p_lines_of}
 use Rattle.canvas_semantics.specs.PlacedLine.{PTask, p_task, no_p_tasks, PPlace, p_nowhere, p_group, p_chord, PLine, p_stop, p_step, p_group_end, p_chord_end}
-use Rattle.canvas_message.specs.Content.{Content}
-use Rattle.canvas_message.specs.FrozenGrammar.{is_chain, levels}
-use Rattle.canvas_message.specs.EnvelopeContent.{args_in, kwargs_in, embed_in}
+use Rattle.canvas_envelope.specs.Content.{Content}
+use Rattle.canvas_envelope.specs.FrozenGrammar.{is_chain, levels}
+use Rattle.canvas_envelope.specs.EnvelopeContent.{args_in, kwargs_in, embed_in}
 use Rattle.canvas_celery.specs.Run.{piece}
 use Rattle.canvas_export.specs.Signatures.{Naming}
 

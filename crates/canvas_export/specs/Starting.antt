@@ -1,7 +1,7 @@
 -- The chords whose headers start at once with a line, each with how many members it has.
 use Rattle.std.specs.Prelude.{ℕ, List, [], ◌∷◌, ◌++◌}
 use Rattle.canvas_semantics.specs.PlacedLine.{PLine, p_stop, p_step, p_group_end, p_chord_end, PLines, no_p_lines, and_p_line}
-use Rattle.canvas_message.specs.Fits.{how_many}
+use Rattle.canvas_envelope.specs.Fits.{how_many}
 
 -- an empty header starts the body at once
 abbrev pub chord_sizes : ℕ → (header : PLines) → (of_header of_body : List (ℕ × ℕ)) → List (ℕ × ℕ)

@@ -3,7 +3,7 @@
 ghost use Rattle.std.specs.Prelude.{◌≡◌, IfOk, OnOk, Some, codes, true};
 ghost use Rattle.serde_json.specs.Data.{string};
 ghost use Rattle.canvas_wire.specs.steps.Tokens.{Appends, data_tokens};
-ghost use Rattle.canvas_message.specs.Fits.{fits};
+ghost use Rattle.canvas_envelope.specs.Fits.{fits};
 ghost use Rattle.canvas_writing.specs.steps.Tokens.{named_tokens};
 ghost use Rattle.canvas_export.specs.Envelope.{delivery_wire, properties_wire, envelope_wire, message_text};
 ghost use Rattle.canvas_export.specs.MessageReading.{IsSound, read_message};
@@ -12,7 +12,7 @@ ghost use Rattle.canvas_export.specs.ExportView.{naming};
 
 use crate::write::{Names, body_of, write_headers, write_number, write_task_member, write_text};
 use base64::engine::general_purpose::STANDARD;
-use canvas_message::Message;
+use canvas_envelope::Message;
 use canvas_task::TaskNo;
 use json::Writer;
 use std::alloc::{AllocError, Global};

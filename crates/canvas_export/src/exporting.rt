@@ -23,7 +23,7 @@ use crate::starting::{Size, push_sizes};
 use crate::write::Names;
 use canvas_celery::Run;
 use canvas_effects::first_messages;
-use canvas_message::Message;
+use canvas_envelope::Message;
 use canvas_rewrite::Plan;
 use canvas_task::Memory;
 use std::alloc::{AllocError, Global};

@@ -3,7 +3,7 @@
 -- element and of the rest. These do, and histories are lists that are proved about by recursion.
 use Rattle.std.specs.Prelude.{ℕ, ◌+◌, eqb, cond, List, [], ◌∷◌}
 -- x is one of the elements
-pub use Rattle.canvas_message.specs.Among.{In}
+pub use Rattle.canvas_envelope.specs.Among.{In}
 
 -- P of each element
 abbrev pub Each : {X : Type 0} → (X → Type 0) → List X → Type 0

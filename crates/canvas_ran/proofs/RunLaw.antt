@@ -16,7 +16,7 @@ use Rattle.canvas_rewrite.specs.FrozenView.{PCarried}
 use Rattle.canvas_rewrite.specs.Planned.{IsPlan}
 use Rattle.canvas_rewrite.proofs.InOrder.{plan_in_order}
 use Rattle.canvas_history.specs.Lists.{In}
-use Rattle.canvas_message.specs.Content.{Content, number_of}
+use Rattle.canvas_envelope.specs.Content.{Content, number_of}
 use Rattle.canvas_effects.specs.Effects as effects
 use Rattle.canvas_effects.specs.Effects.{part_of, header_flow}
 use Rattle.canvas_effects.specs.Events.{Event, start, end_of_line, EventJobs, labelled, flow_outcome, group_flow, header_place, body_event, chosen, input_of_success, outcome_with, out, outs, ran, ran_all, events_in_file, items_all, evaluated}

@@ -7,7 +7,7 @@ ghost use Rattle.serde_json.specs.Written.{compact_text};
 ghost use Rattle.canvas_report.specs.MessageLines.{text_wire, message_wire};
 
 use crate::text::put;
-use canvas_message::Envelope;
+use canvas_envelope::Envelope;
 use serde_json::Value;
 use std::alloc::{AllocError, Global};
 use std::str;

@@ -3,7 +3,7 @@
 use mathlib.Core.Logic.{inl, inr}
 use Rattle.std.specs.Prelude.{ℕ, List, [], ◌∷◌, ◌⊎◌}
 use Rattle.canvas_history.specs.History.{calls}
-use Rattle.canvas_message.specs.declared.envelope.Envelope.{Envelope}
+use Rattle.canvas_envelope.specs.declared.envelope.Envelope.{Envelope}
 use Rattle.canvas_history.specs.Queue.{QueueEntry, publish}
 use Rattle.canvas_runs.specs.Calls.{TableAnswered}
 

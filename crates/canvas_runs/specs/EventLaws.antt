@@ -7,7 +7,7 @@ use Rattle.canvas_task.specs.declared.outcome.Fault.{Fault}
 use Rattle.canvas_task.specs.declared.outcome.Outcome.{Outcome}
 use Rattle.canvas_task.specs.declared.outcome.Outcome.TheVariants.{Failure}
 use Rattle.canvas_semantics.specs.Line.{Line}
-use Rattle.canvas_message.specs.Content.{Content, number_of}
+use Rattle.canvas_envelope.specs.Content.{Content, number_of}
 use Rattle.canvas_effects.specs.Effects.{outcome_of}
 use Rattle.canvas_effects.specs.Events.{Event, running, DoesIn}
 use Rattle.canvas_effects.specs.Job.{store}

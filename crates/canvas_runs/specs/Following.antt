@@ -7,7 +7,7 @@
 --                            protocol X, and it is v then
 use Rattle.std.specs.Prelude.{◌+◌, ◌≡◌, List, [], ◌∷◌, length, Option, None}
 use Rattle.canvas_history.specs.History.{calls}
-use Rattle.canvas_message.specs.declared.envelope.Envelope.{Envelope}
+use Rattle.canvas_envelope.specs.declared.envelope.Envelope.{Envelope}
 use Rattle.canvas_history.specs.Seats as seats
 use Rattle.canvas_history.specs.Roster.{Roster}
 use Rattle.canvas_history.specs.Passes as passes

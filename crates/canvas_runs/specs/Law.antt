@@ -11,11 +11,11 @@ use Rattle.canvas_history.specs.History.{calls}
 use Rattle.canvas_semantics.specs.Evaluation.{State, state_of, eval, nothing}
 use Rattle.canvas_semantics.specs.Line.{Line, tree_of}
 use Rattle.canvas_rewrite.specs.FrozenView.{PCarried}
-use Rattle.canvas_message.specs.Content.{Content, number_of}
+use Rattle.canvas_envelope.specs.Content.{Content, number_of}
 use Rattle.canvas_history.specs.Lists.{In, total, seconds}
 use Rattle.canvas_effects.specs.Events.{Event, DoesIn}
 use Rattle.canvas_effects.specs.Job.{publish, part}
-use Rattle.canvas_message.specs.declared.envelope.Envelope.{Envelope}
+use Rattle.canvas_envelope.specs.declared.envelope.Envelope.{Envelope}
 use Rattle.canvas_history.specs.declared.stored.Stored.TheVariants.{First, Again}
 use Rattle.canvas_history.specs.declared.stored.Stored.{Stored}
 use Rattle.canvas_history.specs.Table as table

@@ -22,8 +22,8 @@ use Rattle.canvas_semantics.specs.Line.{Line, count_line}
 use Rattle.canvas_rewrite.specs.FrozenView.{PCarried}
 use Rattle.canvas_rewrite.specs.Planned.{IsPlan}
 use Rattle.canvas_rewrite.specs.Utf8.{IsUtf8Line}
-use Rattle.canvas_message.specs.Content.{Content}
-use Rattle.canvas_message.specs.declared.envelope.Envelope.{Envelope}
+use Rattle.canvas_envelope.specs.Content.{Content}
+use Rattle.canvas_envelope.specs.declared.envelope.Envelope.{Envelope}
 use Rattle.canvas_history.specs.Queue as queue
 use Rattle.canvas_runs.specs.Calls.{QueueAnswered, AskedAndAnswered, broker_calls, core_calls, backend_calls, takes_one}
 use Rattle.canvas_runs.specs.Core.{CoreState, taking, over, failed, left_after, Between}

@@ -3,7 +3,7 @@
 
 use crate::envelopes::{BODY, HEADERS, PLAIN, PROPERTIES, envelope};
 use canvas_codec::{decode, encode};
-use canvas_message::{Envelope, Message, MessageFault};
+use canvas_envelope::{Envelope, Message, MessageFault};
 use std::alloc::Global;
 
 const NOTHING: &str = r#"{"callbacks":null,"chain":null,"chord":null,"errbacks":null}"#;

@@ -3,7 +3,7 @@
 use crate::samples::frozen_texts::bytes_of;
 use crate::tables::{Spot, first_wrong};
 use canvas_codec::decode;
-use canvas_message::{Envelope, Message, MessageFault};
+use canvas_envelope::{Envelope, Message, MessageFault};
 use canvas_task::{ListOf, TaskNo};
 use std::alloc::{AllocError, Global};
 

@@ -10,7 +10,7 @@ use crate::envelopes::read;
 use crate::forged_tables::{BODIES, ENDS};
 use crate::samples::frozen_texts::filled;
 use canvas_effects::{PartCall, Todo, after, body_after, into_todo};
-use canvas_message::Message;
+use canvas_envelope::Message;
 use canvas_rewrite::{FrozenLine, Place};
 use canvas_task::{Arg, Fault, Kind, Outcome, TaskNo, Why};
 use std::alloc::{AllocError, Global};

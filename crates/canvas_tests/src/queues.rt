@@ -3,7 +3,7 @@
 ghost use Rattle.std.specs.Prelude.{◌≡◌};
 
 use canvas_broker::{Batch, Broker, BrokerPass, PlainBroker};
-use canvas_message::{Envelope, Letter};
+use canvas_envelope::{Envelope, Letter};
 use canvas_task::ListOf;
 use std::alloc::Global;
 use std::sync::Wait;

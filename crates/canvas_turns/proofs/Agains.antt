@@ -5,9 +5,9 @@ use Rattle.std.proofs.lemmas.Nat.{mul-le}
 use Rattle.canvas_task.specs.Apply.{Behaviour}
 use Rattle.canvas_semantics.specs.Line.{Line}
 use Rattle.canvas_rewrite.specs.Planned.{IsPlan}
-use Rattle.canvas_message.specs.Content.{Content, number_of}
+use Rattle.canvas_envelope.specs.Content.{Content, number_of}
 use Rattle.canvas_history.specs.Lists.{In, Each, total, seconds}
-use Rattle.canvas_message.specs.declared.envelope.Envelope.{Envelope}
+use Rattle.canvas_envelope.specs.declared.envelope.Envelope.{Envelope}
 use Rattle.canvas_history.specs.declared.stored.Stored.TheVariants.{Again}
 use Rattle.canvas_history.specs.Table as table
 use Rattle.canvas_history.specs.Queue as queue

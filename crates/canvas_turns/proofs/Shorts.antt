@@ -1,7 +1,7 @@
 -- Asks and answers by short names, for runs that are written out.
 use Rattle.std.proofs.Common.{ℕ, Option, None}
 use Rattle.canvas_task.specs.declared.outcome.Outcome.{Outcome}
-use Rattle.canvas_message.specs.declared.envelope.Envelope.{Envelope}
+use Rattle.canvas_envelope.specs.declared.envelope.Envelope.{Envelope}
 use Rattle.canvas_history.specs.declared.stored.Stored.{Stored}
 use Rattle.canvas_history.specs.Table as table
 use Rattle.canvas_history.specs.Queue as queue

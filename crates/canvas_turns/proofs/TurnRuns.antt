@@ -5,7 +5,7 @@ use Rattle.canvas_history.specs.History.{calls, among, live, state_from, LegalFr
 use Rattle.canvas_history.proofs.Histories.{OnlyCalls, live_append, state_append, legal_append}
 use Rattle.canvas_semantics.specs.Line.{Line}
 use Rattle.canvas_effects.specs.Effects.{first_messages}
-use Rattle.canvas_message.specs.declared.envelope.Envelope.{Envelope}
+use Rattle.canvas_envelope.specs.declared.envelope.Envelope.{Envelope}
 use Rattle.canvas_history.specs.Table as table
 use Rattle.canvas_history.specs.Table.{Results, no_results, next_of, reply_of}
 use Rattle.canvas_history.specs.Roster.{roster_of}

@@ -10,7 +10,7 @@ use Rattle.canvas_task.specs.declared.outcome.Kind.TheVariants.{ZeroDivision}
 use Rattle.canvas_semantics.specs.Tree.{task, no_tasks, and_task}
 use Rattle.canvas_semantics.specs.Line.{Line, stop, step}
 use Rattle.canvas_semantics.specs.PlacedLine.{p_task, no_p_tasks, and_p_task, p_nowhere, p_stop, p_step}
-use Rattle.canvas_message.specs.Content.{Content}
+use Rattle.canvas_envelope.specs.Content.{Content}
 use Rattle.canvas_history.specs.declared.stored.Stored.TheVariants.{First, Again}
 use Rattle.canvas_history.specs.Table.{store, was}
 use Rattle.canvas_history.specs.Queue.{publish, take}

@@ -13,8 +13,8 @@ use Rattle.canvas_task.specs.Apply.{Behaviour}
 use Rattle.canvas_semantics.specs.Line.{Line}
 use Rattle.canvas_rewrite.specs.FrozenView.{PCarried}
 use Rattle.canvas_rewrite.specs.Planned.{IsPlan}
-use Rattle.canvas_message.specs.Content.{Content, number_of}
-use Rattle.canvas_message.specs.declared.envelope.Envelope.{Envelope}
+use Rattle.canvas_envelope.specs.Content.{Content, number_of}
+use Rattle.canvas_envelope.specs.declared.envelope.Envelope.{Envelope}
 use Rattle.canvas_history.specs.declared.stored.Stored.TheVariants.{Again}
 use Rattle.canvas_history.specs.Table.{store, was}
 use Rattle.canvas_runs.specs.declared.when.When.{When}

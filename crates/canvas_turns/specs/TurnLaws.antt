@@ -7,7 +7,7 @@ use Rattle.canvas_semantics.specs.Line.{Line, count_line, tree_of}
 use Rattle.canvas_rewrite.specs.Planned.{IsPlan}
 use Rattle.canvas_semantics.specs.States.{states, numbers_from}
 use Rattle.canvas_effects.specs.Effects.{first_messages}
-use Rattle.canvas_message.specs.declared.envelope.Envelope.{Envelope}
+use Rattle.canvas_envelope.specs.declared.envelope.Envelope.{Envelope}
 use Rattle.canvas_history.specs.Table.{store, part, read, results}
 use Rattle.canvas_history.specs.Roster.{Roster, roster_of, is_chord, is_member}
 use Rattle.canvas_history.specs.Queue.{queue_of}

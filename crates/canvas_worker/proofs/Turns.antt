@@ -2,7 +2,7 @@
 use Rattle.std.proofs.Common.{◌≡◌, ◌∙◌, ℕ, ◌+◌, ◌≤◌, min, [], ◌∷◌, Option, Some, None, Result, Ok, Err, refl, sym, arith}
 use Rattle.std.specs.Prelude.{MatchResult}
 use Rattle.canvas_task.specs.Apply.{Behaviour}
-use Rattle.canvas_message.specs.declared.envelope.Envelope.{Envelope}
+use Rattle.canvas_envelope.specs.declared.envelope.Envelope.{Envelope}
 use Rattle.canvas_history.specs.Roster.{Roster}
 use Rattle.canvas_runs.specs.Calls.{QueueAnswered, TableAnswered, takes_one, broker_calls, backend_calls}
 use Rattle.canvas_history.specs.Lists.{total}

@@ -4,7 +4,7 @@ use Rattle.canvas_task.specs.Apply.{Behaviour}
 use Rattle.canvas_history.specs.Passes.{QueueId, Stands, Empties}
 use Rattle.canvas_semantics.specs.Line.{Line}
 use Rattle.canvas_rewrite.specs.Planned.{IsPlan}
-use Rattle.canvas_message.specs.declared.envelope.Envelope.{Envelope}
+use Rattle.canvas_envelope.specs.declared.envelope.Envelope.{Envelope}
 use Rattle.canvas_history.specs.Seats.{Desk}
 use Rattle.canvas_history.specs.Roster.{Roster, roster_of}
 use Rattle.canvas_history.specs.Queue.{redeliver, HasTaken}

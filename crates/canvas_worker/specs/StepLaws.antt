@@ -2,7 +2,7 @@
 -- is followed.
 use Rattle.std.specs.Prelude.{◌≡◌, List, [], Option, Some}
 use Rattle.canvas_task.specs.Apply.{Behaviour}
-use Rattle.canvas_message.specs.declared.envelope.Envelope.{Envelope}
+use Rattle.canvas_envelope.specs.declared.envelope.Envelope.{Envelope}
 use Rattle.canvas_history.specs.Roster.{Roster}
 use Rattle.canvas_history.specs.Callers.{told}
 use Rattle.canvas_history.specs.History.{calls}

@@ -8,7 +8,7 @@ ghost use Rattle.canvas_history.specs.Passes.{Stands, CouldStand, Took, Empties}
 
 use crate::in_flight::Counted;
 use canvas_broker::{Batch, Broker, BrokerPass, Refused};
-use canvas_message::Letter;
+use canvas_envelope::Letter;
 use std::sync::Wait;
 
 /// The queue of a run, for which an envelope has to be counted before it is published or delivered

@@ -4,7 +4,7 @@ ghost use Rattle.std.specs.Prelude.{◌≡◌, [], ◌∷◌, Some, MatchOption}
 ghost use Rattle.canvas_worker.specs.steps.Held.{held_in};
 
 use canvas_broker::Batch;
-use canvas_message::Letter;
+use canvas_envelope::Letter;
 
 /// A worker takes one by one until it is given its first envelope, so that no worker holds back
 /// what another could begin with. From then on it takes batches, and one alone behind a batch of

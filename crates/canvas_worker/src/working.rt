@@ -17,7 +17,7 @@ use crate::source::Source;
 use crate::{Cause, Core, Gate, InFlight, Record, Reply, Shared, Stop};
 use canvas_backend::{Backend, BackendSeat};
 use canvas_broker::BrokerPass;
-use canvas_message::Letter;
+use canvas_envelope::Letter;
 use canvas_runs::When;
 use canvas_task::{Memory, Tasks};
 use std::alloc::Global;
@@ -65,7 +65,7 @@ pub(crate) struct Working<'a, R: Wait> {
 
 impl<'a, R: Wait> Model for Working<'a, R> {
     ghost use Rattle.std.specs.Coded.{codes};
-    ghost use Rattle.canvas_message.specs.codes.ContentCode.{content_code};
+    ghost use Rattle.canvas_envelope.specs.codes.ContentCode.{content_code};
     ghost use Rattle.canvas_core.specs.codes.CoreCode.{carried_code};
     ghost use Rattle.canvas_worker.specs.steps.Held.{held_in};
     ghost use Rattle.canvas_worker.specs.Polls.{Work};

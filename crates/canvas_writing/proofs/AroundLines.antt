@@ -10,12 +10,12 @@ use Rattle.canvas_rewrite.specs.FrozenView.{p_steps, p_task_view, p_line_view, p
 use Rattle.canvas_rewrite.specs.declared.frozen.FrozenTask.{FrozenTask, out-FrozenTask}
 use Rattle.canvas_rewrite.specs.declared.frozen.FrozenLine.{FrozenLine, out-FrozenLine}
 use Rattle.canvas_rewrite.specs.declared.frozen.FrozenEnd.{FrozenEnd, out-FrozenEnd}
-use Rattle.canvas_message.specs.Content.{place_of}
-use Rattle.canvas_message.specs.MessageView.{place_seen}
-use Rattle.canvas_message.specs.Wire.{members_wire}
-use Rattle.canvas_message.specs.steps.Parts.{is_stop}
-use Rattle.canvas_message.proofs.FitLemmas.{end_stands, never_stops}
-use Rattle.canvas_message.proofs.Seen.{task_seen, line_none, line_some, line_last, line_empty, end_none, end_some}
+use Rattle.canvas_envelope.specs.Content.{place_of}
+use Rattle.canvas_envelope.specs.MessageView.{place_seen}
+use Rattle.canvas_envelope.specs.Wire.{members_wire}
+use Rattle.canvas_envelope.specs.steps.Parts.{is_stop}
+use Rattle.canvas_envelope.proofs.FitLemmas.{end_stands, never_stops}
+use Rattle.canvas_envelope.proofs.Seen.{task_seen, line_none, line_some, line_last, line_empty, end_none, end_some}
 use Rattle.canvas_writing.specs.steps.Around.{is_carrying, carries, front_tasks, task_before, line_before, last_before, line_behind, last_behind}
 use Rattle.canvas_writing.specs.steps.Tokens.{task_behind, chain_before, chain_behind, list_tokens, group_closing, members_of_end, group_of_end, opening_tokens}
 

@@ -7,10 +7,10 @@ use Rattle.serde_json.specs.Data.{Data, string}
 use Rattle.serde_json.specs.Written.{compact_text}
 use Rattle.canvas_wire.specs.steps.Tokens.{data_tokens, rest_tokens, closing_tokens}
 use Rattle.canvas_semantics.specs.PlacedLine.{PTask, p_task, PPlace, p_nowhere, p_group, p_chord, PLine, p_stop, p_step, p_group_end, p_chord_end, PLines}
-use Rattle.canvas_message.specs.Content.{end_place, place_of}
-use Rattle.canvas_message.specs.SharedTexts.{SaysText, SaysRinged, ringed}
-use Rattle.canvas_message.specs.Wire.{chain_wire, chord_wire, task_wire, carried_wire, line_wire, elements_wire, members_wire}
-use Rattle.canvas_message.specs.steps.Parts.{is_stop}
+use Rattle.canvas_envelope.specs.Content.{end_place, place_of}
+use Rattle.canvas_envelope.specs.SharedTexts.{SaysText, SaysRinged, ringed}
+use Rattle.canvas_envelope.specs.Wire.{chain_wire, chord_wire, task_wire, carried_wire, line_wire, elements_wire, members_wire}
+use Rattle.canvas_envelope.specs.steps.Parts.{is_stop}
 use Rattle.canvas_writing.specs.steps.Around.{is_carrying, carries, front_tasks, last_wire, task_before, chord_before, line_before, last_before, chord_behind, line_behind, last_behind}
 use Rattle.canvas_writing.specs.steps.Tokens.{task_front, task_behind, opening_tokens, each_tokens, chain_before, chain_behind}
 use Rattle.canvas_writing.proofs.Holes.{after, after_both, starts, starts_both, text_around}

@@ -10,9 +10,9 @@ use Rattle.canvas_rewrite.specs.FrozenView.{p_tasks_of, p_task_view}
 use Rattle.canvas_rewrite.specs.declared.frozen.FrozenTask.{FrozenTask}
 use Rattle.canvas_rewrite.specs.declared.frozen.FrozenLine.{FrozenLine}
 use Rattle.canvas_rewrite.specs.declared.frozen.Place.{Place}
-use Rattle.canvas_message.specs.MessageView.{content, place_seen, rest_seen}
-use Rattle.canvas_message.specs.Wire.{tasks_wire, carried_wire, list_or_null, body_wire}
-use Rattle.canvas_message.specs.SharedTexts.{IsListed, backwards}
+use Rattle.canvas_envelope.specs.MessageView.{content, place_seen, rest_seen}
+use Rattle.canvas_envelope.specs.Wire.{tasks_wire, carried_wire, list_or_null, body_wire}
+use Rattle.canvas_envelope.specs.SharedTexts.{IsListed, backwards}
 use Rattle.canvas_writing.specs.steps.Texts.{embed_of, opening_text, behind_text, closing_text}
 use Rattle.canvas_writing.proofs.KnownTexts.{body_written}
 

@@ -7,12 +7,12 @@ use Rattle.canvas_semantics.specs.PlacedLine.{p_chord, PLine}
 use Rattle.canvas_rewrite.specs.FrozenView.{p_line_view}
 use Rattle.canvas_rewrite.specs.declared.frozen.Carried.{Carried, out-Carried}
 use Rattle.canvas_rewrite.specs.declared.frozen.Place.{Place, out-Place}
-use Rattle.canvas_message.specs.Content.{end_place}
-use Rattle.canvas_message.specs.MessageView.{place_view}
-use Rattle.canvas_message.specs.SharedTexts.{SaysCarried, SaysRinged, carried_bytes, core_of, rings_of}
-use Rattle.canvas_message.specs.Wire.{carried_wire, line_wire}
-use Rattle.canvas_message.specs.declared.carried_text.CarriedText.{CarriedText}
-use Rattle.canvas_message.proofs.Seen.{chord_place}
+use Rattle.canvas_envelope.specs.Content.{end_place}
+use Rattle.canvas_envelope.specs.MessageView.{place_view}
+use Rattle.canvas_envelope.specs.SharedTexts.{SaysCarried, SaysRinged, carried_bytes, core_of, rings_of}
+use Rattle.canvas_envelope.specs.Wire.{carried_wire, line_wire}
+use Rattle.canvas_envelope.specs.declared.carried_text.CarriedText.{CarriedText}
+use Rattle.canvas_envelope.proofs.Seen.{chord_place}
 use Rattle.canvas_writing.specs.steps.Around.{carries, line_before, line_behind}
 use Rattle.canvas_writing.proofs.AroundTexts.{says_all, body_around}
 

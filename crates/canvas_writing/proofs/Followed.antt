@@ -5,9 +5,9 @@ use Rattle.serde_json.specs.Data.{null}
 use Rattle.canvas_semantics.specs.Tree.{Call}
 use Rattle.canvas_semantics.specs.PlacedLine.{PTask, p_task, PTasks, PPlace, p_nowhere, p_group, p_chord, PLine, p_stop, p_step, p_group_end, p_chord_end}
 use Rattle.canvas_values.proofs.ComposedLemmas.{both}
-use Rattle.canvas_message.specs.Fits.{is_task_number, call_ok, parent_ok, task_ok, tasks_ok, place_ok, line_ok, line_reach, fits}
-use Rattle.canvas_message.specs.Wire.{carried_wire}
-use Rattle.canvas_message.specs.steps.Parts.{is_stop}
+use Rattle.canvas_envelope.specs.Fits.{is_task_number, call_ok, parent_ok, task_ok, tasks_ok, place_ok, line_ok, line_reach, fits}
+use Rattle.canvas_envelope.specs.Wire.{carried_wire}
+use Rattle.canvas_envelope.specs.steps.Parts.{is_stop}
 
 unplaced : (place : PPlace) → place_ok false place ≡ true → carried_wire place ≡ null
 unplaced p_nowhere ok = refl

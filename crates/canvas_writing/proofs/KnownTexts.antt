@@ -12,9 +12,9 @@ use Rattle.serde_json.specs.Written.{compact_text, items_text, number_text}
 use Rattle.uuid.specs.Text.{by_index, hex_digit, nibble, digit_place, is_hyphen_place, hyphen, lower, hyphenated_text}
 use Rattle.uuid.proofs.TextLemmas.{nibble_small}
 use Rattle.canvas_task.specs.Identifiers.{identifier, task_mark, group_mark, task_text, group_text}
-use Rattle.canvas_message.specs.Wire.{frozen_wire, task_id, group_id, place_id}
-use Rattle.canvas_message.specs.MessageView.{place_view, place_seen}
-use Rattle.canvas_message.proofs.Seen.{group_place, chord_place}
+use Rattle.canvas_envelope.specs.Wire.{frozen_wire, task_id, group_id, place_id}
+use Rattle.canvas_envelope.specs.MessageView.{place_view, place_seen}
+use Rattle.canvas_envelope.proofs.Seen.{group_place, chord_place}
 use Rattle.canvas_rewrite.specs.declared.frozen.Place.{Place, out-Place}
 use Rattle.canvas_rewrite.specs.declared.frozen.Carried.{Carried}
 use Rattle.canvas_writing.specs.steps.Texts.{Adds, properties_naming, headers_naming, front_text, origin_text, name_text, size_text, flag_text, call_text, own_text, embed_of, opening_text, behind_text}

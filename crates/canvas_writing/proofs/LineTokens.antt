@@ -10,13 +10,13 @@ use Rattle.canvas_rewrite.specs.FrozenView.{p_tasks_of, p_steps, p_task_view, p_
 use Rattle.canvas_rewrite.specs.declared.frozen.FrozenTask.{FrozenTask}
 use Rattle.canvas_rewrite.specs.declared.frozen.FrozenLine.{FrozenLine, out-FrozenLine}
 use Rattle.canvas_rewrite.specs.declared.frozen.FrozenEnd.{FrozenEnd, out-FrozenEnd}
-use Rattle.canvas_message.specs.steps.Parts.{is_stop}
-use Rattle.canvas_message.specs.SharedTexts.{backwards}
+use Rattle.canvas_envelope.specs.steps.Parts.{is_stop}
+use Rattle.canvas_envelope.specs.SharedTexts.{backwards}
 use Rattle.canvas_writing.specs.steps.Tokens.{opening_tokens, each_tokens, chain_before, chain_behind, tasks_of_line, tail_tokens}
 use Rattle.canvas_writing.proofs.TaskTokens.{chain_tokens}
-use Rattle.canvas_message.specs.Wire.{chain_wire, task_wire, line_wire, elements_wire, onto_reversed, tasks_wire, list_or_null}
-use Rattle.canvas_message.proofs.FitLemmas.{end_stands, never_stops}
-use Rattle.canvas_message.proofs.Seen.{line_none, line_some, end_none, end_some}
+use Rattle.canvas_envelope.specs.Wire.{chain_wire, task_wire, line_wire, elements_wire, onto_reversed, tasks_wire, list_or_null}
+use Rattle.canvas_envelope.proofs.FitLemmas.{end_stands, never_stops}
+use Rattle.canvas_envelope.proofs.Seen.{line_none, line_some, end_none, end_some}
 
 -- ---- elements
 

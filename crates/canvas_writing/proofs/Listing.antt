@@ -16,16 +16,16 @@ use Rattle.canvas_rewrite.specs.FrozenView.{p_steps, p_task_view, p_line_view, p
 use Rattle.canvas_rewrite.specs.declared.frozen.FrozenTask.{FrozenTask}
 use Rattle.canvas_rewrite.specs.declared.frozen.FrozenLine.{FrozenLine, out-FrozenLine}
 use Rattle.canvas_rewrite.specs.declared.frozen.FrozenEnd.{FrozenEnd, out-FrozenEnd}
-use Rattle.canvas_message.specs.Content.{end_place}
-use Rattle.canvas_message.specs.SharedTexts.{AreEnds, IsListed, SaysRinged, backwards, ringed}
-use Rattle.canvas_message.specs.Wire.{task_wire, line_wire, elements_wire, onto_reversed}
-use Rattle.canvas_message.specs.steps.Parts.{is_stop}
+use Rattle.canvas_envelope.specs.Content.{end_place}
+use Rattle.canvas_envelope.specs.SharedTexts.{AreEnds, IsListed, SaysRinged, backwards, ringed}
+use Rattle.canvas_envelope.specs.Wire.{task_wire, line_wire, elements_wire, onto_reversed}
+use Rattle.canvas_envelope.specs.steps.Parts.{is_stop}
 use Rattle.canvas_writing.specs.steps.Around.{carries, front_tasks, last_wire, last_before, last_behind}
 use Rattle.canvas_writing.specs.steps.Listing.{Listing, tail_line, last_line}
 use Rattle.canvas_writing.specs.steps.Tokens.{tasks_of_line, tail_tokens}
 use Rattle.canvas_writing.proofs.AroundTexts.{element_around}
 use Rattle.canvas_writing.proofs.LineTokens.{tasks_seen}
-use Rattle.canvas_message.proofs.Seen.{line_none, line_some, end_none, end_some}
+use Rattle.canvas_envelope.proofs.Seen.{line_none, line_some, end_none, end_some}
 
 -- ---- the text of items, without the brackets
 

@@ -6,14 +6,14 @@ use Rattle.std.specs.String.{string_len}
 use Rattle.std.proofs.lemmas.List.{reverse-append, take_all}
 use Rattle.std.proofs.lemmas.Str.{IsUtf8-append, IsUtf8-nil, IsUtf8-string_bytes}
 use Rattle.canvas_semantics.specs.PlacedLine.{PPlace, PLine, p_stop, p_step, p_group_end, p_chord_end}
-use Rattle.canvas_message.specs.Content.{end_place}
-use Rattle.canvas_message.specs.SharedTexts.{IsLineText, IsListed, backwards, carried_bytes, elements_head, elements_own, head_text, place_behind, ring_view, ringed}
-use Rattle.canvas_message.specs.declared.carried_text.CarriedText.{CarriedText}
-use Rattle.canvas_message.specs.declared.carried_text.Ring.{Ring}
-use Rattle.canvas_message.specs.declared.texts.ElementsText.{ElementsText}
-use Rattle.canvas_message.specs.declared.texts.Head.{Head}
-use Rattle.canvas_message.specs.declared.texts.LineText.{LineText}
-use Rattle.canvas_message.specs.steps.Parts.{is_stop}
+use Rattle.canvas_envelope.specs.Content.{end_place}
+use Rattle.canvas_envelope.specs.SharedTexts.{IsLineText, IsListed, backwards, carried_bytes, elements_head, elements_own, head_text, place_behind, ring_view, ringed}
+use Rattle.canvas_envelope.specs.declared.carried_text.CarriedText.{CarriedText}
+use Rattle.canvas_envelope.specs.declared.carried_text.Ring.{Ring}
+use Rattle.canvas_envelope.specs.declared.texts.ElementsText.{ElementsText}
+use Rattle.canvas_envelope.specs.declared.texts.Head.{Head}
+use Rattle.canvas_envelope.specs.declared.texts.LineText.{LineText}
+use Rattle.canvas_envelope.specs.steps.Parts.{is_stop}
 
 ringed_utf8 : (rs : List Ring) (core : String Global) → IsUtf8 (ringed (map ring_view rs) (string_bytes core))
 ringed_utf8 [] core = IsUtf8-string_bytes core

@@ -16,10 +16,10 @@ use Rattle.canvas_rewrite.specs.declared.frozen.FrozenEnd.{FrozenEnd, out-Frozen
 use Rattle.canvas_rewrite.specs.declared.frozen.Place.{Place, out-Place}
 use Rattle.canvas_rewrite.specs.declared.frozen.Carried.{Carried, out-Carried}
 use Rattle.canvas_writing.specs.steps.Tokens.{members_of_end, group_of_end, size_tokens, start_tokens, call_tokens, unless_null, links_tokens, task_front, task_behind, opening_tokens, group_closing, list_tokens, named_tokens}
-use Rattle.canvas_message.specs.Content.{place_of}
-use Rattle.canvas_message.specs.MessageView.{place_view, place_seen}
-use Rattle.canvas_message.specs.Wire.{group_options, task_id, group_id, place_id, member_unless_null, frozen_wire, task_options, chain_wire, group_wire, chord_wire, task_wire, tasks_wire, carried_wire, line_wire, members_wire}
-use Rattle.canvas_message.proofs.Seen.{task_seen, group_place, chord_place, end_none, end_some}
+use Rattle.canvas_envelope.specs.Content.{place_of}
+use Rattle.canvas_envelope.specs.MessageView.{place_view, place_seen}
+use Rattle.canvas_envelope.specs.Wire.{group_options, task_id, group_id, place_id, member_unless_null, frozen_wire, task_options, chain_wire, group_wire, chord_wire, task_wire, tasks_wire, carried_wire, line_wire, members_wire}
+use Rattle.canvas_envelope.proofs.Seen.{task_seen, group_place, chord_place, end_none, end_some}
 
 -- ---- options
 

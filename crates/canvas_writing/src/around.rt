@@ -5,7 +5,7 @@ ghost use Rattle.std.specs.Prelude.{◌≡◌, None, map};
 ghost use Rattle.canvas_wire.specs.steps.Tokens.{Appends};
 ghost use Rattle.canvas_semantics.specs.PlacedLine.{p_stop};
 ghost use Rattle.canvas_rewrite.specs.FrozenView.{p_steps, p_task_view, p_line_view, p_end_view};
-ghost use Rattle.canvas_message.specs.MessageView.{place_seen};
+ghost use Rattle.canvas_envelope.specs.MessageView.{place_seen};
 ghost use Rattle.canvas_writing.specs.steps.Around.{carries, is_carrying, task_before, line_before, last_before, line_behind, last_behind};
 
 use crate::frozen::{write_chain_before, write_rest, write_task_behind};

@@ -6,11 +6,11 @@ ghost use Rattle.json.specs.Print.{print};
 ghost use Rattle.serde_json.specs.Written.{compact_text};
 ghost use Rattle.canvas_rewrite.specs.declared.frozen.Carried.{out-Carried};
 ghost use Rattle.canvas_rewrite.specs.FrozenView.{p_line_view};
-ghost use Rattle.canvas_message.specs.MessageView.{place_view};
+ghost use Rattle.canvas_envelope.specs.MessageView.{place_view};
 ghost use Rattle.canvas_semantics.specs.PlacedLine.{p_chord};
-ghost use Rattle.canvas_message.specs.Content.{end_place};
-ghost use Rattle.canvas_message.specs.SharedTexts.{SaysCarried, inner_place};
-ghost use Rattle.canvas_message.specs.Wire.{line_wire, task_wire};
+ghost use Rattle.canvas_envelope.specs.Content.{end_place};
+ghost use Rattle.canvas_envelope.specs.SharedTexts.{SaysCarried, inner_place};
+ghost use Rattle.canvas_envelope.specs.Wire.{line_wire, task_wire};
 ghost use Rattle.canvas_writing.specs.steps.Around.{carries, line_before, line_behind};
 ghost use Rattle.canvas_writing.specs.steps.Texts.{bare};
 
@@ -18,7 +18,7 @@ use crate::around::{carries, write_line_before, write_line_behind};
 use crate::frozen::write_line;
 use crate::light::{bare_task, put_task};
 use crate::room::{line_room, tasks_room};
-use canvas_message::CarriedText;
+use canvas_envelope::CarriedText;
 use canvas_rewrite::{Carried, FrozenLine, FrozenTask, Place};
 use json::Writer;
 use std::alloc::{AllocError, Global};
@@ -118,8 +118,8 @@ pub(crate) fn body_text(
 }
 
 /// The text of the body that a place carries, where it carries one. Members whose messages hold it
-/// (`Texts` of `canvas_message`) share it. `inner` is the text of the body that the end of this one
-/// carries, where it is known: the two share it.
+/// (`Texts` of `canvas_envelope`) share it. `inner` is the text of the body that the end of this
+/// one carries, where it is known: the two share it.
 pub fn carried_text(
     alloc: Global,
     place: &Place,

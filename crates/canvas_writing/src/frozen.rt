@@ -4,8 +4,8 @@ ghost use Rattle.std.specs.Prelude.{◌++◌, None, codes, map};
 ghost use Rattle.canvas_wire.specs.steps.Tokens.{Appends, data_tokens, rest_tokens, link_tokens};
 ghost use Rattle.canvas_rewrite.specs.FrozenView.{p_tasks_of, p_task_view, p_line_view, p_end_view};
 ghost use Rattle.canvas_writing.specs.steps.Tokens.{unless_null, task_behind, chain_before, members_of_end, group_of_end, list_tokens, tail_tokens, group_closing};
-ghost use Rattle.canvas_message.specs.MessageView.{place_seen};
-ghost use Rattle.canvas_message.specs.Wire.{task_wire, tasks_wire, carried_wire, line_wire, members_wire};
+ghost use Rattle.canvas_envelope.specs.MessageView.{place_seen};
+ghost use Rattle.canvas_envelope.specs.Wire.{task_wire, tasks_wire, carried_wire, line_wire, members_wire};
 ghost use Rattle.serde_json.specs.Data.{string};
 
 use crate::pieces::{

@@ -11,13 +11,13 @@ ghost use Rattle.canvas_task.specs.Entries.{named};
 ghost use Rattle.canvas_semantics.specs.PlacedLine.{p_step, p_stop};
 ghost use Rattle.canvas_rewrite.specs.declared.frozen.FrozenTask.{out-FrozenTask};
 ghost use Rattle.canvas_rewrite.specs.FrozenView.{p_task_view, p_line_view};
-ghost use Rattle.canvas_message.specs.Content.{number_of};
-ghost use Rattle.canvas_message.specs.MessageView.{place_seen};
-ghost use Rattle.canvas_message.specs.Wire.{task_id, place_id, parent_id, task_wire, headers_wire};
+ghost use Rattle.canvas_envelope.specs.Content.{number_of};
+ghost use Rattle.canvas_envelope.specs.MessageView.{place_seen};
+ghost use Rattle.canvas_envelope.specs.Wire.{task_id, place_id, parent_id, task_wire, headers_wire};
 ghost use Rattle.canvas_writing.specs.steps.Texts.{Adds, properties_naming, front_text, origin_text, name_text, bare, size_text, flag_text, call_text, own_text, args_text};
 
 use crate::text::{put, put_args, put_group_text, put_kwargs, put_size, put_string, put_task_text};
-use canvas_message::Message;
+use canvas_envelope::Message;
 use canvas_rewrite::{FrozenLine, FrozenTask, Place};
 use canvas_task::{Arg, TaskNo};
 use std::alloc::{AllocError, Global};

@@ -6,15 +6,15 @@ ghost use Rattle.json.specs.Print.{print};
 ghost use Rattle.serde_json.specs.Written.{comma_if};
 ghost use Rattle.canvas_semantics.specs.PlacedLine.{PLine, p_step};
 ghost use Rattle.canvas_rewrite.specs.FrozenView.{p_steps, p_task_view, p_line_view};
-ghost use Rattle.canvas_message.specs.Content.{end_place};
-ghost use Rattle.canvas_message.specs.SharedTexts.{IsLineText, IsListed, SaysCarried, backwards, elements_head, elements_own, head_text};
+ghost use Rattle.canvas_envelope.specs.Content.{end_place};
+ghost use Rattle.canvas_envelope.specs.SharedTexts.{IsLineText, IsListed, SaysCarried, backwards, elements_head, elements_own, head_text};
 ghost use Rattle.canvas_writing.specs.steps.Around.{carries, front_tasks, last_before, last_behind};
 ghost use Rattle.canvas_writing.specs.steps.Listing.{Listing, tail_line};
 
 use crate::around::{carries, write_last_before, write_last_behind};
 use crate::frozen::{write_tail, write_task};
 use crate::room::tasks_room;
-use canvas_message::{CarriedText, ElementsText, Head, LineText};
+use canvas_envelope::{CarriedText, ElementsText, Head, LineText};
 use canvas_rewrite::{FrozenLine, FrozenTask};
 use json::Writer;
 use std::alloc::{AllocError, Global};

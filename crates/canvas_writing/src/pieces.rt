@@ -7,8 +7,8 @@ ghost use Rattle.canvas_rewrite.specs.FrozenView.{p_task_view};
 ghost use Rattle.canvas_wire.specs.steps.Tokens.{Appends};
 ghost use Rattle.canvas_wire.specs.Writing.{args_wire};
 ghost use Rattle.canvas_writing.specs.steps.Tokens.{size_tokens, start_tokens, task_front, unless_null, opening_tokens, chain_behind, group_closing, named_tokens};
-ghost use Rattle.canvas_message.specs.MessageView.{place_seen};
-ghost use Rattle.canvas_message.specs.Wire.{task_id, group_id, place_id};
+ghost use Rattle.canvas_envelope.specs.MessageView.{place_seen};
+ghost use Rattle.canvas_envelope.specs.Wire.{task_id, group_id, place_id};
 
 use crate::identifiers::{write_group_id, write_task_member};
 use canvas_rewrite::{FrozenTask, Place};

@@ -2,7 +2,7 @@
 //! first of several tasks or members stands for all, so that an estimate costs the same however
 //! many there are.
 
-use canvas_message::Message;
+use canvas_envelope::Message;
 use canvas_rewrite::{FrozenEnd, FrozenLine, FrozenTask, Place};
 use canvas_task::Arg;
 

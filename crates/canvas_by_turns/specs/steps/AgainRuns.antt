@@ -15,7 +15,7 @@ use Rattle.canvas_turns.specs.TurnLaws.{held_rows}
 use Rattle.canvas_turns.specs.Turns.{Step, IsWorker, HasEnded, Begins, redeliveries_in}
 use Rattle.canvas_core.specs.declared.cause.Cause.TheVariants.{Memory, Stopped}
 use Rattle.canvas_by_turns.specs.Correct.{AreWorkers, AreTurns, IsAsked, IsWholeAgain}
-use Rattle.canvas_message.specs.declared.envelope.Envelope.{Envelope}
+use Rattle.canvas_envelope.specs.declared.envelope.Envelope.{Envelope}
 use Rattle.canvas_by_turns.specs.Traced.{sent_after}
 use Rattle.canvas_by_turns.specs.steps.Noting.{kept}
 use Rattle.canvas_by_turns.specs.declared.fault.RunFault.{RunFault}

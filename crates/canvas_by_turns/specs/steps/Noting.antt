@@ -1,6 +1,6 @@
 -- What a stage has noted of the envelopes that were published.
 use Rattle.std.specs.Prelude.{◌≡◌, Bool, true, false, List, [], ◌++◌}
-use Rattle.canvas_message.specs.declared.envelope.Envelope.{Envelope}
+use Rattle.canvas_envelope.specs.declared.envelope.Envelope.{Envelope}
 use Rattle.canvas_by_turns.specs.declared.sent.Sent.{Sent}
 
 -- of these envelopes it keeps all, or none

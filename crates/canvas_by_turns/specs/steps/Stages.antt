@@ -6,7 +6,7 @@ use Rattle.canvas_task.specs.declared.outcome.Outcome.{Outcome}
 use Rattle.canvas_semantics.specs.Evaluation.{State}
 use Rattle.canvas_semantics.specs.Line.{Line}
 use Rattle.canvas_semantics.specs.States.{numbers_from}
-use Rattle.canvas_message.specs.declared.envelope.Envelope.{Envelope}
+use Rattle.canvas_envelope.specs.declared.envelope.Envelope.{Envelope}
 use Rattle.canvas_history.specs.declared.stored.Stored.{Stored}
 use Rattle.canvas_history.specs.declared.stored.Stored.TheVariants.{First, Again}
 use Rattle.canvas_history.specs.Table.{Results, store, part, read, no_results, first_or, reply_of}
@@ -21,7 +21,7 @@ use Rattle.canvas_runs.specs.Worker.{read_envelope, sealed}
 use Rattle.canvas_turns.specs.Spending.{Entry, TurnedAgain, wanted, spent, agains_in}
 use Rattle.canvas_turns.specs.Turns.{Step, HasEnded, IsWorker, AllEnded, Begins, round, rounds, queue_after, queue_next, results_after, results_next, redeliveries_in}
 use Rattle.canvas_turns.specs.TurnLaws.{ByTurns}
-use Rattle.canvas_message.specs.Content.{Content}
+use Rattle.canvas_envelope.specs.Content.{Content}
 use Rattle.canvas_core.specs.Asks.{Asked, Answer}
 use Rattle.canvas_core.specs.Books.{no_book}
 use Rattle.canvas_core.specs.EnvelopeWorker.{enveloped, enveloped_by, no_tasks}

@@ -12,7 +12,7 @@ use Rattle.canvas_codec.specs.declared.read.body.Parts as the_parts
 use Rattle.canvas_codec.specs.declared.read.body.Given as the_given
 use Rattle.canvas_codec.specs.declared.read.embed.Embed as the_embed
 use Rattle.canvas_codec.specs.steps.Reading.{BodyParts, GivenParts, Embed}
-use Rattle.canvas_message.specs.MessageView.{place_seen, rest_seen}
+use Rattle.canvas_envelope.specs.MessageView.{place_seen, rest_seen}
 
 -- the line of one element
 abbrev pub element_view : Element → PLine

@@ -14,12 +14,12 @@ use Rattle.canvas_values.specs.declared.fault.SigFault.{SigFault}
 use Rattle.canvas_values.specs.declared.fault.SigFault.TheVariants.{BadArgs}
 use Rattle.canvas_rewrite.specs.FrozenView.{p_tasks_of, p_steps}
 use Rattle.canvas_semantics.specs.PlacedLine.{PTask, p_task, PPlace, PLine, p_stop}
-use Rattle.canvas_message.specs.Content.{Content}
-use Rattle.canvas_message.specs.Fits.{fits}
-use Rattle.canvas_message.specs.FrozenGrammar.{task_of, group_of, levels}
+use Rattle.canvas_envelope.specs.Content.{Content}
+use Rattle.canvas_envelope.specs.Fits.{fits}
+use Rattle.canvas_envelope.specs.FrozenGrammar.{task_of, group_of, levels}
 use Rattle.canvas_codec.specs.steps.FrozenReading.{place_with, link_reading, step_reading, last_reading, line_reading}
-use Rattle.canvas_message.specs.declared.fault.MessageFault.{MessageFault}
-use Rattle.canvas_message.specs.declared.fault.MessageFault.TheVariants.{NotJson, NotVersion2, BadId, BadContentType, BadBody, BadArgs as bad_args, BadEmbed, Memory}
+use Rattle.canvas_envelope.specs.declared.fault.MessageFault.{MessageFault}
+use Rattle.canvas_envelope.specs.declared.fault.MessageFault.TheVariants.{NotJson, NotVersion2, BadId, BadContentType, BadBody, BadArgs as bad_args, BadEmbed, Memory}
 
 -- ---- answers
 

@@ -6,7 +6,7 @@ ghost use Rattle.canvas_values.specs.Answers.{Gives};
 ghost use Rattle.canvas_codec.specs.steps.Elements.{embed_view, reversed_with};
 ghost use Rattle.canvas_codec.specs.steps.FrozenReading.{step_reading, last_reading};
 ghost use Rattle.canvas_codec.specs.steps.Reading.{embed_ok, embed_reading, chain_reading};
-ghost use Rattle.canvas_message.specs.MessageView.{rest_seen};
+ghost use Rattle.canvas_envelope.specs.MessageView.{rest_seen};
 
 use super::frozen::{read_all_links, read_last, read_place, read_steps};
 use super::made::line_of;

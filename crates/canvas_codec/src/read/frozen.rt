@@ -6,9 +6,9 @@ ghost use Rattle.canvas_values.specs.Fields.{is_null, listed, tasks, subtype};
 ghost use Rattle.canvas_values.specs.Answers.{Gives, ◌or_else◌, unless, in_turn};
 ghost use Rattle.canvas_values.specs.Grammar.{own_fault, primitive_of};
 ghost use Rattle.canvas_rewrite.specs.FrozenView.{p_task_view, p_line_view, p_end_view};
-ghost use Rattle.canvas_message.specs.MessageView.{place_seen, carried_view};
+ghost use Rattle.canvas_envelope.specs.MessageView.{place_seen, carried_view};
 ghost use Rattle.canvas_codec.specs.steps.Elements.{element_view, line_with};
-ghost use Rattle.canvas_message.specs.FrozenGrammar.{but_a_place};
+ghost use Rattle.canvas_envelope.specs.FrozenGrammar.{but_a_place};
 ghost use Rattle.canvas_codec.specs.steps.FrozenReading.{place_with, carried_with, task_with, task_as, group_with, chord_with, header_fault, last_as, elements_with, link_reading, step_reading, last_reading, line_reading};
 
 use super::identifiers::{known_group, known_task, read_size};

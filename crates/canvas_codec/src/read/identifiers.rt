@@ -5,10 +5,10 @@ ghost use Rattle.serde_json.specs.Find.{as_i64};
 ghost use Rattle.serde_json.specs.View.{number_view};
 ghost use Rattle.canvas_sig.specs.Datum.{value_at};
 ghost use Rattle.canvas_values.specs.Answers.{Gives};
-ghost use Rattle.canvas_message.specs.FrozenGrammar.{task_of, group_of};
+ghost use Rattle.canvas_envelope.specs.FrozenGrammar.{task_of, group_of};
 ghost use Rattle.canvas_codec.specs.steps.FrozenReading.{if_numbered, sized, size_reading};
 
-use canvas_message::MOST_MEMBERS;
+use canvas_envelope::MOST_MEMBERS;
 use canvas_sig::SigFault;
 use canvas_sig::parts::Datum;
 use canvas_task::{GroupNo, TaskNo, group_of_text, task_of_text};

@@ -7,10 +7,10 @@ use Rattle.canvas_rewrite.specs.FrozenView.{p_tasks_of, p_lines_of, p_steps, p_t
 use Rattle.canvas_rewrite.specs.declared.frozen.FrozenTask.{FrozenTask, out-FrozenTask}
 use Rattle.canvas_rewrite.specs.declared.frozen.FrozenLine.{FrozenLine, out-FrozenLine}
 use Rattle.canvas_rewrite.specs.declared.frozen.FrozenEnd.{FrozenEnd, out-FrozenEnd}
-use Rattle.canvas_message.specs.Content.{number_of}
-use Rattle.canvas_message.specs.Fits.{how_many}
+use Rattle.canvas_envelope.specs.Content.{number_of}
+use Rattle.canvas_envelope.specs.Fits.{how_many}
 use Rattle.canvas_effects.specs.Placing.{last_task}
-use Rattle.canvas_message.proofs.Seen.{task_seen, line_none, line_some, end_some}
+use Rattle.canvas_envelope.proofs.Seen.{task_seen, line_none, line_some, end_some}
 use Rattle.canvas_runs.specs.Book.{Book, task_known, tasks_known, line_known, members_known, has_size}
 use Rattle.canvas_core.specs.steps.Lasts.{last_number}
 

@@ -3,7 +3,7 @@ use Rattle.std.proofs.Common.{⊎_elim, ◌≡◌, ◌⊎◌, ◌∙◌, ℕ, Bo
 use Rattle.std.proofs.lemmas.Bool.{eq-eqb}
 use Rattle.std.specs.Prelude.{IsTrue, if◌then◌else◌, nat_lt}
 use Rattle.canvas_task.specs.declared.outcome.Outcome.{Outcome}
-use Rattle.canvas_message.specs.Content.{Content}
+use Rattle.canvas_envelope.specs.Content.{Content}
 use Rattle.canvas_effects.specs.Effects.{Jobs, Part, stores_in, part_in, part_jobs, script, effect_of}
 use Rattle.canvas_history.specs.Lists.{In, Each, firsts}
 use Rattle.canvas_effects.specs.Job.{store, publish, part}

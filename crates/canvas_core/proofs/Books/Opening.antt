@@ -1,10 +1,10 @@
 -- The message of an envelope that a book knows.
 use Rattle.std.proofs.Common.{◌≡◌, ◌∙◌, Bool, true, false, Some, None, Result, Ok, Err, refl, sym, ap, subst}
 use Rattle.std.specs.Prelude.{if◌then◌else◌}
-use Rattle.canvas_message.specs.Content.{Content}
-use Rattle.canvas_message.specs.EnvelopeFaults.{envelope_fault, Says}
-use Rattle.canvas_message.specs.declared.envelope.Envelope.{Envelope}
-use Rattle.canvas_message.specs.declared.fault.MessageFault.{MessageFault}
+use Rattle.canvas_envelope.specs.Content.{Content}
+use Rattle.canvas_envelope.specs.EnvelopeFaults.{envelope_fault, Says}
+use Rattle.canvas_envelope.specs.declared.envelope.Envelope.{Envelope}
+use Rattle.canvas_envelope.specs.declared.fault.MessageFault.{MessageFault}
 use Rattle.canvas_runs.proofs.Envelopes.Readings.{says_reading, refused_reading}
 use Rattle.canvas_runs.specs.Book.{Book, message_known}
 use Rattle.canvas_runs.specs.Worker.{read_envelope, known_one, opened}

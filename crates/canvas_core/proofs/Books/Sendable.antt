@@ -6,13 +6,13 @@ use Rattle.std.proofs.lemmas.Str.{IsUtf8-from_is_utf8}
 use Rattle.serde_json.specs.Data.{Data}
 use Rattle.serde_json.specs.Read.{read}
 use Rattle.serde_json.proofs.OnLiterals.{serde_json_on_literals}
-use Rattle.canvas_message.specs.Content.{Content}
-use Rattle.canvas_message.specs.EnvelopeFaults.{envelope_fault, Says, first_of, refusals, not_json, not_version_2, bad_id, bad_content_type, bad_body, bad_args, bad_embed}
-use Rattle.canvas_message.specs.EnvelopeContent.{json_in, content_in, content_said}
-use Rattle.canvas_message.specs.Fits.{fits}
-use Rattle.canvas_message.specs.declared.envelope.Envelope.{Envelope}
-use Rattle.canvas_message.specs.declared.fault.MessageFault.{MessageFault}
-use Rattle.canvas_message.specs.declared.fault.MessageFault.TheVariants.{NotJson, NotVersion2, BadId, BadContentType, BadBody, BadArgs, BadEmbed}
+use Rattle.canvas_envelope.specs.Content.{Content}
+use Rattle.canvas_envelope.specs.EnvelopeFaults.{envelope_fault, Says, first_of, refusals, not_json, not_version_2, bad_id, bad_content_type, bad_body, bad_args, bad_embed}
+use Rattle.canvas_envelope.specs.EnvelopeContent.{json_in, content_in, content_said}
+use Rattle.canvas_envelope.specs.Fits.{fits}
+use Rattle.canvas_envelope.specs.declared.envelope.Envelope.{Envelope}
+use Rattle.canvas_envelope.specs.declared.fault.MessageFault.{MessageFault}
+use Rattle.canvas_envelope.specs.declared.fault.MessageFault.TheVariants.{NotJson, NotVersion2, BadId, BadContentType, BadBody, BadArgs, BadEmbed}
 use Rattle.canvas_codec.proofs.EnvelopeBack.{envelope_back}
 use Rattle.canvas_codec.proofs.EnvelopeLaw.{envelope_judged}
 use Rattle.canvas_runs.proofs.Envelopes.Readings.{reading_says, says_reading}

@@ -4,10 +4,10 @@ use Rattle.canvas_task.specs.Apply.{Behaviour}
 use Rattle.canvas_task.specs.declared.outcome.Outcome.{Outcome}
 use Rattle.canvas_semantics.specs.Line.{Line}
 use Rattle.canvas_rewrite.specs.FrozenView.{PCarried}
-use Rattle.canvas_message.specs.Content.{Content, number_of}
+use Rattle.canvas_envelope.specs.Content.{Content, number_of}
 use Rattle.canvas_effects.specs.Effects.{outcome_of, after, body_after, script}
 use Rattle.canvas_effects.specs.Job.{Job}
-use Rattle.canvas_message.specs.declared.envelope.Envelope.{Envelope}
+use Rattle.canvas_envelope.specs.declared.envelope.Envelope.{Envelope}
 use Rattle.canvas_history.specs.declared.stored.Stored.{Stored}
 use Rattle.canvas_history.specs.declared.stored.Stored.TheVariants.{First, Again}
 use Rattle.canvas_history.specs.Roster.{roster_of}

@@ -1,6 +1,6 @@
 -- What one answered ask adds to a count of calls.
 use Rattle.std.proofs.Common.{ℕ, [], ◌∷◌}
-use Rattle.canvas_message.specs.declared.envelope.Envelope.{Envelope}
+use Rattle.canvas_envelope.specs.declared.envelope.Envelope.{Envelope}
 use Rattle.canvas_runs.specs.Calls.{QueueAnswered, TableAnswered, broker_calls, backend_calls}
 use Rattle.canvas_history.specs.Lists.{total}
 use Rattle.canvas_core.specs.Asks.{Asked, Answer}

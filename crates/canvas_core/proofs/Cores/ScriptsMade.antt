@@ -2,9 +2,9 @@
 use Rattle.std.proofs.Common.{◌≡◌, ◌∙◌, ℕ, List, [], ◌∷◌, ◌++◌, map, refl, sym, ap, ap₂}
 use Rattle.canvas_task.specs.declared.outcome.Outcome.{Outcome}
 use Rattle.canvas_rewrite.specs.FrozenView.{PCarried}
-use Rattle.canvas_message.specs.Content.{Content}
+use Rattle.canvas_envelope.specs.Content.{Content}
 use Rattle.canvas_effects.specs.Job.{Job, store, publish}
-use Rattle.canvas_message.specs.declared.envelope.Envelope.{Envelope}
+use Rattle.canvas_envelope.specs.declared.envelope.Envelope.{Envelope}
 use Rattle.canvas_core.specs.EnvelopeWorker.{Applied, unapplied, enclosed, envelope_of}
 use Rattle.canvas_core.specs.declared.sealed.Sealed.{Sealed}
 

@@ -7,10 +7,10 @@ use Rattle.canvas_task.specs.declared.outcome.Outcome.{Outcome}
 use Rattle.canvas_task.specs.declared.outcome.Outcome.TheVariants.{Success, Failure}
 use Rattle.canvas_rewrite.specs.FrozenView.{PCarried}
 use Rattle.canvas_semantics.specs.PlacedLine.{PTasks, no_p_tasks, and_p_task, PPlace, p_nowhere, p_group, p_chord, PLine, p_stop, p_step, p_group_end, p_chord_end, PLines, no_p_lines, and_p_line}
-use Rattle.canvas_message.specs.Content.{Content, line, number_of, links_of, errbacks_of}
+use Rattle.canvas_envelope.specs.Content.{Content, line, number_of, links_of, errbacks_of}
 use Rattle.canvas_effects.specs.Effects.{Jobs, Effect, callbacks, part_of, fault_behind, when_empty, enter, enter_all, stores_in, called, after, header_flow, body_after}
 use Rattle.canvas_effects.specs.Flowing.{Input, number_input, list_input, id_input, LineFlow, run, skips, raise, after_outcome}
-use Rattle.canvas_message.specs.Fits.{how_many}
+use Rattle.canvas_envelope.specs.Fits.{how_many}
 use Rattle.canvas_effects.specs.Job.{Job, store, publish, part}
 use Rattle.canvas_effects.specs.Ordered.{put, in_order}
 use Rattle.canvas_effects.specs.Placing.{placed, end_place}

@@ -10,10 +10,10 @@ use Rattle.canvas_semantics.specs.Line.{Line, GroupEntry, entry_at, entry_member
 use Rattle.canvas_rewrite.specs.FrozenView.{PCarried}
 use Rattle.canvas_rewrite.specs.Planned.{IsPlan}
 use Rattle.canvas_rewrite.proofs.Members.{all_known}
-use Rattle.canvas_message.specs.Content.{Content, number_of}
+use Rattle.canvas_envelope.specs.Content.{Content, number_of}
 use Rattle.canvas_effects.specs.Effects.{after, body_after, script}
 use Rattle.canvas_effects.specs.Job.{store, publish, part}
-use Rattle.canvas_message.specs.declared.envelope.Envelope.{Envelope}
+use Rattle.canvas_envelope.specs.declared.envelope.Envelope.{Envelope}
 use Rattle.canvas_history.specs.declared.stored.Stored.{Stored}
 use Rattle.canvas_history.specs.declared.stored.Stored.TheVariants.{First, Again}
 use Rattle.canvas_history.specs.Table as table

@@ -4,8 +4,8 @@ use Rattle.std.specs.Prelude.{ℕ, zero, false, [], Option, Some, None, refl}
 use Rattle.std.specs.Coded.{Coded, code_by}
 use Rattle.canvas_rewrite.specs.FrozenView.{PCarried}
 use Rattle.canvas_semantics.specs.PlacedLine.{p_task, no_p_tasks, PPlace, p_nowhere, p_stop}
-use Rattle.canvas_message.specs.Content.{Content, place_of}
-use Rattle.canvas_message.specs.codes.ContentCode.{content_code}
+use Rattle.canvas_envelope.specs.Content.{Content, place_of}
+use Rattle.canvas_envelope.specs.codes.ContentCode.{content_code}
 
 abbrev of_place : PPlace → Content
 of_place p =

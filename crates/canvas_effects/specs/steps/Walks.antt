@@ -10,9 +10,9 @@ use Rattle.canvas_semantics.specs.Evaluation.{why_of}
 use Rattle.canvas_rewrite.specs.declared.frozen.FrozenEnd.{FrozenEnd}
 use Rattle.canvas_rewrite.specs.FrozenView.{p_end_view}
 use Rattle.canvas_semantics.specs.PlacedLine.{PTask, PPlace, p_nowhere, p_group, p_chord, PLine, p_stop, p_step, p_group_end, p_chord_end}
-use Rattle.canvas_message.specs.Content.{Content, number_of}
+use Rattle.canvas_envelope.specs.Content.{Content, number_of}
 use Rattle.canvas_effects.specs.Effects.{message, enter, stores_in, messages_in, part_in, part_of, Part}
-use Rattle.canvas_message.specs.Fits.{how_many}
+use Rattle.canvas_envelope.specs.Fits.{how_many}
 use Rattle.canvas_effects.specs.Flowing.{Input, no_input, number_input, list_input, id_input, run, skips, raise}
 use Rattle.canvas_effects.specs.Placing.{last_at, placed, end_place, last_task}
 use Rattle.canvas_effects.specs.declared.input.Input as the_input

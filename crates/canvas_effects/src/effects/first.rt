@@ -15,7 +15,7 @@ use crate::copies::copy_line;
 use crate::destination::Destination;
 use crate::destinations::share_destination;
 use crate::input::Input;
-use canvas_message::Message;
+use canvas_envelope::Message;
 use canvas_rewrite::{FrozenEnd, FrozenLine, FrozenTask, Plan};
 use canvas_task::Memory;
 use std::alloc::{AllocError, Global};
@@ -37,8 +37,8 @@ impl<'p> Model for FirstMessages<'p> {
     ghost use Rattle.std.specs.Prelude.{List, map};
     ghost use Rattle.std.specs.Coded.{coded_list};
     ghost use Rattle.canvas_rewrite.specs.FrozenView.{p_line_view, place_or};
-    ghost use Rattle.canvas_message.specs.Content.{Content};
-    ghost use Rattle.canvas_message.specs.codes.ContentCode.{content_code};
+    ghost use Rattle.canvas_envelope.specs.Content.{Content};
+    ghost use Rattle.canvas_envelope.specs.codes.ContentCode.{content_code};
     ghost use Rattle.canvas_effects.specs.Carrying.{AllStand};
     ghost use Rattle.canvas_effects.specs.Portions.{portions};
 

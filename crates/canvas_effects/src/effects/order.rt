@@ -1,10 +1,10 @@
 //! Stores and messages in the order of their tasks' numbers.
 
 ghost use Rattle.std.specs.Prelude.{◌≡◌, IsTrue, OnOk};
-ghost use Rattle.canvas_message.specs.Content.{number_of};
+ghost use Rattle.canvas_envelope.specs.Content.{number_of};
 ghost use Rattle.canvas_effects.specs.Ordered.{in_order};
 
-use canvas_message::Message;
+use canvas_envelope::Message;
 use canvas_task::{Outcome, TaskNo};
 use std::alloc::AllocError;
 

@@ -17,7 +17,7 @@ use Rattle.atomic_table.proofs.shared.Shared.TheSendSync.{the_sync as table_sync
 use Rattle.canvas_task.proofs.list_of.ListOf.TheSendSync.{the_send as list_send, the_sync as list_sync}
 use Rattle.canvas_task.proofs.number.GroupNo.TheSendSync.{the_send as group_send, the_sync as group_sync}
 use Rattle.canvas_task.proofs.number.TaskNo.TheSendSync.{the_send as task_send, the_sync as task_sync}
-use Rattle.canvas_message.proofs.Crosses.{letter}
+use Rattle.canvas_envelope.proofs.Crosses.{letter}
 use Rattle.canvas_rewrite.specs.contracts.group_list.GroupEntry as GroupEntry
 use Rattle.canvas_rewrite.specs.contracts.group_list.Groups as Groups
 use Rattle.canvas_backend.specs.contracts.backend.Backend as Backend

@@ -6,13 +6,13 @@ use Rattle.std.proofs.lemmas.Bool.{or_parts}
 use Rattle.serde_json.specs.Data.{Data, null}
 use Rattle.canvas_values.specs.CanvasText.{json_of}
 use Rattle.canvas_values.specs.Fields.{field}
-use Rattle.canvas_message.specs.Content.{Content, number_of}
-use Rattle.canvas_message.specs.EnvelopeContent.{json_in, content_in, content_said}
-use Rattle.canvas_message.specs.EnvelopeFaults.{first_of, not_json, bad_id, not_version_2, bad_content_type, bad_body, bad_args, bad_embed, refusals, envelope_fault, Says}
-use Rattle.canvas_message.specs.FrozenGrammar.{task_of}
-use Rattle.canvas_message.specs.declared.envelope.Envelope.{Envelope}
-use Rattle.canvas_message.specs.declared.fault.MessageFault.{MessageFault}
-use Rattle.canvas_message.specs.declared.fault.MessageFault.TheVariants.{NotJson, NotVersion2, BadId, BadContentType, BadBody, BadArgs, BadEmbed}
+use Rattle.canvas_envelope.specs.Content.{Content, number_of}
+use Rattle.canvas_envelope.specs.EnvelopeContent.{json_in, content_in, content_said}
+use Rattle.canvas_envelope.specs.EnvelopeFaults.{first_of, not_json, bad_id, not_version_2, bad_content_type, bad_body, bad_args, bad_embed, refusals, envelope_fault, Says}
+use Rattle.canvas_envelope.specs.FrozenGrammar.{task_of}
+use Rattle.canvas_envelope.specs.declared.envelope.Envelope.{Envelope}
+use Rattle.canvas_envelope.specs.declared.fault.MessageFault.{MessageFault}
+use Rattle.canvas_envelope.specs.declared.fault.MessageFault.TheVariants.{NotJson, NotVersion2, BadId, BadContentType, BadBody, BadArgs, BadEmbed}
 use Rattle.canvas_task.specs.Text.{Text}
 use Rattle.canvas_runs.specs.Book.{Book, message_known}
 use Rattle.canvas_runs.specs.Worker.{known_one, read_envelope, opened}

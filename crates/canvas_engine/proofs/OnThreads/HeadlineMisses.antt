@@ -10,7 +10,7 @@ use Rattle.canvas_semantics.specs.Evaluation.{State}
 use Rattle.canvas_semantics.specs.Line.{Line, count_line}
 use Rattle.canvas_semantics.specs.States.{numbers_from}
 use Rattle.canvas_history.specs.Lists.{In, total}
-use Rattle.canvas_message.specs.declared.envelope.Envelope.{Envelope}
+use Rattle.canvas_envelope.specs.declared.envelope.Envelope.{Envelope}
 use Rattle.canvas_history.specs.Table.{part, count, results}
 use Rattle.canvas_history.specs.Roster.{roster_of}
 use Rattle.canvas_history.specs.Queue.{publish, queue_of}

@@ -12,8 +12,8 @@ use Rattle.canvas_semantics.specs.States.{numbers_from}
 use Rattle.canvas_semantics.proofs.Numbered.{count_elements}
 use Rattle.canvas_rewrite.specs.Planned.{IsPlan}
 use Rattle.canvas_history.specs.Lists.{In, by}
-use Rattle.canvas_message.specs.Content.{Content, number_of}
-use Rattle.canvas_message.specs.declared.envelope.Envelope.{Envelope}
+use Rattle.canvas_envelope.specs.Content.{Content, number_of}
+use Rattle.canvas_envelope.specs.declared.envelope.Envelope.{Envelope}
 use Rattle.canvas_effects.specs.Events.{start}
 use Rattle.canvas_history.specs.Table.{results}
 use Rattle.canvas_history.specs.Roster.{roster_of}

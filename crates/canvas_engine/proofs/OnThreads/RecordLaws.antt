@@ -9,8 +9,8 @@ use Rattle.canvas_semantics.specs.Evaluation.{State}
 use Rattle.canvas_semantics.specs.Line.{Line, count_line}
 use Rattle.canvas_rewrite.specs.Planned.{IsPlan}
 use Rattle.canvas_history.specs.Lists.{In, by, total, seconds}
-use Rattle.canvas_message.specs.Content.{Content}
-use Rattle.canvas_message.specs.declared.envelope.Envelope.{Envelope}
+use Rattle.canvas_envelope.specs.Content.{Content}
+use Rattle.canvas_envelope.specs.declared.envelope.Envelope.{Envelope}
 use Rattle.canvas_history.specs.Queue as queue
 use Rattle.canvas_history.specs.Queue.{QueueEntry}
 use Rattle.canvas_runs.specs.Calls.{QueueAnswered, TableAnswered, CoreCall, makes, acknowledges, FollowsScripts, scripts_all, scripts_publish, scripts_list_take, scripts_core_take, scripts_again, scripts_ack, AskedAndAnswered, broker_call, core_call, broker_calls, core_calls, backend_calls, takes_one}

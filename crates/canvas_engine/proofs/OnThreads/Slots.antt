@@ -5,7 +5,7 @@ use Rattle.std.specs.Prelude.{None}
 use Rattle.canvas_task.specs.Apply.{Behaviour}
 use Rattle.canvas_history.specs.Passes.{QueueId}
 use Rattle.canvas_history.specs.Seats.{TableId}
-use Rattle.canvas_message.specs.declared.envelope.Envelope.{Envelope}
+use Rattle.canvas_envelope.specs.declared.envelope.Envelope.{Envelope}
 use Rattle.canvas_history.specs.Seats as seats
 use Rattle.canvas_history.specs.Roster.{Roster}
 use Rattle.canvas_history.specs.Callers.{Owes}

@@ -12,8 +12,8 @@ use Rattle.canvas_history.proofs.Histories.{made_here, made_off, fresh_from}
 use Rattle.canvas_semantics.specs.Evaluation.{State}
 use Rattle.canvas_semantics.specs.Line.{Line}
 use Rattle.canvas_history.specs.Lists.{In, Each}
-use Rattle.canvas_message.specs.Content.{Content}
-use Rattle.canvas_message.specs.declared.envelope.Envelope.{Envelope}
+use Rattle.canvas_envelope.specs.Content.{Content}
+use Rattle.canvas_envelope.specs.declared.envelope.Envelope.{Envelope}
 use Rattle.canvas_history.specs.Roster.{Roster, roster_of}
 use Rattle.canvas_history.specs.Queue.{QueueEntry, QueueCall, redeliver, answer_of, next, May}
 use Rattle.canvas_runs.specs.Book.{book_of}

@@ -4,7 +4,7 @@ ghost use Rattle.canvas_runs.specs.Following.{Makes};
 ghost use Rattle.canvas_runs.specs.Run.{published_all};
 
 use canvas_broker::{Broker, BrokerPass};
-use canvas_message::Letter;
+use canvas_envelope::Letter;
 use canvas_task::Memory;
 use std::sync::Wait;
 

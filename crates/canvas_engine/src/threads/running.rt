@@ -22,7 +22,7 @@ use crate::{Cause, Records, Report, RunFault, Tally};
 use canvas_backend::Backend;
 use canvas_broker::Broker;
 use canvas_by_turns::{first_envelopes, new_rows};
-use canvas_message::Letter;
+use canvas_envelope::Letter;
 use canvas_rewrite::Plan;
 use canvas_semantics::MOST_WORKERS;
 use canvas_task::{Fault, Memory, Tasks};

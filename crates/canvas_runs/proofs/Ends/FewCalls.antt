@@ -10,9 +10,9 @@ use Rattle.canvas_semantics.specs.Line.{Line, count_line, members}
 use Rattle.canvas_rewrite.specs.FrozenView.{PCarried}
 use Rattle.canvas_rewrite.specs.Planned.{IsPlan, times}
 use Rattle.canvas_rewrite.proofs.Members.{plan_apart, member_known}
-use Rattle.canvas_message.specs.Content.{Content, number_of}
+use Rattle.canvas_envelope.specs.Content.{Content, number_of}
 use Rattle.canvas_history.specs.Lists.{In, Each, by, total, seconds}
-use Rattle.canvas_message.specs.declared.envelope.Envelope.{Envelope}
+use Rattle.canvas_envelope.specs.declared.envelope.Envelope.{Envelope}
 use Rattle.canvas_effects.specs.Events.{running}
 use Rattle.canvas_effects.specs.Job as job
 use Rattle.canvas_history.specs.declared.stored.Stored.{Stored}

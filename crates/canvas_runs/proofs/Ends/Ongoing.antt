@@ -9,7 +9,7 @@ use Rattle.canvas_history.specs.History.{Entry, among, live, live_from}
 use Rattle.canvas_history.proofs.Histories.{live_append}
 use Rattle.canvas_semantics.specs.Line.{Line}
 use Rattle.canvas_rewrite.specs.Planned.{IsPlan}
-use Rattle.canvas_message.specs.declared.envelope.Envelope.{Envelope}
+use Rattle.canvas_envelope.specs.declared.envelope.Envelope.{Envelope}
 use Rattle.canvas_history.specs.Table as table
 use Rattle.canvas_history.specs.Roster.{roster_of}
 use Rattle.canvas_history.specs.Queue as queue

@@ -9,8 +9,8 @@ use Rattle.canvas_history.proofs.Histories.{In, in_left, in_right, in_append, in
 use Rattle.canvas_semantics.specs.Line.{Line}
 use Rattle.canvas_rewrite.specs.FrozenView.{PCarried}
 use Rattle.canvas_rewrite.specs.Planned.{IsPlan}
-use Rattle.canvas_message.specs.Content.{Content}
-use Rattle.canvas_message.specs.declared.envelope.Envelope.{Envelope}
+use Rattle.canvas_envelope.specs.Content.{Content}
+use Rattle.canvas_envelope.specs.declared.envelope.Envelope.{Envelope}
 use Rattle.canvas_effects.specs.Effects.{first_messages}
 use Rattle.canvas_effects.specs.Events.{start}
 use Rattle.canvas_history.specs.Table as table

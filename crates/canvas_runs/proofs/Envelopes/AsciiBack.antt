@@ -3,9 +3,9 @@ use Rattle.std.proofs.Common.{◌≡◌, ◌∙◌, true, refl, sym}
 use Rattle.std.specs.Str.{IsUtf8}
 use Rattle.serde_json.specs.Written.{compact_text}
 use Rattle.json.proofs.Printed.Utf8.{are_ascii, IsUtf8-are_ascii}
-use Rattle.canvas_message.specs.Content.{Content}
-use Rattle.canvas_message.specs.Fits.{fits}
-use Rattle.canvas_message.specs.Wire.{properties_wire, headers_wire, body_wire}
+use Rattle.canvas_envelope.specs.Content.{Content}
+use Rattle.canvas_envelope.specs.Fits.{fits}
+use Rattle.canvas_envelope.specs.Wire.{properties_wire, headers_wire, body_wire}
 use Rattle.canvas_codec.proofs.EnvelopeBack.{envelope_back}
 use Rattle.canvas_codec.proofs.EnvelopeLaw.{envelope_judged}
 use Rattle.canvas_runs.specs.Worker.{IsReadBack}

@@ -6,8 +6,8 @@ use Rattle.canvas_task.specs.Builtin.{builtin_tasks}
 use Rattle.serde_json.proofs.OnLiterals.{serde_json_on_literals}
 use Rattle.uuid.specs.Text.{by_index}
 use Rattle.canvas_history.specs.History.{split, join, calls}
-use Rattle.canvas_message.specs.Content.{Content}
-use Rattle.canvas_message.specs.declared.envelope.Envelope.{Envelope}
+use Rattle.canvas_envelope.specs.Content.{Content}
+use Rattle.canvas_envelope.specs.declared.envelope.Envelope.{Envelope}
 use Rattle.canvas_history.specs.declared.stored.Stored.TheVariants.{First, Again}
 use Rattle.canvas_history.specs.Table as table
 use Rattle.canvas_history.specs.Roster.{roster_of}

@@ -3,7 +3,7 @@ use Rattle.canvas_task.specs.Apply.{Behaviour, AnswersInRange}
 use Rattle.canvas_semantics.specs.Line.{Line}
 use Rattle.canvas_rewrite.specs.Planned.{IsPlan}
 use Rattle.canvas_rewrite.specs.Utf8.{IsUtf8Line}
-use Rattle.canvas_message.specs.Content.{Content}
+use Rattle.canvas_envelope.specs.Content.{Content}
 use Rattle.canvas_codec.proofs.Utf8Messages.{texts_utf8}
 use Rattle.canvas_runs.specs.Progress.{AllReadBack}
 use Rattle.canvas_runs.specs.Worker.{IsReadBack}

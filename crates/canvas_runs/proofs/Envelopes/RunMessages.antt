@@ -17,9 +17,9 @@ use Rattle.canvas_rewrite.specs.FrozenView.{PCarried, p_lines_of}
 use Rattle.canvas_rewrite.specs.Planned.{IsPlan}
 use Rattle.canvas_rewrite.specs.Utf8.{AreUtf8Args, IsUtf8Task, AreUtf8Tasks, IsUtf8Line, AreUtf8Lines}
 use Rattle.canvas_rewrite.proofs.InOrder.{plan_in_order}
-use Rattle.canvas_message.specs.Content.{Content, call_of}
-use Rattle.canvas_message.specs.Fits.{fits, parent_ok, how_many}
-use Rattle.canvas_message.specs.steps.Parts.{is_stop}
+use Rattle.canvas_envelope.specs.Content.{Content, call_of}
+use Rattle.canvas_envelope.specs.Fits.{fits, parent_ok, how_many}
+use Rattle.canvas_envelope.specs.steps.Parts.{is_stop}
 use Rattle.canvas_effects.specs.Carrying.{is_whole, can_stand, AllWhole, AllStand, callbacks_ok, input_ok}
 use Rattle.canvas_effects.specs.Effects.{message, outcome_of, part_of, header_flow}
 use Rattle.canvas_effects.specs.Events.{Event, start, end_of_line, EventJobs, parent_of, labelled, flow_outcome, group_flow, header_place, body_event, input_of_success, chosen, message_of, outcome_with, out, outs, ran, ran_all, events_in_file, items_all, evaluated}

@@ -9,7 +9,7 @@ use Rattle.canvas_semantics.specs.Line.{Line, stop, step, group_end, chord_end, 
 use Rattle.canvas_semantics.specs.Tree.{Task, task}
 use Rattle.canvas_rewrite.specs.Planned.{IsPlan}
 use Rattle.canvas_history.specs.Lists.{In}
-use Rattle.canvas_message.specs.Content.{Content, number_of}
+use Rattle.canvas_envelope.specs.Content.{Content, number_of}
 use Rattle.canvas_effects.specs.Events.{Event, start, end_of_line, completion, DoesIn, flow_outcome, parent_of}
 use Rattle.canvas_effects.specs.Flowing.{Input, no_input, list_input, id_input, LineFlow, run, skips, raise, after_outcome}
 use Rattle.canvas_effects.specs.Job.{store, publish}

@@ -6,11 +6,11 @@ use Rattle.canvas_history.specs.History.{Entry, calls}
 use Rattle.canvas_semantics.specs.Line.{Line, members}
 use Rattle.canvas_rewrite.specs.Planned.{IsPlan}
 use Rattle.canvas_rewrite.proofs.Members.{plan_apart}
-use Rattle.canvas_message.specs.Content.{Content, number_of}
+use Rattle.canvas_envelope.specs.Content.{Content, number_of}
 use Rattle.canvas_history.specs.Lists.{In, by, total, seconds}
 use Rattle.canvas_effects.specs.Events.{Event, start, running, end_of_line, completion, DoesIn}
 use Rattle.canvas_effects.specs.Job as job
-use Rattle.canvas_message.specs.declared.envelope.Envelope.{Envelope}
+use Rattle.canvas_envelope.specs.declared.envelope.Envelope.{Envelope}
 use Rattle.canvas_history.specs.declared.stored.Stored.TheVariants.{First}
 use Rattle.canvas_history.specs.Table.{TableCall, TableReply, store, part, was, count, no_results}
 use Rattle.canvas_history.specs.Queue.{publish}

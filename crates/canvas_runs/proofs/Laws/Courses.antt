@@ -8,8 +8,8 @@ use Rattle.canvas_semantics.specs.Bodies.{bodies}
 use Rattle.canvas_semantics.specs.Line.{Line, members}
 use Rattle.canvas_rewrite.specs.Planned.{IsPlan}
 use Rattle.canvas_history.specs.Lists.{In, Each, by, total}
-use Rattle.canvas_message.specs.Content.{Content, number_of}
-use Rattle.canvas_message.specs.declared.envelope.Envelope.{Envelope}
+use Rattle.canvas_envelope.specs.Content.{Content, number_of}
+use Rattle.canvas_envelope.specs.declared.envelope.Envelope.{Envelope}
 use Rattle.canvas_effects.specs.Events.{Event, start, completion, DoesIn}
 use Rattle.canvas_effects.specs.Job as job
 use Rattle.canvas_history.specs.Table.{part, count, store, was}

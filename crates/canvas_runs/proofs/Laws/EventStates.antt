@@ -10,7 +10,7 @@ use Rattle.canvas_semantics.specs.PlacedLine.{PPlace, p_nowhere, p_group, p_chor
 use Rattle.canvas_semantics.specs.Tree.{Task, task, Tasks, no_tasks, and_task}
 use Rattle.canvas_rewrite.specs.FrozenView.{PCarried}
 use Rattle.canvas_rewrite.specs.Planned.{IsPlan}
-use Rattle.canvas_message.specs.Content.{Content, number_of}
+use Rattle.canvas_envelope.specs.Content.{Content, number_of}
 use Rattle.canvas_effects.specs.Effects.{outcome_of, part_of}
 use Rattle.canvas_effects.specs.Events.{Event, start, running, end_of_line, completion, EventJobs, labelled, DoesIn, evaluated, chosen, input_of_success, body_event, header_place, group_flow, outs, outcome_with, message_of, errbacks_in, ran, ran_all, events_in_file, items_all}
 use Rattle.canvas_history.specs.Lists.{In}

@@ -6,11 +6,11 @@ use Rattle.canvas_semantics.specs.Evaluation as eval
 use Rattle.canvas_semantics.specs.Line.{Line, tree_of}
 use Rattle.canvas_rewrite.specs.Planned.{IsPlan}
 use Rattle.canvas_rewrite.proofs.Members.{plan_apart}
-use Rattle.canvas_message.specs.Content.{Content}
+use Rattle.canvas_envelope.specs.Content.{Content}
 use Rattle.canvas_history.specs.Lists.{In, total, seconds}
 use Rattle.canvas_effects.specs.Events.{start}
 use Rattle.canvas_effects.specs.Flowing.{run, no_input}
-use Rattle.canvas_message.specs.declared.envelope.Envelope.{Envelope}
+use Rattle.canvas_envelope.specs.declared.envelope.Envelope.{Envelope}
 use Rattle.canvas_history.specs.declared.stored.Stored.{Stored}
 use Rattle.canvas_history.specs.declared.stored.Stored.TheVariants.{First}
 use Rattle.canvas_history.specs.Table as table

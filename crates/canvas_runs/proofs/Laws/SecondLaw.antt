@@ -8,12 +8,12 @@ use Rattle.canvas_semantics.specs.Line.{Line, members, size}
 use Rattle.canvas_rewrite.specs.FrozenView.{PCarried}
 use Rattle.canvas_rewrite.specs.Planned.{IsPlan}
 use Rattle.canvas_rewrite.proofs.Members.{plan_apart}
-use Rattle.canvas_message.specs.Content.{Content, number_of}
+use Rattle.canvas_envelope.specs.Content.{Content, number_of}
 use Rattle.canvas_history.specs.Lists.{In, Each, total, seconds, firsts}
 use Rattle.canvas_effects.specs.Events.{Event, start}
 use Rattle.canvas_effects.specs.Flowing.{run, no_input}
 use Rattle.canvas_effects.specs.Job.{Job, store, publish, part}
-use Rattle.canvas_message.specs.declared.envelope.Envelope.{Envelope}
+use Rattle.canvas_envelope.specs.declared.envelope.Envelope.{Envelope}
 use Rattle.canvas_history.specs.declared.stored.Stored.{Stored}
 use Rattle.canvas_history.specs.declared.stored.Stored.TheVariants.{First, Again}
 use Rattle.canvas_history.specs.Table as table

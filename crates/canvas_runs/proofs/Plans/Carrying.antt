@@ -13,11 +13,11 @@ use Rattle.canvas_semantics.specs.FileOrder.{EndsInTask}
 use Rattle.canvas_semantics.specs.Line.{Line, stop, step, group_end, chord_end, Lines, no_lines, and_line, no_of}
 use Rattle.canvas_rewrite.specs.FrozenView.{PCarried}
 use Rattle.canvas_semantics.specs.PlacedLine.{PTask, p_task, PPlace, p_nowhere, p_group, p_chord, PLine, p_stop, p_step, p_group_end, p_chord_end, bare, all_bare, bare_task, bare_tasks}
-use Rattle.canvas_message.specs.Content.{Content, line, number_of, call_of, links_of, errbacks_of, place_of}
+use Rattle.canvas_envelope.specs.Content.{Content, line, number_of, call_of, links_of, errbacks_of, place_of}
 use Rattle.canvas_effects.specs.Effects as effects
 use Rattle.canvas_effects.specs.Events as events
 use Rattle.canvas_effects.specs.Events.{Event, parent_of, flow_outcome, chosen, end_of_line, running}
-use Rattle.canvas_message.specs.Fits.{how_many}
+use Rattle.canvas_envelope.specs.Fits.{how_many}
 use Rattle.canvas_effects.specs.Flowing.{Input, number_input, list_input, id_input, LineFlow, run, skips, raise, after_outcome}
 use Rattle.canvas_effects.specs.Job.{Job, store, publish, part}
 use Rattle.canvas_effects.specs.Placing.{place_before, last_at, placed, end_place, last_task}

@@ -3,7 +3,7 @@ use Rattle.std.proofs.Common.{◌≡◌, ℕ, ◌+◌, Bool, true, false, List, 
 use Rattle.std.specs.Prelude.{if◌then◌else◌, nat_lt}
 use Rattle.canvas_task.specs.declared.outcome.Outcome.{Outcome}
 use Rattle.canvas_rewrite.specs.FrozenView.{PCarried}
-use Rattle.canvas_message.specs.Content.{Content, number_of}
+use Rattle.canvas_envelope.specs.Content.{Content, number_of}
 use Rattle.canvas_effects.specs.Effects as effects
 use Rattle.canvas_effects.specs.Effects.{effect_of, script, stores_in, messages_in, part_in, part_jobs}
 use Rattle.canvas_history.specs.Lists.{In, Each}

@@ -13,9 +13,9 @@ use Rattle.canvas_semantics.proofs.RowNumbers.{same_number}
 use Rattle.canvas_rewrite.specs.Planned.{IsPlan}
 use Rattle.canvas_rewrite.proofs.Members.{member_known}
 use Rattle.canvas_effects.proofs.FitsOn.{all_true}
-use Rattle.canvas_message.specs.Content.{line}
+use Rattle.canvas_envelope.specs.Content.{line}
 use Rattle.canvas_history.specs.Lists.{In}
-use Rattle.canvas_message.specs.Fits.{how_many}
+use Rattle.canvas_envelope.specs.Fits.{how_many}
 use Rattle.canvas_effects.specs.Placing.{place_before, last_at, placed, last_task}
 use Rattle.canvas_runs.specs.Book.{Book, has_size, task_known, tasks_known, place_known, line_known, members_known, parent_known, message_known}
 use Rattle.canvas_runs.proofs.Plans.Carrying.{put, content, last_bare, many_bare}

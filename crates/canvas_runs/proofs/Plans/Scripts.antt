@@ -4,7 +4,7 @@ use Rattle.std.proofs.lemmas.List.{map-append}
 use Rattle.canvas_task.specs.declared.outcome.Outcome.{Outcome}
 use Rattle.canvas_semantics.specs.Line.{Line}
 use Rattle.canvas_effects.proofs.NothingMoves.{Above, nothing_moves}
-use Rattle.canvas_message.specs.Content.{Content, number_of}
+use Rattle.canvas_envelope.specs.Content.{Content, number_of}
 use Rattle.canvas_effects.specs.Effects as effects
 use Rattle.canvas_effects.specs.Effects.{effect_of, script, stores_in, messages_in, part_in, part_jobs}
 use Rattle.canvas_effects.specs.Flowing.{run, no_input, after_outcome}

@@ -8,7 +8,7 @@ use crate::envelopes;
 use crate::runs::states::first_envelopes;
 use canvas_backend::{Backend, BackendSeat, PlainBackend, Stored};
 use canvas_broker::{Broker, BrokerPass, PlainBroker};
-use canvas_message::{Envelope, Letter};
+use canvas_envelope::{Envelope, Letter};
 use canvas_rewrite::Plan;
 use canvas_task::{
     Add, AddFault, Arg, BuiltinTasks, Fault, Kind, Memory, Outcome, Registry, TaskNo,

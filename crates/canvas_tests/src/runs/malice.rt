@@ -4,7 +4,7 @@ use crate::envelopes::envelope;
 use crate::runs::by_hand::{Left, work};
 use crate::runs::forgeries::{CALLBACK, Change, FORMS, MEMBER, NAMES, RESTS};
 use crate::runs::states::{FAILING, push_first, spelled_plan};
-use canvas_message::Letter;
+use canvas_envelope::Letter;
 use canvas_rewrite::Plan;
 use canvas_task::Memory;
 use canvas_worker::OpenGate;

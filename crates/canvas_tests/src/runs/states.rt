@@ -5,7 +5,7 @@ use crate::samples::spelled;
 use canvas_codec::seal;
 use canvas_effects::first_messages;
 use canvas_engine::{RunFault, Tally, run};
-use canvas_message::Letter;
+use canvas_envelope::Letter;
 use canvas_rewrite::Plan;
 use canvas_task::{ListOf, Memory, Tasks};
 use canvas_worker::{Gate, Stop};

@@ -7,7 +7,7 @@ use Rattle.canvas_semantics.specs.Line.{Line}
 use Rattle.canvas_rewrite.specs.FrozenView.{PCarried}
 use Rattle.canvas_rewrite.specs.Planned.{IsPlan}
 use Rattle.canvas_history.specs.Seats.{Desk}
-use Rattle.canvas_message.specs.Content.{Content}
+use Rattle.canvas_envelope.specs.Content.{Content}
 use Rattle.canvas_history.specs.Roster.{Roster, roster_of}
 use Rattle.canvas_runs.specs.Core.{CoreState, taking, resting, over, left_after}
 use Rattle.canvas_runs.specs.Following.{Pass, Seat, Working, Followed, starting, IsOver}

@@ -2,7 +2,7 @@
 use Rattle.std.proofs.Common.{◌≡◌, ◌∙◌, ℕ, ◌+◌, min, false, List, [], ◌∷◌, ◌++◌, Some, Result, Ok, Err, refl, sym, ap, subst}
 use Rattle.std.specs.Prelude.{MatchResult, true, IsSome}
 use Rattle.canvas_task.specs.Apply.{Behaviour}
-use Rattle.canvas_message.specs.declared.envelope.Envelope.{Envelope}
+use Rattle.canvas_envelope.specs.declared.envelope.Envelope.{Envelope}
 use Rattle.canvas_history.specs.Seats.{Desk}
 use Rattle.canvas_history.specs.Roster.{Roster}
 use Rattle.canvas_history.specs.Queue as queue

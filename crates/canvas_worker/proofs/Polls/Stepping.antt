@@ -3,7 +3,7 @@ use Rattle.std.proofs.Common.{◌≡◌, ℕ, ◌+◌, ◌≤◌, List, [], ◌�
 use Rattle.canvas_task.specs.Apply.{Behaviour}
 use Rattle.canvas_history.specs.History.{calls, live_from}
 use Rattle.canvas_history.proofs.Histories.{legal_left}
-use Rattle.canvas_message.specs.declared.envelope.Envelope.{Envelope}
+use Rattle.canvas_envelope.specs.declared.envelope.Envelope.{Envelope}
 use Rattle.canvas_history.specs.Roster.{Roster}
 use Rattle.canvas_history.specs.Queue as queue
 use Rattle.canvas_history.specs.Queue.{QueueEntry as Entries, answer_of, next, May, IsLegal, takes_of}

@@ -1,6 +1,6 @@
 -- The envelopes that a worker took and has not given to its core.
 use Rattle.std.specs.Prelude.{List, []}
-use Rattle.canvas_message.specs.declared.envelope.Envelope.{Envelope}
+use Rattle.canvas_envelope.specs.declared.envelope.Envelope.{Envelope}
 use Rattle.canvas_worker.specs.declared.source.Source.{Source}
 use Rattle.canvas_worker.specs.declared.source.Source.TheVariants.{Batched}
 

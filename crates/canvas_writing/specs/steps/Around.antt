@@ -6,8 +6,8 @@ use Rattle.std.specs.Prelude.{ℕ, Bool, true, false, List, [], ◌∷◌, ◌++
 use Rattle.json.specs.Token.{Token, key}
 use Rattle.serde_json.specs.Data.{Data, null, string}
 use Rattle.canvas_semantics.specs.PlacedLine.{PTask, PPlace, p_nowhere, p_group, p_chord, PLine, p_stop, p_step, p_group_end, p_chord_end, PLines}
-use Rattle.canvas_message.specs.Content.{place_of}
-use Rattle.canvas_message.specs.Wire.{task_wire, line_wire, members_wire}
+use Rattle.canvas_envelope.specs.Content.{place_of}
+use Rattle.canvas_envelope.specs.Wire.{task_wire, line_wire, members_wire}
 use Rattle.canvas_writing.specs.steps.Tokens.{task_front, task_behind, opening_tokens, group_closing, list_tokens, chain_before, chain_behind}
 
 abbrev pub is_carrying : PPlace → Bool

@@ -2,8 +2,8 @@
 use Rattle.std.specs.Prelude.{◌≡◌, ◌==◌, ◌++◌, ℕ, List, length, reverse}
 use Rattle.std.specs.Str.{IsUtf8}
 use Rattle.canvas_semantics.specs.PlacedLine.{PLine, p_stop, p_step, p_group_end, p_chord_end}
-use Rattle.canvas_message.specs.SharedTexts.{AreEnds, IsListed, backwards}
-use Rattle.canvas_message.specs.steps.Parts.{is_stop}
+use Rattle.canvas_envelope.specs.SharedTexts.{AreEnds, IsListed, backwards}
+use Rattle.canvas_envelope.specs.steps.Parts.{is_stop}
 
 -- the group or chord that a line ends in
 abbrev pub tail_line : PLine → PLine

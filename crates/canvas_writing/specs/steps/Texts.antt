@@ -4,7 +4,7 @@ use Rattle.serde_json.specs.Data.{Data, null, string, object, Items, Members, me
 use Rattle.serde_json.specs.Written.{compact_text, items_text}
 use Rattle.canvas_semantics.specs.PlacedLine.{PTask, p_task, no_p_tasks, p_nowhere}
 use Rattle.canvas_rewrite.specs.declared.frozen.FrozenTask.{FrozenTask, out-FrozenTask}
-use Rattle.canvas_message.specs.Wire.{task_id}
+use Rattle.canvas_envelope.specs.Wire.{task_id}
 
 -- the text stands behind what stood there
 abbrev pub Adds : {E : Type 0} → Result (Unit {0}) E → (old new : List ℕ) → List ℕ → Type 0

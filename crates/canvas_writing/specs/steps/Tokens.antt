@@ -5,8 +5,8 @@ use Rattle.serde_json.specs.Data.{Data, null, string, Items, no_items, Members}
 use Rattle.canvas_wire.specs.Writing.{args_wire, kwargs_wire}
 use Rattle.canvas_wire.specs.steps.Tokens.{data_tokens, front_tokens, flag_tokens, kwargs_tokens, link_tokens, member_tokens, closing_tokens, kind_tokens, name_tokens}
 use Rattle.canvas_semantics.specs.PlacedLine.{PTask, PLine, p_stop, p_step, p_group_end, p_chord_end, PLines, no_p_lines}
-use Rattle.canvas_message.specs.Content.{number_of, call_of, links_of, errbacks_of, place_of}
-use Rattle.canvas_message.specs.Wire.{task_id, group_id, place_id, task_wire, tasks_wire, line_wire}
+use Rattle.canvas_envelope.specs.Content.{number_of, call_of, links_of, errbacks_of, place_of}
+use Rattle.canvas_envelope.specs.Wire.{task_id, group_id, place_id, task_wire, tasks_wire, line_wire}
 
 -- a member
 abbrev pub named_tokens : List ℕ → Data → List Token

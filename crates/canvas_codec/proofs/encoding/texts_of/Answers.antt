@@ -5,9 +5,9 @@ use Rattle.std.proofs.lemmas.Str.{IsUtf8-append, IsUtf8-string_bytes}
 use Rattle.json.specs.Print.{escape}
 use Rattle.serde_json.specs.Data.{string}
 use Rattle.serde_json.specs.Written.{compact_text}
-use Rattle.canvas_message.specs.Content.{number_of}
-use Rattle.canvas_message.specs.Pieces.{shared_text}
-use Rattle.canvas_message.specs.Wire.{properties_wire, headers_wire}
+use Rattle.canvas_envelope.specs.Content.{number_of}
+use Rattle.canvas_envelope.specs.Pieces.{shared_text}
+use Rattle.canvas_envelope.specs.Wire.{properties_wire, headers_wire}
 use Rattle.canvas_writing.specs.steps.Texts.{properties_naming}
 use Rattle.canvas_writing.proofs.KnownTexts.{task_plain}
 use Rattle.canvas_codec.proofs.OwnTexts.{first_part, middle_part, last_part, parts_utf8, shared_utf8, text_length}

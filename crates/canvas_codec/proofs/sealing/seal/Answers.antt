@@ -1,6 +1,6 @@
 use Rattle.std.proofs.Common.{◌∙◌, ap}
 use Rattle.serde_json.specs.Written.{compact_text}
-use Rattle.canvas_message.specs.Wire.{properties_wire, headers_wire, body_wire}
+use Rattle.canvas_envelope.specs.Wire.{properties_wire, headers_wire, body_wire}
 use Rattle.canvas_codec.proofs.sealing.seal.Goals as goal
 
 pub returns-clause-texts : goal.returns-clause-texts

@@ -1,5 +1,5 @@
 use Rattle.std.proofs.Common.{rules, map, ap, ◌∙◌}
-use Rattle.canvas_message.proofs.Seen.{task_seen}
+use Rattle.canvas_envelope.proofs.Seen.{task_seen}
 use Rattle.canvas_core.proofs.Books.KnownLines.{known_none, known_some, chord_known, and_then, and_else}
 use Rattle.canvas_rewrite.specs.FrozenView.{p_tasks_of, p_task_view, p_end_view}
 use Rattle.canvas_runs.specs.Book.{tasks_known, line_known}

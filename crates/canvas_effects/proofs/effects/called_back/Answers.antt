@@ -1,8 +1,8 @@
 use Rattle.std.proofs.Common.{◌≡◌, ◌∙◌, true, map, sym, ap}
 use Rattle.canvas_rewrite.specs.FrozenView.{p_tasks_of, p_task_view}
 use Rattle.canvas_effects.specs.Carrying.{callbacks_ok}
-use Rattle.canvas_message.specs.Content.{links_of, errbacks_of}
-use Rattle.canvas_message.specs.Fits.{fits}
+use Rattle.canvas_envelope.specs.Content.{links_of, errbacks_of}
+use Rattle.canvas_envelope.specs.Fits.{fits}
 use Rattle.canvas_effects.proofs.Ended.{own_stepped}
 use Rattle.canvas_effects.proofs.effects.called_back.Goals as goal
 

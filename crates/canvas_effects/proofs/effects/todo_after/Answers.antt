@@ -2,11 +2,11 @@ use Rattle.std.proofs.Common.{◌≡◌, ◌∙◌, true, sym, ap, ap₂, refl}
 use Rattle.std.proofs.lemmas.Result.{IfOk-weaker}
 use Rattle.canvas_rewrite.specs.FrozenView.{p_line_view}
 use Rattle.canvas_semantics.specs.PlacedLine.{PPlace, p_nowhere, p_stop}
-use Rattle.canvas_message.specs.Content.{number_of, links_of, errbacks_of, place_of}
-use Rattle.canvas_message.specs.Fits.{fits, is_task_number}
-use Rattle.canvas_message.specs.MessageView.{place_seen, rest_seen}
-use Rattle.canvas_message.specs.SharedTexts.{place_behind}
-use Rattle.canvas_message.specs.steps.Parts.{is_stop}
+use Rattle.canvas_envelope.specs.Content.{number_of, links_of, errbacks_of, place_of}
+use Rattle.canvas_envelope.specs.Fits.{fits, is_task_number}
+use Rattle.canvas_envelope.specs.MessageView.{place_seen, rest_seen}
+use Rattle.canvas_envelope.specs.SharedTexts.{place_behind}
+use Rattle.canvas_envelope.specs.steps.Parts.{is_stop}
 use Rattle.canvas_effects.specs.Carrying.{is_whole}
 use Rattle.canvas_effects.specs.Effects.{after, called, messages_in, part_in, part_of}
 use Rattle.canvas_effects.proofs.Ended.{rest_stands, failed, ended_last, own_stepped}

@@ -1,7 +1,7 @@
 use Rattle.std.proofs.Common.{◌∙◌, sym, ap, refl}
 use Rattle.canvas_rewrite.specs.declared.frozen.FrozenLine.{out-FrozenLine}
 use Rattle.canvas_effects.specs.Placing.{placed}
-use Rattle.canvas_message.specs.MessageView.{place_seen}
+use Rattle.canvas_envelope.specs.MessageView.{place_seen}
 use Rattle.canvas_effects.proofs.Copied.{longer_placed, line_parts}
 use Rattle.canvas_effects.proofs.moving.+placed.Goals as goal
 

@@ -3,7 +3,7 @@ use Rattle.json.specs.Token.{begin_object, end_object, key}
 use Rattle.serde_json.specs.Data.{string}
 use Rattle.canvas_wire.specs.steps.Tokens.{data_tokens}
 use Rattle.canvas_wire.proofs.Writers.{after_ok, then_tokens}
-use Rattle.canvas_message.specs.Content.{number_of}
+use Rattle.canvas_envelope.specs.Content.{number_of}
 use Rattle.canvas_export.specs.Envelope.{headers_wire, properties_wire}
 use Rattle.canvas_export.specs.ExportView.{naming}
 use Rattle.canvas_export.proofs.Lines.{appended}

@@ -1,7 +1,7 @@
 use Rattle.std.proofs.Common.{◌∙◌, ◌++◌, ap, ap₂, map}
 use Rattle.std.specs.Prelude.{string_bytes}
 use Rattle.canvas_rewrite.specs.FrozenView.{p_tasks_of, p_task_view}
-use Rattle.canvas_message.specs.Wire.{tasks_wire, list_or_null}
+use Rattle.canvas_envelope.specs.Wire.{tasks_wire, list_or_null}
 use Rattle.canvas_writing.specs.steps.Texts.{closing_text}
 use Rattle.canvas_writing.proofs.Bodies.{alone_text}
 use Rattle.canvas_writing.proofs.body.alone.Goals as goal

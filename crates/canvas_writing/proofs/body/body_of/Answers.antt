@@ -3,18 +3,18 @@ use Rattle.std.proofs.lemmas.Result.{IfOk-weaker, IfOk-from_err}
 use Rattle.serde_json.specs.Data.{null, array}
 use Rattle.serde_json.specs.Written.{compact_text}
 use Rattle.canvas_rewrite.specs.FrozenView.{p_tasks_of, p_task_view, p_line_view}
-use Rattle.canvas_message.specs.Content.{end_place}
-use Rattle.canvas_message.specs.MessageView.{place_seen, rest_seen}
-use Rattle.canvas_message.specs.SharedTexts.{IsLineText, SaysCarried, backwards, place_behind}
-use Rattle.canvas_message.specs.Wire.{carried_wire, list_or_null, body_wire}
-use Rattle.canvas_message.specs.steps.Parts.{is_stop}
+use Rattle.canvas_envelope.specs.Content.{end_place}
+use Rattle.canvas_envelope.specs.MessageView.{place_seen, rest_seen}
+use Rattle.canvas_envelope.specs.SharedTexts.{IsLineText, SaysCarried, backwards, place_behind}
+use Rattle.canvas_envelope.specs.Wire.{carried_wire, list_or_null, body_wire}
+use Rattle.canvas_envelope.specs.steps.Parts.{is_stop}
 use Rattle.canvas_writing.proofs.Bodies.{by_parts}
 use Rattle.canvas_writing.proofs.PieceTexts.{end_behind}
 use Rattle.canvas_writing.proofs.LineTokens.{some_following}
 use Rattle.canvas_writing.proofs.Followed.{nothing_carried}
 use Rattle.std.specs.Prelude.{IfSome}
 use Rattle.std.specs.Str.{IsUtf8}
-use Rattle.canvas_message.specs.Pieces.{piece_text}
+use Rattle.canvas_envelope.specs.Pieces.{piece_text}
 use Rattle.canvas_writing.proofs.body.body_of.Goals as goal
 
 pub returns-in_ok-piece-in-Some-clause-value : goal.returns-in_ok-piece-in-Some-clause-value

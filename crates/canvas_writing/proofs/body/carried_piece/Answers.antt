@@ -2,9 +2,9 @@ use Rattle.std.proofs.lemmas.Result.{IfOk-from_err}
 use Rattle.std.proofs.Common.{◌∙◌, sym, ap, subst}
 use Rattle.std.specs.Prelude.{IfSome}
 use Rattle.serde_json.specs.Written.{compact_text}
-use Rattle.canvas_message.specs.MessageView.{place_seen}
-use Rattle.canvas_message.specs.SharedTexts.{SaysCarried}
-use Rattle.canvas_message.specs.Wire.{carried_wire}
+use Rattle.canvas_envelope.specs.MessageView.{place_seen}
+use Rattle.canvas_envelope.specs.SharedTexts.{SaysCarried}
+use Rattle.canvas_envelope.specs.Wire.{carried_wire}
 use Rattle.canvas_writing.proofs.PieceTexts.{carried_utf8}
 use Rattle.canvas_writing.proofs.body.carried_piece.Goals as goal
 

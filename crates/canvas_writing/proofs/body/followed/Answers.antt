@@ -1,8 +1,8 @@
 use Rattle.std.proofs.Common.{◌∙◌, ◌++◌, ap, ap₂, codes, map}
 use Rattle.std.specs.Prelude.{string_bytes}
 use Rattle.canvas_rewrite.specs.FrozenView.{p_tasks_of, p_task_view}
-use Rattle.canvas_message.specs.Pieces.{piece_text}
-use Rattle.canvas_message.specs.Wire.{tasks_wire, list_or_null}
+use Rattle.canvas_envelope.specs.Pieces.{piece_text}
+use Rattle.canvas_envelope.specs.Wire.{tasks_wire, list_or_null}
 use Rattle.canvas_writing.specs.steps.Texts.{closing_text}
 use Rattle.canvas_writing.proofs.Bodies.{followed_text}
 use Rattle.canvas_writing.proofs.body.followed.Goals as goal

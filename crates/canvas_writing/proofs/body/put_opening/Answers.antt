@@ -4,7 +4,7 @@ use Rattle.serde_json.specs.Written.{compact_text}
 use Rattle.canvas_task.specs.Entries.{named}
 use Rattle.canvas_wire.specs.Writing.{args_wire, kwargs_wire}
 use Rattle.canvas_rewrite.specs.FrozenView.{p_tasks_of, p_task_view}
-use Rattle.canvas_message.specs.Wire.{tasks_wire, list_or_null}
+use Rattle.canvas_envelope.specs.Wire.{tasks_wire, list_or_null}
 use Rattle.canvas_writing.specs.steps.Texts.{args_text}
 use Rattle.canvas_writing.proofs.KnownTexts.{then_ok, then_text}
 use Rattle.canvas_writing.proofs.body.put_opening.Goals as goal

@@ -3,7 +3,7 @@ use Rattle.std.specs.Prelude.{string_bytes}
 use Rattle.std.specs.Str.{IsUtf8}
 use Rattle.std.specs.String.{string_len}
 use Rattle.canvas_rewrite.specs.FrozenView.{p_line_view}
-use Rattle.canvas_message.specs.SharedTexts.{IsListed, backwards, head_text}
+use Rattle.canvas_envelope.specs.SharedTexts.{IsListed, backwards, head_text}
 use Rattle.canvas_writing.proofs.PieceTexts.{known_listed, known_utf8, whole_listed, whole_utf8}
 use Rattle.canvas_writing.proofs.body.rest_piece.Goals as goal
 

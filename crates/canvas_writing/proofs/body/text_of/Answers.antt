@@ -1,6 +1,6 @@
 use Rattle.std.proofs.Common.{◌∙◌, ap}
 use Rattle.std.proofs.lemmas.Result.{IfOk-from_err}
-use Rattle.canvas_message.specs.SharedTexts.{carried_bytes}
+use Rattle.canvas_envelope.specs.SharedTexts.{carried_bytes}
 use Rattle.canvas_writing.proofs.CarriedTexts.{says_place, says_bytes}
 use Rattle.canvas_writing.proofs.body.text_of.Goals as goal
 

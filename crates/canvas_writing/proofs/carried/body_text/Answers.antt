@@ -2,8 +2,8 @@ use Rattle.std.proofs.lemmas.Result.{IfOk-from_err}
 use Rattle.std.proofs.Common.{◌∙◌, sym, ap, subst}
 use Rattle.canvas_rewrite.specs.FrozenView.{p_line_view}
 use Rattle.canvas_rewrite.specs.declared.frozen.Carried.{out-Carried}
-use Rattle.canvas_message.specs.Content.{end_place}
-use Rattle.canvas_message.specs.SharedTexts.{SaysCarried}
+use Rattle.canvas_envelope.specs.Content.{end_place}
+use Rattle.canvas_envelope.specs.SharedTexts.{SaysCarried}
 use Rattle.canvas_writing.specs.steps.Around.{carries}
 use Rattle.canvas_writing.proofs.CarriedTexts.{alone_made}
 use Rattle.canvas_writing.proofs.carried.body_text.Goals as goal

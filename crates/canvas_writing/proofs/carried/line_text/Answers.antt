@@ -1,7 +1,7 @@
 use Rattle.std.proofs.Common.{◌∙◌, Some, ap}
 use Rattle.canvas_wire.proofs.Writers.{whole_text}
 use Rattle.canvas_rewrite.specs.FrozenView.{p_line_view}
-use Rattle.canvas_message.specs.Wire.{line_wire}
+use Rattle.canvas_envelope.specs.Wire.{line_wire}
 use Rattle.canvas_writing.proofs.carried.line_text.Goals as goal
 
 pub returns : goal.returns

@@ -1,7 +1,7 @@
 use Rattle.std.proofs.Common.{◌∙◌, ◌++◌, None, append-nil, refl, sym, ap}
 use Rattle.canvas_wire.specs.steps.Tokens.{data_tokens}
 use Rattle.canvas_rewrite.specs.FrozenView.{p_end_view}
-use Rattle.canvas_message.specs.Wire.{line_wire}
+use Rattle.canvas_envelope.specs.Wire.{line_wire}
 use Rattle.canvas_writing.proofs.LineTokens.{no_tail, a_tail}
 use Rattle.canvas_writing.proofs.TaskTokens.{alike}
 use Rattle.canvas_writing.proofs.frozen.write_tail.Goals as goal

@@ -4,9 +4,9 @@ use Rattle.json.specs.Print.{escape}
 use Rattle.serde_json.specs.Data.{string}
 use Rattle.serde_json.specs.Written.{compact_text}
 use Rattle.canvas_task.specs.Identifiers.{task_text}
-use Rattle.canvas_message.specs.Content.{number_of}
-use Rattle.canvas_message.specs.MessageView.{place_seen}
-use Rattle.canvas_message.specs.Wire.{place_id, parent_id, headers_wire}
+use Rattle.canvas_envelope.specs.Content.{number_of}
+use Rattle.canvas_envelope.specs.MessageView.{place_seen}
+use Rattle.canvas_envelope.specs.Wire.{place_id, parent_id, headers_wire}
 use Rattle.canvas_writing.specs.steps.Texts.{front_text, origin_text, name_text, headers_naming}
 use Rattle.canvas_writing.proofs.KnownTexts.{then_ok, then_text, headers_written, task_plain}
 use Rattle.canvas_writing.proofs.light.put_headers.Goals as goal

@@ -1,6 +1,6 @@
 use Rattle.std.proofs.Common.{ap, sym}
 use Rattle.std.specs.Prelude.{codes, string_bytes}
-use Rattle.canvas_message.specs.Wire.{parent_id}
+use Rattle.canvas_envelope.specs.Wire.{parent_id}
 use Rattle.canvas_writing.specs.steps.Texts.{origin_text}
 use Rattle.canvas_writing.proofs.KnownTexts.{alike_text}
 use Rattle.canvas_writing.proofs.light.put_origin.Goals as goal

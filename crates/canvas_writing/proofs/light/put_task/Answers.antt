@@ -5,7 +5,7 @@ use Rattle.serde_json.specs.Written.{compact_text}
 use Rattle.canvas_task.specs.Identifiers.{task_text}
 use Rattle.canvas_wire.specs.Writing.{args_wire, kwargs_wire}
 use Rattle.canvas_rewrite.specs.declared.frozen.FrozenTask.{out-FrozenTask}
-use Rattle.canvas_message.specs.Wire.{task_id, frozen_wire}
+use Rattle.canvas_envelope.specs.Wire.{task_id, frozen_wire}
 use Rattle.canvas_writing.specs.steps.Texts.{call_text, own_text, name_text}
 use Rattle.canvas_writing.proofs.KnownTexts.{then_ok, then_text, task_written, task_plain}
 use Rattle.canvas_writing.proofs.light.put_task.Goals as goal

@@ -2,7 +2,7 @@ use Rattle.std.proofs.Common.{◌≡◌, ◌∙◌, ◌==◌, arith, length, vec
 use Rattle.std.specs.Prelude.{not}
 use Rattle.std.specs.Str.{IsUtf8}
 use Rattle.canvas_rewrite.specs.FrozenView.{p_task_view}
-use Rattle.canvas_message.specs.Wire.{task_wire}
+use Rattle.canvas_envelope.specs.Wire.{task_wire}
 use Rattle.canvas_writing.proofs.Listing.{grown, put_behind, printed}
 use Rattle.canvas_writing.proofs.line.add.Goals as goal
 

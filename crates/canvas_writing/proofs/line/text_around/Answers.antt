@@ -3,7 +3,7 @@ use Rattle.std.specs.Prelude.{map, string_bytes}
 use Rattle.std.proofs.lemmas.Result.{IfOk-weaker}
 use Rattle.canvas_semantics.specs.PlacedLine.{PLine}
 use Rattle.canvas_rewrite.specs.FrozenView.{p_steps, p_task_view, p_line_view}
-use Rattle.canvas_message.specs.SharedTexts.{IsLineText, IsListed, backwards, carried_bytes, core_of, elements_head, elements_own, rings_of}
+use Rattle.canvas_envelope.specs.SharedTexts.{IsLineText, IsListed, backwards, carried_bytes, core_of, elements_head, elements_own, rings_of}
 use Rattle.canvas_writing.specs.steps.Listing.{Listing, last_line}
 use Rattle.canvas_writing.proofs.Listing.{begun_around, front_and_last}
 use Rattle.canvas_writing.proofs.line.text_around.Goals as goal

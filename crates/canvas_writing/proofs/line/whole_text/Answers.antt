@@ -1,7 +1,7 @@
 use Rattle.std.proofs.Common.{◌∙◌, [], ◌++◌, subst}
 use Rattle.std.proofs.lemmas.Result.{IfOk-weaker}
 use Rattle.canvas_rewrite.specs.FrozenView.{p_line_view}
-use Rattle.canvas_message.specs.SharedTexts.{IsLineText, IsListed, backwards, elements_head, elements_own}
+use Rattle.canvas_envelope.specs.SharedTexts.{IsLineText, IsListed, backwards, elements_head, elements_own}
 use Rattle.canvas_writing.specs.steps.Listing.{tail_line}
 use Rattle.canvas_writing.proofs.Listing.{all_tasks}
 use Rattle.canvas_writing.proofs.line.whole_text.Goals as goal

@@ -5,7 +5,7 @@ use Rattle.canvas_history.specs.Queue.{answer_of, next, May}
 use Rattle.canvas_history.specs.Passes.{IsHistory}
 use Rattle.canvas_broker.specs.steps.Rule.{IsReady, united}
 use Rattle.canvas_broker.specs.declared.view.View.{View}
-use Rattle.canvas_message.specs.declared.envelope.Envelope.{Envelope}
+use Rattle.canvas_envelope.specs.declared.envelope.Envelope.{Envelope}
 use Rattle.canvas_broker.proofs.RuleSteps.{merges, hears, united_ready}
 use Rattle.canvas_broker.proofs.broker.Broker.join.Goals as goal
 

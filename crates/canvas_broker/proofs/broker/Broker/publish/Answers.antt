@@ -1,7 +1,7 @@
 use Rattle.std.proofs.Common.{None, ◌∷◌, [], refl, subst}
 use Rattle.canvas_history.specs.Callers.{Adds}
 use Rattle.canvas_history.specs.History.{calls}
-use Rattle.canvas_message.specs.declared.envelope.Envelope.{Envelope}
+use Rattle.canvas_envelope.specs.declared.envelope.Envelope.{Envelope}
 use Rattle.canvas_history.specs.Queue.{publish}
 use Rattle.canvas_history.specs.Passes.{Pass}
 use Rattle.canvas_broker.specs.steps.PassKnowledge.{Knowledge, pass_of}

@@ -2,7 +2,7 @@ use Rattle.std.proofs.Common.{◌≡◌, ◌∷◌, [], ℕ, refl, sym, ◌∙�
 use Rattle.canvas_history.specs.Callers.{Adds}
 use Rattle.canvas_history.specs.History.{split, made_by}
 use Rattle.canvas_history.proofs.CallerLaws.{made_fresh}
-use Rattle.canvas_message.specs.declared.envelope.Envelope.{Envelope}
+use Rattle.canvas_envelope.specs.declared.envelope.Envelope.{Envelope}
 use Rattle.canvas_history.specs.Queue.{answer_of, next, May}
 use Rattle.canvas_history.specs.Passes.{Pass}
 use Rattle.canvas_broker.specs.steps.PassKnowledge.{Knowledge}

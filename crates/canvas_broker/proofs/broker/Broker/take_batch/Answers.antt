@@ -3,7 +3,7 @@ use Rattle.crossbeam_queue.specs.Fifo.{Admits}
 use Rattle.crossbeam_queue.specs.SegTies.{IsSegPassOf}
 use Rattle.arrayvec.specs.ArrayVec.{array_vec_len}
 use Rattle.crossbeam_queue.specs.SegBatches.{Holds}
-use Rattle.canvas_message.specs.declared.envelope.Envelope.{Envelope}
+use Rattle.canvas_envelope.specs.declared.envelope.Envelope.{Envelope}
 use Rattle.canvas_history.proofs.Histories.{In}
 use Rattle.canvas_broker.specs.declared.item.Item.{Item}
 use Rattle.canvas_history.specs.Passes.{QueueId, Pass, Took}

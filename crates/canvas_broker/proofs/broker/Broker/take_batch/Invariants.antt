@@ -2,7 +2,7 @@ use Rattle.std.proofs.Common.{◌+◌, ◌≤◌, List, ◌++◌}
 use Rattle.arrayvec.specs.ArrayVec.{array_vec_len}
 use Rattle.crossbeam_queue.specs.SegTies.{IsSegPassOf}
 use Rattle.crossbeam_queue.specs.SegBatches.{Holds}
-use Rattle.canvas_message.specs.declared.envelope.Envelope.{Envelope}
+use Rattle.canvas_envelope.specs.declared.envelope.Envelope.{Envelope}
 use Rattle.canvas_broker.specs.declared.item.Item.{Item}
 use Rattle.canvas_history.specs.Passes.{Took}
 use Rattle.canvas_broker.specs.steps.PassKnowledge.{pass_of, seg_of}

@@ -1,6 +1,6 @@
 use Rattle.std.proofs.Common.{sym, subst}
 use Rattle.canvas_values.specs.Answers.{Gives}
-use Rattle.canvas_message.specs.MessageView.{rest_seen}
+use Rattle.canvas_envelope.specs.MessageView.{rest_seen}
 use Rattle.canvas_codec.proofs.Made.{chain_starts}
 use Rattle.canvas_codec.proofs.read.embed.read_rest.Goals as goal
 

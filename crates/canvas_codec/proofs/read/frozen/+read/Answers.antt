@@ -8,7 +8,7 @@ use Rattle.canvas_values.specs.Answers.{Gives, Fails, ◌or_else◌, unless, in_
 use Rattle.canvas_values.specs.Fields.{option, listed, tasks, as_list, object_members, text_of, is_true}
 use Rattle.canvas_values.specs.Grammar.{own_fault, arg_reading, named_reading}
 use Rattle.canvas_rewrite.specs.FrozenView.{p_task_view, p_line_view}
-use Rattle.canvas_message.specs.FrozenGrammar.{task_of, group_of, but_a_place}
+use Rattle.canvas_envelope.specs.FrozenGrammar.{task_of, group_of, but_a_place}
 use Rattle.canvas_codec.specs.steps.FrozenReading.{if_numbered, place_with, task_with, group_with, chord_with, header_fault, elements_with, link_reading, step_reading, last_reading, line_reading}
 use Rattle.canvas_codec.proofs.Made.{task_read, group_read, chord_read, last_apart, no_line, last_item, no_items}
 use Rattle.canvas_codec.proofs.Turns.{read_on, read_all}

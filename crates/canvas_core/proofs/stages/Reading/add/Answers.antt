@@ -4,7 +4,7 @@ use Rattle.canvas_task.specs.declared.outcome.Outcome.{Outcome}
 use Rattle.canvas_rewrite.specs.FrozenView.{PCarried}
 use Rattle.canvas_effects.specs.Effects.{body_after, script}
 use Rattle.canvas_effects.specs.Todos.{todo_view}
-use Rattle.canvas_message.specs.declared.envelope.Envelope.{Envelope}
+use Rattle.canvas_envelope.specs.declared.envelope.Envelope.{Envelope}
 use Rattle.canvas_history.specs.declared.stored.Stored.TheVariants.{Again}
 use Rattle.canvas_runs.specs.Core.{settled, reads_next}
 use Rattle.canvas_runs.specs.Protocol.{Protocol}

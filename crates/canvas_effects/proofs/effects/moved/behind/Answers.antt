@@ -2,7 +2,7 @@ use Rattle.std.proofs.Common.{rules, ◌∙◌, ◌++◌, Some, sym, ap, ap₂, 
 use Rattle.std.proofs.lemmas.Int.{to_z-of_z}
 use Rattle.std.proofs.lemmas.Result.{IfOk-weaker}
 use Rattle.canvas_rewrite.specs.FrozenView.{p_line_view}
-use Rattle.canvas_message.specs.Content.{number_of, links_of, errbacks_of}
+use Rattle.canvas_envelope.specs.Content.{number_of, links_of, errbacks_of}
 use Rattle.canvas_effects.specs.Effects.{after, called, messages_in}
 use Rattle.canvas_effects.specs.Flowing.{number_input}
 use Rattle.canvas_effects.specs.Placing.{end_place}

@@ -1,10 +1,10 @@
 use Rattle.std.proofs.Common.{◌≡◌, ◌∙◌, true, false, sym, ap}
 use Rattle.std.proofs.lemmas.Result.{IfOk-weaker}
 use Rattle.canvas_rewrite.specs.FrozenView.{p_line_view}
-use Rattle.canvas_message.specs.Content.{number_of, place_of}
-use Rattle.canvas_message.specs.Fits.{fits, is_task_number}
-use Rattle.canvas_message.specs.MessageView.{rest_seen}
-use Rattle.canvas_message.specs.steps.Parts.{is_stop}
+use Rattle.canvas_envelope.specs.Content.{number_of, place_of}
+use Rattle.canvas_envelope.specs.Fits.{fits, is_task_number}
+use Rattle.canvas_envelope.specs.MessageView.{rest_seen}
+use Rattle.canvas_envelope.specs.steps.Parts.{is_stop}
 use Rattle.canvas_effects.proofs.Begun.{not_stop}
 use Rattle.canvas_effects.proofs.Ended.{ended_last, own_stepped, rest_stands}
 use Rattle.canvas_effects.proofs.Sharing.{anywhere}

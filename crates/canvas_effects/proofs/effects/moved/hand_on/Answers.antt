@@ -1,8 +1,8 @@
 use Rattle.std.proofs.Common.{◌∙◌, sym, ap, subst}
 use Rattle.canvas_rewrite.specs.FrozenView.{p_line_view, p_task_view}
 use Rattle.canvas_semantics.specs.PlacedLine.{p_nowhere}
-use Rattle.canvas_message.specs.MessageView.{rest_seen}
-use Rattle.canvas_message.specs.SharedTexts.{AreTexts}
+use Rattle.canvas_envelope.specs.MessageView.{rest_seen}
+use Rattle.canvas_envelope.specs.SharedTexts.{AreTexts}
 use Rattle.canvas_effects.specs.Carrying.{is_whole}
 use Rattle.canvas_effects.specs.steps.Walks.{input_seen}
 use Rattle.canvas_effects.proofs.Standing.{message_fits}

@@ -1,7 +1,7 @@
 use Rattle.std.proofs.Common.{◌∙◌, map, sym, ap, None}
 use Rattle.canvas_rewrite.specs.FrozenView.{p_steps, p_task_view}
 use Rattle.canvas_semantics.specs.PlacedLine.{p_stop}
-use Rattle.canvas_message.specs.MessageView.{rest_seen}
+use Rattle.canvas_envelope.specs.MessageView.{rest_seen}
 use Rattle.canvas_effects.proofs.Copied.{made_of}
 use Rattle.canvas_effects.proofs.effects.moved.line_of.Goals as goal
 

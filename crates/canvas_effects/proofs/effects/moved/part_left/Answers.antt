@@ -1,9 +1,9 @@
 use Rattle.std.proofs.Common.{◌≡◌, ◌∙◌, true, sym, ap, ap₂, subst}
 use Rattle.canvas_semantics.specs.PlacedLine.{p_stop}
-use Rattle.canvas_message.specs.Content.{number_of, place_of}
-use Rattle.canvas_message.specs.Fits.{fits}
-use Rattle.canvas_message.specs.MessageView.{place_seen, rest_seen}
-use Rattle.canvas_message.specs.SharedTexts.{AreTexts}
+use Rattle.canvas_envelope.specs.Content.{number_of, place_of}
+use Rattle.canvas_envelope.specs.Fits.{fits}
+use Rattle.canvas_envelope.specs.MessageView.{place_seen, rest_seen}
+use Rattle.canvas_envelope.specs.SharedTexts.{AreTexts}
 use Rattle.canvas_effects.specs.Carrying.{place_stands}
 use Rattle.canvas_effects.specs.Effects.{part_in, part_of}
 use Rattle.canvas_effects.proofs.Ended.{own_place_stands}

@@ -1,7 +1,7 @@
 use Rattle.std.proofs.Common.{◌∙◌, ◌++◌, ap, ap₂}
 use Rattle.std.proofs.lemmas.Result.{IfOk-weaker}
 use Rattle.canvas_rewrite.specs.FrozenView.{p_line_view}
-use Rattle.canvas_message.specs.Content.{number_of}
+use Rattle.canvas_envelope.specs.Content.{number_of}
 use Rattle.canvas_effects.specs.Ordered.{in_order}
 use Rattle.canvas_effects.specs.steps.Walks.{skipped}
 use Rattle.canvas_effects.proofs.effects.moved.skipped_behind.Goals as goal

@@ -1,4 +1,4 @@
-use Rattle.canvas_message.specs.SharedTexts.{elements_head, elements_own}
+use Rattle.canvas_envelope.specs.SharedTexts.{elements_head, elements_own}
 use Rattle.canvas_effects.proofs.Sharing.{next_end, nothing_left}
 use Rattle.canvas_effects.proofs.effects.moved.text_behind.Goals as goal
 

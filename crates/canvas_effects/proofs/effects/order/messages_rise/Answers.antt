@@ -1,6 +1,6 @@
 use Rattle.std.proofs.Common.{rules, ℕ}
 use Rattle.std.proofs.lemmas.List.Sorted.{answers_always}
-use Rattle.canvas_message.specs.Content.{Content, number_of}
+use Rattle.canvas_envelope.specs.Content.{Content, number_of}
 use Rattle.canvas_effects.proofs.Sorts.{in_order_stays}
 use Rattle.canvas_effects.proofs.effects.order.messages_rise.Goals as goal
 

@@ -1,7 +1,7 @@
 use Rattle.std.proofs.Common.{rules, ℕ}
 use Rattle.std.proofs.lemmas.List.Sorted.{answers_always, IsNonDecreasingBy-from_sort}
 use Rattle.std.proofs.lemmas.Result.{on_ok_weaker}
-use Rattle.canvas_message.specs.Content.{Content, number_of}
+use Rattle.canvas_envelope.specs.Content.{Content, number_of}
 use Rattle.canvas_effects.proofs.Sorts.{ordered_by_sort}
 use Rattle.canvas_effects.proofs.effects.order.sort_messages.Goals as goal
 

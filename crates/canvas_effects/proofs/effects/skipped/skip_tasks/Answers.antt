@@ -2,7 +2,7 @@ use Rattle.std.proofs.Common.{◌∙◌, ◌∷◌, [], ◌++◌, map, refl, sym
 use Rattle.canvas_task.specs.declared.outcome.Outcome.TheVariants.{Failure}
 use Rattle.canvas_task.proofs.Turns.{put_on, put_all}
 use Rattle.canvas_rewrite.specs.FrozenView.{p_task_view}
-use Rattle.canvas_message.specs.Content.{number_of}
+use Rattle.canvas_envelope.specs.Content.{number_of}
 use Rattle.canvas_effects.specs.steps.Walks.{skipped_tasks}
 use Rattle.canvas_effects.proofs.Walked.{number_seen}
 use Rattle.canvas_effects.proofs.effects.skipped.skip_tasks.Goals as goal

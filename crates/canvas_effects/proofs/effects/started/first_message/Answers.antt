@@ -2,8 +2,8 @@ use Rattle.std.proofs.Common.{◌∙◌, ap}
 use Rattle.std.proofs.lemmas.Result.{IfOk-weaker}
 use Rattle.canvas_rewrite.specs.FrozenView.{p_task_view, place_or}
 use Rattle.canvas_semantics.specs.PlacedLine.{p_stop}
-use Rattle.canvas_message.specs.Content.{place_of}
-use Rattle.canvas_message.specs.MessageView.{place_seen, rest_seen}
+use Rattle.canvas_envelope.specs.Content.{place_of}
+use Rattle.canvas_envelope.specs.MessageView.{place_seen, rest_seen}
 use Rattle.canvas_effects.specs.Placing.{placed}
 use Rattle.canvas_effects.specs.steps.Walks.{input_seen}
 use Rattle.canvas_effects.proofs.Begun.{moved_is, not_stop, place_put}

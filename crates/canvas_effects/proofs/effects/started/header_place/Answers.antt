@@ -1,5 +1,5 @@
 use Rattle.canvas_rewrite.specs.FrozenView.{p_line_view, place_or}
-use Rattle.canvas_message.specs.MessageView.{place_seen}
+use Rattle.canvas_envelope.specs.MessageView.{place_seen}
 use Rattle.canvas_effects.proofs.Begun.{header_made}
 use Rattle.canvas_effects.proofs.Sharing.{of_header}
 use Rattle.canvas_effects.proofs.effects.started.header_place.Goals as goal

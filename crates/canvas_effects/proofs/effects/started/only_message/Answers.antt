@@ -2,7 +2,7 @@ use Rattle.std.proofs.Common.{◌∙◌, None, ap}
 use Rattle.std.proofs.lemmas.Result.{IfOk-weaker}
 use Rattle.canvas_semantics.specs.PlacedLine.{p_nowhere}
 use Rattle.canvas_rewrite.specs.FrozenView.{p_task_view, place_or}
-use Rattle.canvas_message.specs.Fits.{fits}
+use Rattle.canvas_envelope.specs.Fits.{fits}
 use Rattle.canvas_effects.specs.Flowing.{no_input}
 use Rattle.canvas_effects.proofs.Begun.{place_put_again}
 use Rattle.canvas_effects.proofs.effects.started.only_message.Goals as goal

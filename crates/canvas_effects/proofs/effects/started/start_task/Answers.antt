@@ -1,6 +1,6 @@
 use Rattle.std.proofs.Common.{◌∙◌, ◌∷◌, ◌++◌, [], sym, ap}
 use Rattle.canvas_rewrite.specs.FrozenView.{p_task_view, place_or}
-use Rattle.canvas_message.specs.MessageView.{rest_seen}
+use Rattle.canvas_envelope.specs.MessageView.{rest_seen}
 use Rattle.canvas_effects.specs.Carrying.{can_stand}
 use Rattle.canvas_effects.specs.Placing.{last_at, placed}
 use Rattle.canvas_effects.specs.steps.Walks.{input_seen, started}

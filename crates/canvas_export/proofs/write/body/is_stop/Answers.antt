@@ -1,5 +1,5 @@
 use Rattle.std.proofs.Common.{◌∙◌}
-use Rattle.canvas_message.proofs.FitLemmas.{stop_some, stop_none}
+use Rattle.canvas_envelope.proofs.FitLemmas.{stop_some, stop_none}
 use Rattle.canvas_export.proofs.write.body.is_stop.Goals as goal
 
 pub returns-in-Some : goal.returns-in-Some

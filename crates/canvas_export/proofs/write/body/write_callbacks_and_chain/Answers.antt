@@ -4,8 +4,8 @@ use Rattle.canvas_wire.specs.steps.Tokens.{data_tokens}
 use Rattle.canvas_wire.proofs.Writers.{after_ok, then_tokens}
 use Rattle.canvas_rewrite.specs.FrozenView.{p_tasks_of, p_task_view}
 use Rattle.canvas_writing.specs.steps.Tokens.{named_tokens}
-use Rattle.canvas_message.specs.MessageView.{rest_seen}
-use Rattle.canvas_message.specs.Wire.{list_or_null}
+use Rattle.canvas_envelope.specs.MessageView.{rest_seen}
+use Rattle.canvas_envelope.specs.Wire.{list_or_null}
 use Rattle.canvas_export.specs.Signatures.{tasks_wire, each_wire, elements}
 use Rattle.canvas_export.specs.ExportView.{naming}
 use Rattle.canvas_export.proofs.write.body.write_callbacks_and_chain.Goals as goal

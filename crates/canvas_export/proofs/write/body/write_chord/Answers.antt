@@ -2,8 +2,8 @@ use Rattle.std.proofs.Common.{[], ◌∷◌, ◌∙◌, ap, sym}
 use Rattle.json.specs.Token.{null}
 use Rattle.canvas_wire.specs.steps.Tokens.{data_tokens}
 use Rattle.canvas_rewrite.specs.FrozenView.{p_line_view}
-use Rattle.canvas_message.specs.MessageView.{place_seen}
-use Rattle.canvas_message.proofs.Seen.{group_place, chord_place}
+use Rattle.canvas_envelope.specs.MessageView.{place_seen}
+use Rattle.canvas_envelope.proofs.Seen.{group_place, chord_place}
 use Rattle.canvas_export.specs.Signatures.{carried_wire, elements, body_at}
 use Rattle.canvas_export.specs.ExportView.{naming}
 use Rattle.canvas_export.proofs.Tokens.{appends_as}

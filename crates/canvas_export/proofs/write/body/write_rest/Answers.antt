@@ -1,8 +1,8 @@
 use Rattle.std.proofs.Common.{[], ◌∷◌, reverse, ap, sym}
 use Rattle.json.specs.Token.{null}
 use Rattle.canvas_wire.specs.steps.Tokens.{data_tokens}
-use Rattle.canvas_message.specs.MessageView.{rest_seen}
-use Rattle.canvas_message.specs.Wire.{list_or_null}
+use Rattle.canvas_envelope.specs.MessageView.{rest_seen}
+use Rattle.canvas_envelope.specs.Wire.{list_or_null}
 use Rattle.canvas_export.specs.Signatures.{each_wire, elements}
 use Rattle.canvas_export.specs.ExportView.{naming}
 use Rattle.canvas_export.proofs.Tokens.{appends_as}

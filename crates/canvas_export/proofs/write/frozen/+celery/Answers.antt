@@ -5,9 +5,9 @@ use Rattle.json.specs.Token.{null, key, begin_array, begin_object, end_array, en
 use Rattle.canvas_wire.specs.steps.Tokens.{data_tokens}
 use Rattle.canvas_wire.proofs.Writers.{after_ok, then_tokens}
 use Rattle.canvas_rewrite.specs.FrozenView.{p_task_view, p_line_view, p_end_view}
-use Rattle.canvas_message.specs.MessageView.{place_seen}
+use Rattle.canvas_envelope.specs.MessageView.{place_seen}
 use Rattle.canvas_writing.specs.steps.Tokens.{named_tokens}
-use Rattle.canvas_message.proofs.Seen.{group_place}
+use Rattle.canvas_envelope.proofs.Seen.{group_place}
 use Rattle.canvas_export.specs.Signatures.{elements, behind, carried_wire, first_wire}
 use Rattle.canvas_export.specs.ExportView.{naming}
 use Rattle.canvas_export.specs.steps.Elements.{chord_option, each_tokens, task_sigs}

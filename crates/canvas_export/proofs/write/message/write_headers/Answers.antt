@@ -2,8 +2,8 @@ use Rattle.std.proofs.Common.{[], ◌∷◌, ◌∙◌, ap}
 use Rattle.json.specs.Token.{begin_object, end_object}
 use Rattle.canvas_wire.specs.steps.Tokens.{data_tokens}
 use Rattle.canvas_wire.proofs.Writers.{after_ok, then_tokens}
-use Rattle.canvas_message.specs.Content.{number_of, place_of, call_of}
-use Rattle.canvas_message.specs.MessageView.{place_seen}
+use Rattle.canvas_envelope.specs.Content.{number_of, place_of, call_of}
+use Rattle.canvas_envelope.specs.MessageView.{place_seen}
 use Rattle.canvas_export.specs.ExportView.{naming}
 use Rattle.canvas_export.proofs.Lines.{appended}
 use Rattle.canvas_export.proofs.Tokens.{headers_tokens, headers_of_parts, headers_written}

@@ -1,6 +1,6 @@
 use Rattle.std.proofs.Common.{◌∙◌, ap, sym}
 use Rattle.canvas_wire.proofs.Writers.{after_ok}
-use Rattle.canvas_message.specs.MessageView.{place_seen}
+use Rattle.canvas_envelope.specs.MessageView.{place_seen}
 use Rattle.canvas_export.specs.ExportView.{naming}
 use Rattle.canvas_export.specs.steps.Elements.{group_options}
 use Rattle.canvas_export.proofs.Tokens.{options_of_place}

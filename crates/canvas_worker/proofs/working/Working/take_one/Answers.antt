@@ -1,6 +1,6 @@
 use Rattle.std.proofs.Common.{rules, ◌≡◌, refl, sym, ap, ◌∙◌, Some, None, [], ◌∷◌, ◌++◌}
 use Rattle.canvas_history.specs.History.{calls}
-use Rattle.canvas_message.specs.declared.envelope.Envelope.{Envelope}
+use Rattle.canvas_envelope.specs.declared.envelope.Envelope.{Envelope}
 use Rattle.canvas_history.specs.Queue as queue
 use Rattle.canvas_history.specs.Passes.{Stands, Empties}
 use Rattle.canvas_runs.specs.Core as C

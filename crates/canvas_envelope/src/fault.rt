@@ -1,0 +1,89 @@
+//! Why an envelope isn't a message.
+
+ghost use Rattle.std.specs.Prelude.{◌≡◌};
+ghost use Rattle.canvas_envelope.specs.declared.fault.MessageFault.TheVariants.{Memory};
+ghost use Rattle.canvas_envelope.specs.RefusalNames.{code_of};
+
+use std::alloc::{AllocError, AllocFailed};
+use std::error::Error;
+use std::fmt;
+
+/// Why three texts aren't a message; where there are several reasons, the first in this order.
+/// Each is printed as its name here, and reported by the number in front.
+#[derive(Clone, Copy, Debug, Drop, PartialEq, Eq)]
+pub enum MessageFault {
+    /// 1: one of the texts is no JSON text (RFC 8259) in UTF-8.
+    NotJson,
+    /// 2: the headers are no object, or `task` is no name.
+    NotVersion2,
+    /// 3: `id` is no task's identifier, `group` neither null nor a group's, the properties no
+    /// object, or a `correlation_id` doesn't name the same task.
+    BadId,
+    /// 4: another `content_type` than `application/json`, or another `content_encoding` than
+    /// `utf-8`.
+    BadContentType,
+    /// 5: the body is no list of three.
+    BadBody,
+    /// 6: arguments of another form or kind, or a number out of range.
+    BadArgs,
+    /// 7: any fault of the callbacks, the chain and the chord that go with the call.
+    BadEmbed,
+    /// 8: a growth was refused. It may stand in place of any other, and of success.
+    Memory,
+}
+
+impl MessageFault {
+    /// The number that a refusal is reported by.
+    pub fn code(&self) -> u8
+        ensures { result ≡ code_of self.now }
+    {
+        match self {
+            MessageFault::NotJson => 1,
+            MessageFault::NotVersion2 => 2,
+            MessageFault::BadId => 3,
+            MessageFault::BadContentType => 4,
+            MessageFault::BadBody => 5,
+            MessageFault::BadArgs => 6,
+            MessageFault::BadEmbed => 7,
+            MessageFault::Memory => 8,
+        }
+    }
+}
+
+impl fmt::Display for MessageFault {
+    ghost use Rattle.std.specs.Prelude.{Some};
+    ghost use Rattle.canvas_envelope.specs.RefusalNames.{printed_name};
+
+    ghost output = { λ fault. Some (printed_name fault) };
+
+    fn fmt<W: fmt::Write>(&self, f: &mut fmt::Formatter<W>) -> fmt::Result {
+        match self {
+            MessageFault::NotJson => f.write_str("NotJson"),
+            MessageFault::NotVersion2 => f.write_str("NotVersion2"),
+            MessageFault::BadId => f.write_str("BadId"),
+            MessageFault::BadContentType => f.write_str("BadContentType"),
+            MessageFault::BadBody => f.write_str("BadBody"),
+            MessageFault::BadArgs => f.write_str("BadArgs"),
+            MessageFault::BadEmbed => f.write_str("BadEmbed"),
+            MessageFault::Memory => f.write_str("Memory"),
+        }
+    }
+}
+
+impl Error for MessageFault {}
+
+impl From<AllocError> for MessageFault {
+    ghost from_gives = { λ _ e. e ≡ Memory };
+
+    fn from(_e: AllocError) -> MessageFault {
+        MessageFault::Memory
+    }
+}
+
+impl<T: Drop> From<AllocFailed<T>> for MessageFault {
+    ghost from_gives = { λ _ e. e ≡ Memory };
+
+    fn from(_e: AllocFailed<T>) -> MessageFault {
+        MessageFault::Memory
+    }
+}

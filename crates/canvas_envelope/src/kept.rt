@@ -1,0 +1,190 @@
+//! Messages as letters keep them.
+
+ghost use Rattle.std.specs.Prelude.{◌≡◌, None, Some, IfOk, IfSome};
+ghost use Rattle.canvas_task.specs.Entries.{named, Ascends};
+ghost use Rattle.canvas_envelope.specs.steps.Kept.{kept};
+
+use crate::{Message, Texts};
+use canvas_rewrite::{FrozenLine, FrozenTask, Place};
+use canvas_task::{Arg, ListOf, MapOf, TaskNo, TextOf};
+use std::alloc::{AllocError, Global};
+use std::collections::BTreeMap;
+use std::marker::Model;
+use std::mem;
+
+/// A message whose keyword arguments stand in a list, in the order of their names.
+#[derive(Drop)]
+pub(crate) struct Waiting {
+    task: TaskNo,
+    name: TextOf,
+    parent: Option<TaskNo>,
+    place: Option<Place>,
+    args: ListOf<Arg>,
+    kwargs: Vec<(String, Arg)>,
+    links: ListOf<FrozenTask>,
+    errbacks: ListOf<FrozenTask>,
+    rest: Option<FrozenLine>,
+    texts: Texts,
+}
+
+impl Model for Waiting {
+    ghost use Rattle.std.specs.Prelude.{◌≡◌, true};
+    ghost use Rattle.canvas_task.specs.Entries.{named, Ascends};
+    ghost use Rattle.canvas_envelope.specs.Content.{Content};
+    ghost use Rattle.canvas_envelope.specs.codes.ContentCode.{content_code};
+    ghost use Rattle.canvas_envelope.specs.Fits.{fits};
+    ghost use Rattle.canvas_envelope.specs.MessageView.{content, place_seen, rest_seen};
+    ghost use Rattle.canvas_envelope.specs.SharedTexts.{AreTexts};
+
+    ghost Value = { Content };
+
+    ghost coded = { content_code };
+
+    ghost view = { λ m. content m.parent m.task m.name m.args (named m.kwargs.items) m.links
+        m.errbacks m.place m.rest };
+
+    ghost invariant = { λ m. Ascends (named m.kwargs.items)
+        × (fits (content m.parent m.task m.name m.args (named m.kwargs.items) m.links
+        m.errbacks m.place m.rest) ≡ true)
+        × AreTexts m.texts (place_seen m.place) (rest_seen m.rest) };
+}
+
+/// The entries of a map, which take no more room than they need.
+fn entries_of(alloc: Global, map: BTreeMap<String, Arg>) -> Result<Vec<(String, Arg)>, AllocError>
+    ensures { IfOk result (λ entries. entries.items ≡ map.entries) }
+{
+    let mut entries = Vec::with_capacity(alloc, map.len())?;
+    for entry in map {
+        entries.push(entry)?;
+    }
+    Ok(entries)
+}
+
+/// The map of entries in the order of their names.
+fn map_of(alloc: Global, entries: Vec<(String, Arg)>) -> Result<BTreeMap<String, Arg>, AllocError>
+    requires { Ascends (named entries.items) }
+    ensures { IfOk result (λ map. named map.entries ≡ named entries.items) }
+{
+    let mut map = BTreeMap::new(alloc);
+    for (name, arg) in entries {
+        drop(map.insert(name, arg)?);
+    }
+    Ok(map)
+}
+
+impl Waiting {
+    fn of(alloc: Global, message: Message) -> Result<Waiting, AllocError>
+        ensures { IfOk result (λ l. l ≡ message) }
+    {
+        let Message {
+            task,
+            name,
+            parent,
+            place,
+            args,
+            kwargs,
+            links,
+            errbacks,
+            rest,
+            texts,
+        } = message;
+        let kwargs = entries_of(alloc, kwargs.into_plain())?;
+        Ok(Waiting {
+            task,
+            name,
+            parent,
+            place,
+            args,
+            kwargs,
+            links,
+            errbacks,
+            rest,
+            texts,
+        })
+    }
+
+    fn into_message(self, alloc: Global) -> Result<Message, AllocError>
+        ensures { IfOk result (λ m. m ≡ self) }
+    {
+        let Waiting {
+            task,
+            name,
+            parent,
+            place,
+            args,
+            kwargs,
+            links,
+            errbacks,
+            rest,
+            texts,
+        } = self;
+        let kwargs = MapOf::of(map_of(alloc, kwargs)?);
+        Ok(Message {
+            task,
+            name,
+            parent,
+            place,
+            args,
+            kwargs,
+            links,
+            errbacks,
+            rest,
+            texts,
+        })
+    }
+}
+
+/// The message that a letter keeps, if it keeps one.
+#[derive(Drop)]
+pub(crate) enum Kept {
+    Nothing,
+    Whole(Box<Message>),
+    /// One with keyword arguments: a map takes room for fifteen with its first, and as many letters
+    /// may wait as a canvas has tasks.
+    Waiting(Box<Waiting>),
+}
+
+impl Kept {
+    fn waiting(alloc: Global, message: Message) -> Result<Kept, AllocError>
+        ensures { IfOk result (λ k. kept k ≡ Some message) }
+    {
+        let waiting = Waiting::of(alloc, message)?;
+        Ok(Kept::Waiting(Box::new(alloc, waiting)?))
+    }
+
+    fn whole(alloc: Global, message: Message) -> Result<Kept, AllocError>
+        ensures { IfOk result (λ k. kept k ≡ Some message) }
+    {
+        Ok(Kept::Whole(Box::new(alloc, message)?))
+    }
+
+    /// The message, where there is memory to keep it.
+    pub(crate) fn of(alloc: Global, message: Message) -> Kept
+        ensures { IfSome (kept result) (λ m. m ≡ message) }
+    {
+        let made = if message.kwargs.get().is_empty() {
+            Kept::whole(alloc, message)
+        } else {
+            Kept::waiting(alloc, message)
+        };
+        match made {
+            Ok(kept) => kept,
+            Err(AllocError) => Kept::Nothing,
+        }
+    }
+
+    /// The message, where one is kept and there is memory to give it: it is kept no more.
+    pub(crate) fn take(&mut self, alloc: Global) -> Option<Box<Message>>
+        ensures message { IfSome result (λ m. kept self.old ≡ Some m.value) }
+        ensures left { kept self.new ≡ None }
+    {
+        match mem::replace(self, Kept::Nothing) {
+            Kept::Nothing => None,
+            Kept::Whole(message) => Some(message),
+            Kept::Waiting(waiting) => {
+                let message = Box::into_inner(waiting).into_message(alloc).ok()?;
+                Box::new(alloc, message).ok()
+            }
+        }
+    }
+}

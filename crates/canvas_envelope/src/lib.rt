@@ -1,0 +1,25 @@
+//! Messages, as a queue carries them.
+#![tactic(auto)]
+
+mod carried;
+mod carried_text;
+mod draft;
+mod envelope;
+mod fault;
+mod fits;
+mod kept;
+mod letter;
+mod message;
+mod pieces;
+mod texts;
+
+pub use carried::share_carried;
+pub use carried_text::{CarriedText, Ring};
+pub use draft::Draft;
+pub use envelope::Envelope;
+pub use fault::MessageFault;
+pub use fits::{MOST_MEMBERS, following};
+pub use letter::Letter;
+pub use message::Message;
+pub use pieces::{LinePiece, Piece, Pieces};
+pub use texts::{ElementsText, Head, LineText, Texts, share_text};

@@ -1,6 +1,0 @@
-use Rattle.std.proofs.Common.{◌≡◌, ◌++◌}
-use Rattle.canvas_message.proofs.kept.entries_of.Given as goal
-
--- the entries that are in the list, and those that are left
-abbrev pub invariant-loop-entry : goal.invariant-loop-entry
-invariant-loop-entry l = l.fn.map.entries ≡ l.entries.items ++ l.entry-iterator
