@@ -1,0 +1,22 @@
+//! The public surface: each call at the path and in the form that users write it, and the rows that
+//! were worked out by hand for it. A form that changes doesn't compile here.
+#![tactic(auto)]
+
+#[cfg(test)]
+mod canvases;
+#[cfg(test)]
+mod effects;
+#[cfg(test)]
+mod gate;
+#[cfg(test)]
+mod messages;
+#[cfg(test)]
+mod plans;
+#[cfg(test)]
+mod signatures;
+#[cfg(test)]
+mod tasks;
+#[cfg(test)]
+mod threads;
+#[cfg(test)]
+mod turns;
