@@ -31,7 +31,7 @@ fn is_chord_then_mul(plan: &Plan) -> bool {
     plan.tasks() == 4
         && plan.name(task(4)) == Some("tasks.mul")
         && plan.name(task(5)).is_none()
-        && matches!(plan.ends(), Ends::One(end) if end == task(4))
+        && matches!(plan.ends(), Ends::One(end) if end.get() == 4)
 }
 
 fn is_chord(plan: &Plan) -> bool {

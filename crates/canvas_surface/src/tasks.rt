@@ -1,6 +1,7 @@
 //! The calls of `canvas_task`.
 
-ghost use Rattle.std.specs.Prelude.{◌≡◌, ◌≤◌, codes, ◌-ℤ◌, Ok};
+ghost use Rattle.std.specs.Prelude.{◌≡◌, ◌≤◌, ◌-ℤ◌, pos, Ok};
+ghost use Rattle.canvas_task.specs.Apply.{IsInRange};
 
 use canvas_task::{
     Add, AddFault, Arg, Div, Fault, GroupNo, Ident, Kind, ListOf, LogError, MapOf, Mul, NotAdded,
@@ -28,7 +29,9 @@ pub(crate) fn group(number: u32) -> GroupNo
 pub(crate) const ZERO_DIVISION: Outcome = Outcome::Failure(Fault::Plain(Kind::ZeroDivision));
 
 /// What the body of a chord fails with if the second task is the first that failed.
-pub(crate) fn raised_by_2() -> Outcome {
+pub(crate) fn raised_by_2() -> Outcome
+    ensures { IsInRange result }
+{
     Outcome::Failure(Fault::Chord {
         dep: task(2),
         why: Why::Plain(Kind::ZeroDivision),
@@ -112,7 +115,7 @@ struct Large {
 impl Task for Large {
     ghost called = { λ it. it.name.now };
 
-    ghost answers = { λ _ _ _. Ok 1152921504606846977 };
+    ghost answers = { λ _ _ _. Ok (pos 1152921504606846977) };
 
     fn name(&self) -> &str {
         self.name
