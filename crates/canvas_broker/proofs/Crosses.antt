@@ -1,25 +1,23 @@
--- A queue may be shared between threads, and a pass may cross to one.
-use Rattle.std.proofs.Crossing.{crosses}
+-- A queue of what may cross between threads may be shared by them, and a pass may cross to one.
 use Rattle.std.specs.Prelude.{List, []}
 use base.Fml.{Lft}
 use denote.Builtin.{One}
 use denote.RattleType.{RattleType}
-use denote.Param.Send.{IsSend, IsSync, AllSend, sendable, recorded_send, struct_send}
+use denote.Param.Send.{IsSend, IsSync, AllSend, recorded_send, struct_send}
 use denote.Struct.Declared.{shape}
 use denote.Struct.Field.{shr_ref_field}
 use denote.Struct.Tuple.{type_at, field_at, TupleAt}
 use mir.Syntax.{named}
-use Rattle.atomic_blocks.proofs.web.Seat.TheSendSync.{the_send as seat_send}
-use Rattle.atomic_blocks.proofs.web.Web.TheSendSync.{the_sync as web_sync}
-use Rattle.canvas_envelope.proofs.Crosses.{letter}
 use Rattle.canvas_broker.specs.contracts.broker.Broker as Broker
+use Rattle.canvas_broker.proofs.pass.BrokerPass.TheSendSync.{the_send as pass_send}
+use Rattle.canvas_broker.proofs.broker.Broker.TheSendSync.{the_sync as broker_sync}
 use Rattle.canvas_broker.specs.contracts.pass.BrokerPass as BrokerPass
 
-pub pass : IsSend BrokerPass.the_row
-pass = search (letter, seat_send, sendable, crosses) depth 20
+pub pass : (T : RattleType) → IsSend T → IsSend (BrokerPass.the_row T)
+pass T item = pass_send T item
 
-pub broker : IsSync Broker.the_row
-broker = search (letter, web_sync, sendable, crosses) depth 20
+pub broker : (T : RattleType) → IsSend T → IsSync (Broker.the_row T)
+broker T item = broker_sync T item
 
 -- what a closure captures by a shared reference
 abbrev pub lent : Lft → (R : RattleType) → One R.mir → RattleType

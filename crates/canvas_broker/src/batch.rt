@@ -3,33 +3,32 @@ ghost use Rattle.std.specs.Prelude.{◌≡◌, [], ◌∷◌, MatchOption};
 
 use crate::item::Item;
 use arrayvec::ArrayVec;
-use canvas_envelope::Letter;
+use canvas_envelope::Envelope;
 use std::marker::Model;
 use std::mem;
 
 /// What a batch took, in order, as far as it isn't read yet. What isn't read when it is dropped is
 /// gone: its takes stand in the history.
 #[derive(Drop)]
-pub struct Batch {
+pub struct Batch<T = Envelope> {
     // the marks of splits among them
-    pub(crate) items: ArrayVec<Item<Letter>, 4>,
+    pub(crate) items: ArrayVec<Item<T>, 4>,
     // how many of these are read
     pub(crate) read: usize,
 }
 
-impl Model for Batch {
+impl<T> Model for Batch<T> {
     ghost use Rattle.std.specs.Prelude.{List, drop};
-    ghost use Rattle.canvas_envelope.specs.declared.envelope.Envelope.{Envelope};
     ghost use Rattle.canvas_broker.specs.steps.Rule.{envelopes};
 
-    ghost Value = { List Envelope };
+    ghost Value = { List T };
 
     ghost view = { λ b. envelopes (drop b.read b.items.items) };
 }
 
-impl Batch {
+impl<T: Drop> Batch<T> {
     /// The next envelope. None at the end, and from then on.
-    pub fn next(&mut self) -> Option<Letter>
+    pub fn next(&mut self) -> Option<T>
         ensures { MatchOption result ((self.old ≡ []) × (self.new ≡ []))
             (λ e. self.old ≡ e ∷ self.new) }
     {

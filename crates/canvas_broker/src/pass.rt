@@ -2,26 +2,25 @@
 use crate::item::Item;
 use crate::rule::OneHistory;
 use crate::view::View;
-use canvas_envelope::Letter;
+use canvas_envelope::Envelope;
 use crossbeam_queue::{RuledSegQueue, SegPass};
 use std::marker::Model;
 
-pub(crate) type Queue = RuledSegQueue<Item<Letter>, View<Letter>, OneHistory>;
+pub(crate) type Queue<T> = RuledSegQueue<Item<T>, View<T>, OneHistory>;
 
 /// What one caller has seen of the broker's history, and its own calls in it. It has no bytes. A
 /// pass that is dropped, and not joined, stays a live caller of the history.
 #[derive(Drop)]
-pub struct BrokerPass {
-    pub(crate) pass: SegPass<Item<Letter>, View<Letter>>,
+pub struct BrokerPass<T = Envelope> {
+    pub(crate) pass: SegPass<Item<T>, View<T>>,
 }
 
-impl Model for BrokerPass {
+impl<T> Model for BrokerPass<T> {
     ghost use Rattle.std.specs.Prelude.{◌≡◌, None};
-    ghost use Rattle.canvas_envelope.specs.declared.envelope.Envelope.{Envelope};
     ghost use Rattle.canvas_history.specs.Passes.{Pass};
     ghost use Rattle.canvas_broker.specs.steps.Rule.{IsReady};
 
-    ghost Value = { Pass Envelope };
+    ghost Value = { Pass T };
 
     ghost view = { λ p. record {
       of = p.pass.web;

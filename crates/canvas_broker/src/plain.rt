@@ -3,30 +3,29 @@ ghost use Rattle.std.specs.Prelude.{◌≡◌, [], ◌∷◌, ◌++◌, true, �
 ghost use Rattle.canvas_history.specs.Queue.{publish, take, answer_of, next};
 
 use crate::Refused;
-use canvas_envelope::Letter;
+use canvas_envelope::Envelope;
 use std::alloc::Global;
 use std::collections::VecDeque;
 use std::marker::Model;
 
-/// A queue of envelopes that one thread holds. Contracts see it as the list of its envelopes, the
-/// first to be taken in front.
+/// A queue of envelopes that one thread holds, or of values of another type `T`. Contracts see it
+/// as the list of what it holds, the first to be taken in front.
 #[derive(Drop)]
-pub struct PlainBroker {
-    queue: VecDeque<Letter>,
+pub struct PlainBroker<T = Envelope> {
+    queue: VecDeque<T>,
 }
 
-impl Model for PlainBroker {
+impl<T> Model for PlainBroker<T> {
     ghost use Rattle.std.specs.Prelude.{List};
-    ghost use Rattle.canvas_envelope.specs.declared.envelope.Envelope.{Envelope};
 
-    ghost Value = { List Envelope };
+    ghost Value = { List T };
 
     ghost view = { λ b. b.queue.items };
 }
 
-impl PlainBroker {
+impl<T> PlainBroker<T> {
     /// A broker that holds nothing. It takes no memory yet.
-    pub fn new(alloc: Global) -> PlainBroker
+    pub fn new(alloc: Global) -> PlainBroker<T>
         ensures { result ≡ [] }
     {
         PlainBroker {
@@ -36,7 +35,7 @@ impl PlainBroker {
 
     /// Adds the envelope at the end. Where memory is refused, it comes back, and the broker holds
     /// what it held.
-    pub fn publish(&mut self, envelope: Letter) -> Result<(), Refused>
+    pub fn publish(&mut self, envelope: T) -> Result<(), Refused<T>>
         ensures call { MatchResult result (λ _. self.new ≡ self.old ++ envelope ∷ [])
             (λ r. (r.envelope ≡ envelope) × (self.new ≡ self.old)) }
         ensures machine { OnOk result (self.new ≡ next self.old (publish envelope)) }
@@ -50,7 +49,7 @@ impl PlainBroker {
     }
 
     /// Takes the first envelope.
-    pub fn take(&mut self) -> Option<Letter>
+    pub fn take(&mut self) -> Option<T>
         ensures call { MatchOption result ((self.old ≡ []) × (self.new ≡ []))
             (λ e. self.old ≡ e ∷ self.new) }
         ensures machine { (result ≡ answer_of self.old take) × (self.new ≡ next self.old take) }

@@ -1,12 +1,12 @@
 //! The answer to a publish for which there was no memory.
 
-use canvas_envelope::Letter;
+use canvas_envelope::Envelope;
 use thiserror::Error;
 
 /// An envelope that was not published, because memory was refused.
 #[derive(Debug, Drop, Error)]
 #[error("the message was refused")]
-pub struct Refused {
+pub struct Refused<T = Envelope> {
     /// As it was given.
-    pub envelope: Letter,
+    pub envelope: T,
 }

@@ -37,7 +37,7 @@ use std::alloc::Global;
 fn publish<T: Tasks>(
     alloc: Global,
     core: &mut Core,
-    queue: &mut PlainBroker,
+    queue: &mut PlainBroker<Letter>,
     table: &PlainBackend,
     sent: &mut Sent,
     tasks: &T,
@@ -77,7 +77,7 @@ fn count_again(repeats: u64, stored: Stored) -> u64
 fn step<T: Tasks>(
     alloc: Global,
     core: &mut Core,
-    queue: &mut PlainBroker,
+    queue: &mut PlainBroker<Letter>,
     table: &mut PlainBackend,
     repeats: &mut u64,
     sent: &mut Sent,
@@ -121,7 +121,7 @@ fn step<T: Tasks>(
 }
 
 /// Publishes envelopes in their order.
-fn publish_all(queue: &mut PlainBroker, envelopes: Vec<Letter>) -> Result<(), Memory>
+fn publish_all(queue: &mut PlainBroker<Letter>, envelopes: Vec<Letter>) -> Result<(), Memory>
     ensures { OnOk result (queue.new ≡ queue.old ++ envelopes.items) }
 {
     for envelope in envelopes {
@@ -158,7 +158,7 @@ fn copied(alloc: Global, entries: &[(TaskNo, When)]) -> Result<Vec<(TaskNo, When
 /// The workers, numbered from 1, with what they share.
 #[derive(Drop)]
 pub(crate) struct Stage {
-    queue: PlainBroker,
+    queue: PlainBroker<Letter>,
     table: PlainBackend,
     cores: Vec<Core>,
     /// How many asks may still be answered.

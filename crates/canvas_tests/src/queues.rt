@@ -38,8 +38,8 @@ fn number_of(letter: &Letter) -> u64 {
 fn publishes<R: Wait>(
     rt: &R,
     alloc: Global,
-    broker: &Broker,
-    pass: &mut BrokerPass,
+    broker: &Broker<Letter>,
+    pass: &mut BrokerPass<Letter>,
     number: u64,
 ) -> bool
     requires { pass.old.of ≡ broker.now }
@@ -55,10 +55,10 @@ fn publishes<R: Wait>(
 fn publish_all<R: Wait>(
     rt: &R,
     alloc: Global,
-    broker: &Broker,
-    mut pass: BrokerPass,
+    broker: &Broker<Letter>,
+    mut pass: BrokerPass<Letter>,
     from: u64,
-) -> BrokerPass
+) -> BrokerPass<Letter>
     requires { pass.of ≡ broker.now }
     ensures { result.of ≡ broker.now }
 {
@@ -69,7 +69,7 @@ fn publish_all<R: Wait>(
 }
 
 /// The number of an envelope that is taken, if there is one.
-fn takes<R: Wait>(rt: &R, broker: &Broker, pass: &mut BrokerPass) -> Option<u64>
+fn takes<R: Wait>(rt: &R, broker: &Broker<Letter>, pass: &mut BrokerPass<Letter>) -> Option<u64>
     requires { pass.old.of ≡ broker.now }
     ensures { pass.new.of ≡ broker.now }
 {
@@ -82,10 +82,10 @@ fn takes<R: Wait>(rt: &R, broker: &Broker, pass: &mut BrokerPass) -> Option<u64>
 /// Takes until there is nothing, and adds the numbers to the list.
 fn take_all<R: Wait>(
     rt: &R,
-    broker: &Broker,
-    mut pass: BrokerPass,
+    broker: &Broker<Letter>,
+    mut pass: BrokerPass<Letter>,
     mut taken: Vec<u64>,
-) -> (BrokerPass, Vec<u64>)
+) -> (BrokerPass<Letter>, Vec<u64>)
     requires { pass.of ≡ broker.now }
     ensures { result.0.of ≡ broker.now }
 {
@@ -103,10 +103,10 @@ fn take_all<R: Wait>(
 fn trade<R: Wait>(
     rt: &R,
     alloc: Global,
-    broker: &Broker,
-    pass: BrokerPass,
+    broker: &Broker<Letter>,
+    pass: BrokerPass<Letter>,
     from: u64,
-) -> (BrokerPass, Vec<u64>)
+) -> (BrokerPass<Letter>, Vec<u64>)
     requires { pass.of ≡ broker.now }
     ensures { result.0.of ≡ broker.now }
 {
@@ -178,7 +178,12 @@ fn add(order: u64, taken: Option<Letter>) -> u64 {
     }
 }
 
-fn publishes_three<R: Wait>(rt: &R, alloc: Global, broker: &Broker, pass: &mut BrokerPass) -> bool
+fn publishes_three<R: Wait>(
+    rt: &R,
+    alloc: Global,
+    broker: &Broker<Letter>,
+    pass: &mut BrokerPass<Letter>,
+) -> bool
     requires { pass.old.of ≡ broker.now }
     ensures { pass.new.of ≡ broker.now }
 {
@@ -188,12 +193,16 @@ fn publishes_three<R: Wait>(rt: &R, alloc: Global, broker: &Broker, pass: &mut B
 }
 
 /// The digits of a batch, of three at most.
-fn digits_of(mut batch: Batch) -> u64 {
+fn digits_of(mut batch: Batch<Letter>) -> u64 {
     add(add(add(0, batch.next()), batch.next()), batch.next())
 }
 
 /// The digits of three envelopes, as a batch and then takes give them, and those of the batch.
-fn digits<R: Wait>(rt: &R, broker: &Broker, pass: &mut BrokerPass) -> Option<(u64, u64)>
+fn digits<R: Wait>(
+    rt: &R,
+    broker: &Broker<Letter>,
+    pass: &mut BrokerPass<Letter>,
+) -> Option<(u64, u64)>
     requires { pass.old.of ≡ broker.now }
 {
     let begun = digits_of(broker.take_batch(rt, pass));
@@ -242,8 +251,8 @@ fn batches_keep_the_order(rt: HostRuntime) {
 fn adds<R: Wait>(
     rt: &R,
     alloc: Global,
-    broker: &Broker,
-    pass: &mut BrokerPass,
+    broker: &Broker<Letter>,
+    pass: &mut BrokerPass<Letter>,
     number: u64,
 ) -> Option<u64>
     requires { pass.old.of ≡ broker.now }
@@ -264,10 +273,10 @@ fn adds<R: Wait>(
 fn accepted<R: Wait>(
     rt: &R,
     alloc: Global,
-    broker: &Broker,
-    mut pass: BrokerPass,
+    broker: &Broker<Letter>,
+    mut pass: BrokerPass<Letter>,
     end: u64,
-) -> (BrokerPass, Option<u64>)
+) -> (BrokerPass<Letter>, Option<u64>)
     requires { pass.of ≡ broker.now }
     ensures { result.0.of ≡ broker.now }
 {
@@ -282,7 +291,7 @@ fn accepted<R: Wait>(
 }
 
 /// The sum of the numbers that are left. None where they don't rise.
-fn left<R: Wait>(rt: &R, broker: &Broker, mut pass: BrokerPass) -> Option<u64>
+fn left<R: Wait>(rt: &R, broker: &Broker<Letter>, mut pass: BrokerPass<Letter>) -> Option<u64>
     requires { pass.of ≡ broker.now }
 {
     let mut sum = 0u64;
@@ -314,7 +323,7 @@ fn holds_accepted<R: Wait>(rt: &R, alloc: Global, end: u64) -> bool {
 }
 
 /// What an envelope of this number adds at the queue of one thread.
-fn adds_plain(alloc: Global, broker: &mut PlainBroker, number: u64) -> Option<u64> {
+fn adds_plain(alloc: Global, broker: &mut PlainBroker<Letter>, number: u64) -> Option<u64> {
     match numbered(alloc, number) {
         Some(envelope) => match broker.publish(envelope) {
             Ok(()) => Some(number),
@@ -325,7 +334,7 @@ fn adds_plain(alloc: Global, broker: &mut PlainBroker, number: u64) -> Option<u6
     }
 }
 
-fn plain_accepted(alloc: Global, broker: &mut PlainBroker) -> Option<u64> {
+fn plain_accepted(alloc: Global, broker: &mut PlainBroker<Letter>) -> Option<u64> {
     let mut sum = 0u64;
     for number in 1..41u64 {
         match adds_plain(alloc, broker, number) {
@@ -336,7 +345,7 @@ fn plain_accepted(alloc: Global, broker: &mut PlainBroker) -> Option<u64> {
     Some(sum)
 }
 
-fn plain_number(broker: &mut PlainBroker) -> u64 {
+fn plain_number(broker: &mut PlainBroker<Letter>) -> u64 {
     match broker.take() {
         Some(envelope) => number_of(&envelope),
         None => 0,
@@ -344,7 +353,7 @@ fn plain_number(broker: &mut PlainBroker) -> u64 {
 }
 
 /// The sum of the numbers of forty that are taken.
-fn plain_taken(broker: &mut PlainBroker) -> u64 {
+fn plain_taken(broker: &mut PlainBroker<Letter>) -> u64 {
     let mut sum = 0u64;
     for _ in 1..41u64 {
         sum = sum.wrapping_add(plain_number(broker));

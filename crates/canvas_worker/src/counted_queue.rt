@@ -15,11 +15,11 @@ use std::sync::Wait;
 /// again: here is no count, so none can come late. Its calls are the broker's.
 #[derive(Clone, Copy)]
 pub(crate) struct CountedQueue<'a> {
-    broker: &'a Broker,
+    broker: &'a Broker<Letter>,
 }
 
 impl<'a> CountedQueue<'a> {
-    pub(crate) fn of(broker: &'a Broker) -> CountedQueue<'a>
+    pub(crate) fn of(broker: &'a Broker<Letter>) -> CountedQueue<'a>
         ensures { result.broker.now ≡ broker.now }
     {
         CountedQueue { broker }
@@ -28,10 +28,10 @@ impl<'a> CountedQueue<'a> {
     pub(crate) fn publish<R: Wait>(
         &self,
         rt: &R,
-        pass: &mut BrokerPass,
+        pass: &mut BrokerPass<Letter>,
         envelope: Letter,
         _counted: Counted,
-    ) -> Result<(), Refused>
+    ) -> Result<(), Refused<Letter>>
         requires { pass.old.of ≡ self.now.broker.now }
         ensures broker { pass.new.of ≡ self.now.broker.now }
         ensures call { MatchResult result
@@ -46,10 +46,10 @@ impl<'a> CountedQueue<'a> {
     pub(crate) fn redeliver<R: Wait>(
         &self,
         rt: &R,
-        pass: &mut BrokerPass,
+        pass: &mut BrokerPass<Letter>,
         envelope: Letter,
         _counted: Counted,
-    ) -> Result<(), Refused>
+    ) -> Result<(), Refused<Letter>>
         requires same { pass.old.of ≡ self.now.broker.now }
         requires taken { HasTaken (told pass.old) pass.old.name envelope }
         ensures broker { pass.new.of ≡ self.now.broker.now }
@@ -62,7 +62,7 @@ impl<'a> CountedQueue<'a> {
         self.broker.redeliver(rt, pass, envelope)
     }
 
-    pub(crate) fn take<R: Wait>(&self, rt: &R, pass: &mut BrokerPass) -> Option<Letter>
+    pub(crate) fn take<R: Wait>(&self, rt: &R, pass: &mut BrokerPass<Letter>) -> Option<Letter>
         requires { pass.old.of ≡ self.now.broker.now }
         ensures broker { pass.new.of ≡ self.now.broker.now }
         ensures call { MatchOption result
@@ -75,7 +75,7 @@ impl<'a> CountedQueue<'a> {
         self.broker.take(rt, pass)
     }
 
-    pub(crate) fn take_batch<R: Wait>(&self, rt: &R, pass: &mut BrokerPass) -> Batch
+    pub(crate) fn take_batch<R: Wait>(&self, rt: &R, pass: &mut BrokerPass<Letter>) -> Batch<Letter>
         requires { pass.old.of ≡ self.now.broker.now }
         ensures broker { pass.new.of ≡ self.now.broker.now }
         ensures call { Took pass.old result pass.new }

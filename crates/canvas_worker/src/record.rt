@@ -3,6 +3,7 @@
 use crate::Cause;
 use canvas_backend::BackendSeat;
 use canvas_broker::BrokerPass;
+use canvas_envelope::Letter;
 
 /// A worker's calls, counted, with its pass and its seat, and why it ended early, if it did. Each
 /// count stays at its greatest value.
@@ -21,7 +22,7 @@ pub struct Record {
     /// The envelopes that were dropped.
     pub dropped: u64,
     /// What it has seen of the queue, to be joined by another pass.
-    pub pass: BrokerPass,
+    pub pass: BrokerPass<Letter>,
     /// What it has seen of the table, to be joined by another seat.
     pub seat: BackendSeat,
     /// None where it ended by itself.

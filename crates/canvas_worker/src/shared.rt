@@ -3,11 +3,12 @@
 use crate::{InFlight, Stop};
 use canvas_backend::Backend;
 use canvas_broker::Broker;
+use canvas_envelope::Letter;
 
 /// What the workers of a run share: its queue, its table of results, its tasks, and what they ask.
 #[derive(Drop)]
 pub struct Shared<'a, T, G> {
-    pub broker: &'a Broker,
+    pub broker: &'a Broker<Letter>,
     pub backend: &'a Backend,
     pub tasks: &'a T,
     pub gate: &'a G,

@@ -14,7 +14,7 @@ pub(crate) enum Source {
     /// Nothing was given yet.
     First,
     /// What is left of a batch.
-    Batched(Batch),
+    Batched(Batch<Letter>),
     /// A batch is due.
     Next,
 }

@@ -10,6 +10,7 @@ use crate::in_rounds::InRounds;
 use crate::{Gate, Record, Shared, Worker};
 use canvas_backend::BackendSeat;
 use canvas_broker::BrokerPass;
+use canvas_envelope::Letter;
 use canvas_task::Tasks;
 use futures::executor::block_on;
 use std::alloc::{AllocGlobal, Global};
@@ -23,7 +24,7 @@ pub fn work_to_end<R, T, G>(
     alloc: Global,
     shared: &Shared<'_, T, G>,
     number: u32,
-    pass: BrokerPass,
+    pass: BrokerPass<Letter>,
     seat: BackendSeat,
 ) -> Option<Record>
 where

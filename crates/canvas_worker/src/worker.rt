@@ -10,6 +10,7 @@ use crate::working::{End, Working};
 use crate::{Gate, Record, Shared};
 use canvas_backend::BackendSeat;
 use canvas_broker::BrokerPass;
+use canvas_envelope::Letter;
 use canvas_runs::When;
 use canvas_task::Tasks;
 use futures::Future;
@@ -40,7 +41,7 @@ impl<'a, R: Wait, T: Tasks, G: Gate> Worker<'a, R, T, G> {
         alloc: Global,
         shared: &Shared<'a, T, G>,
         number: u32,
-        pass: BrokerPass,
+        pass: BrokerPass<Letter>,
         seat: BackendSeat,
     ) -> Worker<'a, R, T, G>
         ensures working { result.working

@@ -48,7 +48,7 @@ pub(crate) struct Working<'a, R: Wait> {
     alloc: Global,
     number: u32,
     queue: CountedQueue<'a>,
-    pass: BrokerPass,
+    pass: BrokerPass<Letter>,
     backend: &'a Backend,
     seat: BackendSeat,
     stop: &'a Stop,
@@ -95,7 +95,7 @@ impl<'a, R: Wait> Working<'a, R> {
         alloc: Global,
         shared: &Shared<'a, T, G>,
         number: u32,
-        pass: BrokerPass,
+        pass: BrokerPass<Letter>,
         seat: BackendSeat,
     ) -> Working<'a, R>
         ensures { result

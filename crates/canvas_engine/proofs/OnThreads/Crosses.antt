@@ -9,8 +9,6 @@ use denote.Struct.Declared.{shape}
 use denote.Struct.Field.{shr_ref_field}
 use denote.Struct.Tuple.{type_at, field_at, TupleAt}
 use mir.Syntax.{named}
-use Rattle.atomic_blocks.proofs.web.Seat.TheSendSync.{the_send as web_seat_send}
-use Rattle.atomic_blocks.proofs.web.Web.TheSendSync.{the_sync as web_sync}
 use Rattle.atomic_table.proofs.send_lease.SendLease.TheSendSync.{the_sync as lease_sync}
 use Rattle.atomic_table.proofs.shared.Seat.TheSendSync.{the_send as table_seat_send}
 use Rattle.atomic_table.proofs.shared.Shared.TheSendSync.{the_sync as table_sync}
@@ -18,11 +16,13 @@ use Rattle.canvas_task.proofs.list_of.ListOf.TheSendSync.{the_send as list_send,
 use Rattle.canvas_task.proofs.number.GroupNo.TheSendSync.{the_send as group_send, the_sync as group_sync}
 use Rattle.canvas_task.proofs.number.TaskNo.TheSendSync.{the_send as task_send, the_sync as task_sync}
 use Rattle.canvas_envelope.proofs.Crosses.{letter}
+use Rattle.canvas_envelope.specs.contracts.letter.Letter as Letter
 use Rattle.canvas_rewrite.specs.contracts.group_list.GroupEntry as GroupEntry
 use Rattle.canvas_rewrite.specs.contracts.group_list.Groups as Groups
 use Rattle.canvas_backend.specs.contracts.backend.Backend as Backend
 use Rattle.canvas_backend.specs.contracts.backend.BackendSeat as BackendSeat
 use Rattle.canvas_backend.specs.contracts.roster.Roster as Roster
+use Rattle.canvas_broker.proofs.Crosses.{pass as pass_of, broker as broker_of}
 use Rattle.canvas_broker.specs.contracts.broker.Broker as Broker
 use Rattle.canvas_broker.specs.contracts.pass.BrokerPass as BrokerPass
 use Rattle.canvas_worker.specs.contracts.in_flight.InFlight as InFlight
@@ -33,8 +33,8 @@ use Rattle.canvas_engine.specs.contracts.threads.slot.Slot as Slot
 
 ruleset plain = (list_send, list_sync, group_send, group_sync, task_send, task_sync, sendable, crosses)
 
-pass : IsSend BrokerPass.the_row
-pass = search (letter, web_seat_send, plain) depth 20
+pass : IsSend (BrokerPass.the_row Letter.the_row)
+pass = pass_of Letter.the_row letter
 
 seat : IsSend BackendSeat.the_row
 seat = search (table_seat_send, plain) depth 20
@@ -48,8 +48,8 @@ post = search (pass, seat, left, plain) depth 20
 pub slot : IsSend Slot.the_row
 slot = search (post, plain) depth 20
 
-pub broker : IsSync Broker.the_row
-broker = search (letter, web_sync, plain) depth 20
+pub broker : IsSync (Broker.the_row Letter.the_row)
+broker = broker_of Letter.the_row letter
 
 -- what shares groups needs that each may be sent and looked at
 entry_send : IsSend GroupEntry.the_row

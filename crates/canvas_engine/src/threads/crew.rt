@@ -10,6 +10,7 @@ use crate::threads::slot::{Post, Slot};
 use crate::{Cause, Tally};
 use canvas_backend::{Backend, BackendSeat};
 use canvas_broker::{Broker, BrokerPass};
+use canvas_envelope::Letter;
 use canvas_task::Memory;
 use canvas_worker::Record;
 use std::alloc::Global;
@@ -18,14 +19,14 @@ use std::sync::Wait;
 /// The queue and the table of a run.
 #[derive(Drop)]
 pub(crate) struct Site {
-    pub broker: Broker,
+    pub broker: Broker<Letter>,
     pub backend: Backend,
 }
 
 /// A worker's pass and seat.
 #[derive(Drop)]
 pub(crate) struct Hands {
-    pub pass: BrokerPass,
+    pub pass: BrokerPass<Letter>,
     pub seat: BackendSeat,
 }
 

@@ -11,8 +11,8 @@ use std::sync::Wait;
 /// Publishes envelopes in their order.
 pub(crate) fn publish_all<R: Wait>(
     rt: &R,
-    broker: &Broker,
-    pass: &mut BrokerPass,
+    broker: &Broker<Letter>,
+    pass: &mut BrokerPass<Letter>,
     envelopes: Vec<Letter>,
 ) -> Result<(), Memory>
     requires { pass.old.of ≡ broker.now }

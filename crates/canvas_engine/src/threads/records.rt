@@ -5,6 +5,7 @@ ghost use Rattle.canvas_runs.specs.Tally.{greatest_count};
 
 use canvas_backend::{Backend, BackendSeat};
 use canvas_broker::{Broker, BrokerPass};
+use canvas_envelope::Letter;
 use canvas_task::ListOf;
 use canvas_worker::Record;
 
@@ -77,9 +78,9 @@ impl Tally {
 #[derive(Drop)]
 pub struct Records {
     /// The queue. Nothing is left in it.
-    pub broker: Broker,
+    pub broker: Broker<Letter>,
     /// It has, of each worker, just that one's calls of the queue.
-    pub pass: BrokerPass,
+    pub pass: BrokerPass<Letter>,
     /// The table of results.
     pub backend: Backend,
     /// It has, of each worker, just that one's calls of the table.

@@ -5,13 +5,14 @@ ghost use Rattle.canvas_engine.specs.steps.Slots.{LeftARecord, IsWell, LacksMemo
 use crate::{Cause, Tally};
 use canvas_backend::BackendSeat;
 use canvas_broker::BrokerPass;
+use canvas_envelope::Letter;
 use canvas_worker::Record;
 
 /// What stands at a worker's place.
 #[derive(Drop)]
 pub(crate) enum Post {
     /// What the worker begins with.
-    Ready(BrokerPass, BackendSeat),
+    Ready(BrokerPass<Letter>, BackendSeat),
     /// What it left.
     Done(Record),
     /// Its executor failed; its pass and its seat are lost.

@@ -38,7 +38,7 @@ fn is_whole(letter: &Letter, same: &Envelope) -> bool {
 
 /// Publishes an envelope, and where that is refused the one that comes back, if it is the same.
 /// Whether it was published in the end.
-fn publish_plain(broker: &mut PlainBroker, sent: Letter, same: &Envelope) -> bool {
+fn publish_plain(broker: &mut PlainBroker<Letter>, sent: Letter, same: &Envelope) -> bool {
     match broker.publish(sent) {
         Ok(()) => true,
         Err(refused) => {
@@ -57,12 +57,16 @@ fn gives(taken: Option<Letter>, same: &Envelope) -> bool {
 }
 
 /// Whether a queue gives the envelope that was published, and has nothing else then.
-fn trades_plain(broker: &mut PlainBroker, sent: Letter, same: &Envelope) -> bool {
+fn trades_plain(broker: &mut PlainBroker<Letter>, sent: Letter, same: &Envelope) -> bool {
     publish_plain(broker, sent, same) && gives(broker.take(), same) && broker.is_empty()
 }
 
 /// The same of a queue, and of its letter.
-fn trades_letter(alloc: Global, broker: &mut PlainBroker, same: &Envelope) -> Result<bool, Memory> {
+fn trades_letter(
+    alloc: Global,
+    broker: &mut PlainBroker<Letter>,
+    same: &Envelope,
+) -> Result<bool, Memory> {
     match letter(alloc) {
         Ok(sent) => Ok(trades_plain(broker, sent, same)),
         Err(Memory) => Err(Memory),
@@ -82,8 +86,8 @@ pub(crate) fn plain_queue(alloc: Global) -> Result<bool, Memory> {
 /// The same at the queue that threads share. A refused publish leaves nothing to take.
 fn publish<R: Wait>(
     rt: &R,
-    broker: &Broker,
-    pass: &mut BrokerPass,
+    broker: &Broker<Letter>,
+    pass: &mut BrokerPass<Letter>,
     sent: Letter,
     same: &Envelope,
 ) -> bool
@@ -103,9 +107,9 @@ fn publish<R: Wait>(
 /// Whether an envelope that one pass publishes is what another takes.
 fn passes<R: Wait>(
     rt: &R,
-    broker: &Broker,
-    pass: &mut BrokerPass,
-    other: &mut BrokerPass,
+    broker: &Broker<Letter>,
+    pass: &mut BrokerPass<Letter>,
+    other: &mut BrokerPass<Letter>,
     sent: Letter,
     same: &Envelope,
 ) -> bool
@@ -118,8 +122,8 @@ fn passes<R: Wait>(
 /// The same by a pass that is split off. Where the split is refused the first pass does both.
 fn trades<R: Wait>(
     rt: &R,
-    broker: &Broker,
-    pass: &mut BrokerPass,
+    broker: &Broker<Letter>,
+    pass: &mut BrokerPass<Letter>,
     sent: Letter,
     same: &Envelope,
 ) -> Result<bool, Memory>
@@ -144,8 +148,8 @@ fn trades<R: Wait>(
 fn trades_shared<R: Wait>(
     rt: &R,
     alloc: Global,
-    broker: &Broker,
-    pass: &mut BrokerPass,
+    broker: &Broker<Letter>,
+    pass: &mut BrokerPass<Letter>,
     same: &Envelope,
 ) -> Result<bool, Memory>
     requires { pass.old.of ≡ broker.now }

@@ -6,7 +6,7 @@ use Rattle.canvas_broker.proofs.Batches.{read_queued, read_mark}
 use Rattle.canvas_broker.proofs.batch.Batch.next.Goals as goal
 
 pub returns-in-Queued : goal.returns-in-Queued
-returns-in-Queued c =
+returns-in-Queued g c =
     let at = c.loop-self.self-inside.read in
     let items = c.deref_mut.result.now in
     let inside : at < length items = omega (arith, c.loop-self-test.true, c.len.ensures.value, ap length c.deref_mut.ensures.value) in
@@ -19,7 +19,7 @@ returns-in-Queued c =
     ∙ ap (λ xs. c.in-Queued.envelope ∷ envelopes (drop (at + 1) xs)) (sym written)
 
 pub loop-self-preserved : goal.loop-self-preserved
-loop-self-preserved c =
+loop-self-preserved g c =
     let at = c.loop-self.self-inside.read in
     let items = c.deref_mut.result.now in
     let inside : at < length items = omega (arith, c.loop-self-test.true, c.len.ensures.value, ap length c.deref_mut.ensures.value) in
@@ -33,7 +33,7 @@ loop-self-preserved c =
     ∙ c.loop-self.invariant
 
 pub returns : goal.returns
-returns c =
+returns g c =
     let at = c.loop-self.self-inside.read in
     let items = c.loop-self.self-inside.items.items in
     let past : length items ≤ at = omega (arith, c.loop-self-test.false, c.len.ensures.value) in

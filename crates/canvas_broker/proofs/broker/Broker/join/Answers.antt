@@ -5,7 +5,6 @@ use Rattle.canvas_history.specs.Queue.{answer_of, next, May}
 use Rattle.canvas_history.specs.Passes.{IsHistory}
 use Rattle.canvas_broker.specs.steps.Rule.{IsReady, united}
 use Rattle.canvas_broker.specs.declared.view.View.{View}
-use Rattle.canvas_envelope.specs.declared.envelope.Envelope.{Envelope}
 use Rattle.canvas_broker.proofs.RuleSteps.{merges, hears, united_ready}
 use Rattle.canvas_broker.proofs.broker.Broker.join.Goals as goal
 
@@ -22,10 +21,10 @@ invariant_of-pass g c =
     let same : c.len_as.new.pass.me.view.client ≡ united v w = c.len_as.ensures.queue.2 ∙ c.absorb.ensures.rule in (
       c.len_as.ensures.queue.0.1,
       c.len_as.ensures.queue.0.2,
-      subst (λ (x : View Envelope). IsReady x) (sym same) (in_left v.knows.name v.knows.mine w.knows.mine c.pass.invariant.2.0, refl),
+      subst (λ (x : View g.row.T.Denot). IsReady x) (sym same) (in_left v.knows.name v.knows.mine w.knows.mine c.pass.invariant.2.0, refl),
     )
 
 pub returns-clause-alone : goal.returns-clause-alone
 returns-clause-alone g c =
     leaves_one [] answer_of next May c.len_as.new.pass.me.view.client.knows
-    (subst (λ (x : View Envelope). IsHistory x.knows) (sym c.len_as.ensures.queue.2) c.len_as.ensures.rule.2.1)
+    (subst (λ (x : View g.row.T.Denot). IsHistory x.knows) (sym c.len_as.ensures.queue.2) c.len_as.ensures.rule.2.1)

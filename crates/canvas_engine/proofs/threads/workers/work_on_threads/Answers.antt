@@ -5,6 +5,7 @@ use denote.RattleType.{RattleType}
 use denote.Param.{param}
 use denote.Param.Send.{sendable, shr_sync}
 use Rattle.canvas_backend.specs.contracts.backend.Backend as Backend
+use Rattle.canvas_envelope.specs.contracts.letter.Letter as Letter
 use Rattle.canvas_broker.specs.contracts.broker.Broker as Broker
 use Rattle.canvas_worker.specs.contracts.in_flight.InFlight as InFlight
 use Rattle.canvas_worker.specs.contracts.stop.Stop as Stop
@@ -20,7 +21,7 @@ for_each_mut-requires-sync-F g c κs within =
     let captures : List RattleType =
     lent κs.1.1.1.1.1.1.0 (param 0 g.row.R) tt
     ∷ lent κs.1.1.1.1.1.1.1.0 Global.the_row tt
-    ∷ lent κs.1.1.1.1.1.1.1.1.0 Broker.the_row tt
+    ∷ lent κs.1.1.1.1.1.1.1.1.0 (Broker.the_row Letter.the_row) tt
     ∷ lent κs.1.1.1.1.1.1.1.1.1.0 Backend.the_row tt
     ∷ lent κs.1.1.1.1.1.1.1.1.1.1.0 (param 1 g.row.T) tt
     ∷ lent κs.1.1.1.1.1.1.1.1.1.1.1.0 (param 2 g.row.G) tt
