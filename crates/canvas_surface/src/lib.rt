@@ -5,6 +5,8 @@
 #[cfg(test)]
 mod canvases;
 #[cfg(test)]
+mod cores;
+#[cfg(test)]
 mod effects;
 #[cfg(test)]
 mod gate;
@@ -13,10 +15,20 @@ mod messages;
 #[cfg(test)]
 mod plans;
 #[cfg(test)]
+mod program;
+#[cfg(test)]
+mod queue;
+#[cfg(test)]
 mod signatures;
 #[cfg(test)]
+mod table;
+#[cfg(test)]
 mod tasks;
+#[cfg(test)]
+mod texts;
 #[cfg(test)]
 mod threads;
 #[cfg(test)]
 mod turns;
+#[cfg(test)]
+mod worker;

@@ -2,10 +2,12 @@
 //! `./refuse-memory` runs each of these tests with each growth refused in turn, one in a run; in
 //! the gate there is none. So a call that is refused for no growth fails both.
 
+mod again;
 mod objects;
 mod parts;
 mod runs;
 
+use crate::refused::again::{copies, redeliveries};
 use crate::refused::objects::{core, plain_queue, plain_table, queue, registry, table};
 use crate::refused::parts::{arguments, effects, messages, plans, signatures};
 use crate::refused::runs::{CANVASES, How, runs, turns};
@@ -25,8 +27,10 @@ enum Calls {
     Arguments,
     Messages,
     Effects,
+    Copies,
     PlainQueue,
     Queue,
+    Redeliveries,
     PlainTable,
     Table,
     Core,
@@ -60,8 +64,10 @@ fn answered<R: Wait>(rt: &R, alloc: Global, calls: Calls) -> Result<bool, Memory
         Calls::Signatures => signatures(alloc),
         Calls::Plans => plans(alloc),
         Calls::Arguments => arguments(alloc),
+        Calls::Copies => copies(alloc),
         Calls::PlainQueue => plain_queue(alloc),
         Calls::Queue => queue(rt, alloc),
+        Calls::Redeliveries => redeliveries(rt, alloc),
         Calls::Registry => registry(alloc),
         Calls::Turns => turns(alloc),
         _ => answered_of_chord(alloc, calls),
@@ -85,7 +91,7 @@ fn signatures_of_canvases(rt: HostRuntime) {
 
 #[test]
 fn messages_of_plans(rt: HostRuntime) {
-    for &calls in &[Calls::Messages, Calls::Effects] {
+    for &calls in &[Calls::Messages, Calls::Effects, Calls::Copies] {
         assert!(rt; answer(&rt, rt.alloc(), calls), "{calls:?}");
     }
 }
@@ -95,6 +101,7 @@ fn objects_of_runs(rt: HostRuntime) {
     for &calls in &[
         Calls::PlainQueue,
         Calls::Queue,
+        Calls::Redeliveries,
         Calls::PlainTable,
         Calls::Table,
         Calls::Core,
