@@ -92,6 +92,7 @@ redelivered behaviour w v ready inside d =
         again = all_still w.pass v.pass (queue.redeliver d.0) None d.2 (in_hand (held w.core) w.held) ready.again;
         counts = ready.counts;
       };
+      alone = λ _. refl;
       moved = delivers d.0 (d.1, (v.pass, d.2, refl), refl, refl, refl, refl, refl);
     })
 

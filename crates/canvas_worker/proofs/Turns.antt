@@ -1,6 +1,7 @@
 -- What one turn of a worker leaves.
-use Rattle.std.proofs.Common.{◌≡◌, ◌∙◌, ℕ, ◌+◌, ◌≤◌, min, [], ◌∷◌, Option, Some, None, Result, Ok, Err, refl, sym, arith}
+use Rattle.std.proofs.Common.{◌≡◌, ◌∙◌, ℕ, ◌+◌, ◌≤◌, min, true, false, [], ◌∷◌, Option, Some, None, Result, Ok, Err, refl, sym, subst, arith}
 use Rattle.std.specs.Prelude.{MatchResult}
+use Rattle.std.proofs.lemmas.Bool.{false≢true}
 use Rattle.canvas_task.specs.Apply.{Behaviour}
 use Rattle.canvas_envelope.specs.declared.envelope.Envelope.{Envelope}
 use Rattle.canvas_history.specs.Roster.{Roster}
@@ -9,7 +10,7 @@ use Rattle.canvas_history.specs.Lists.{total}
 use Rattle.canvas_runs.specs.Tally.{Tally, IsTally, Counted, CountsMore, publishing, storing, returning, dropping, greatest_count}
 use Rattle.canvas_core.specs.Asks.{Asked, Answer}
 use Rattle.canvas_core.proofs.Cores.Counts.{of_queue, of_table}
-use Rattle.canvas_worker.specs.Polls.{Work, progress, Ready, acts, does_nothing, Pends, Acted, EndsWith}
+use Rattle.canvas_worker.specs.Polls.{Work, progress, with_alone, Ready, FindsNone, finds_none, acts, does_nothing, Pends, Acted, EndsWith}
 use Rattle.canvas_core.specs.declared.cause.Cause.{Cause}
 use Rattle.canvas_worker.specs.declared.working.End.{End}
 
@@ -53,10 +54,38 @@ ends_acting behaviour w c ready r leaves = record {
   };
 }
 
+-- ---- where the batch that was due gave none
+
+ready_alone : (w : Work) → Ready w → Ready (with_alone w)
+ready_alone w ready = record {
+  of = ready.of;
+  home = ready.home;
+  plan = ready.plan;
+  inside = ready.inside;
+  can = ready.can;
+  rested = ready.rested;
+  current = ready.current;
+  task = ready.task;
+  again = ready.again;
+  counts = ready.counts;
+}
+
+pub found_none : (behaviour : Behaviour) (w v : Work) → Ready w → FindsNone w v → Acted behaviour w v
+found_none behaviour w v ready found =
+    subst (λ z. Acted behaviour w z) (sym found.3)
+    (record {
+      broker = refl;
+      desk = refl;
+      number = refl;
+      ready = ready_alone w ready;
+      alone = λ alone. absurd (false≢true (sym found.2 ∙ alone));
+      moved = finds_none (found.0, found.1, found.2, refl);
+    })
+
 -- ---- where nothing was delivered again
 
 acts_pending : (behaviour : Behaviour) (w v : Work) → Acted behaviour w v → Pends behaviour w v
-acts_pending behaviour w v a = record { broker = a.broker; desk = a.desk; number = a.number; ready = a.ready; moved = acts a.moved }
+acts_pending behaviour w v a = record { broker = a.broker; desk = a.desk; number = a.number; ready = a.ready; alone = a.alone; moved = acts a.moved }
 
 pub acted_well : {A : Type 0} (behaviour : Behaviour) (w v : Work) (result : Result A End)
     → MatchResult result (λ _. Acted behaviour w v) (λ e. EndsWith behaviour w e.fault v)

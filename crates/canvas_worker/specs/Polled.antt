@@ -16,7 +16,8 @@ pub record Polled (behaviour : Behaviour) (may_answer : ℕ → ℕ → Bool →
     (may_want : ℕ → ℕ → Type 0) (w : Work) (p : Option When) (answer : Poll Record)
     (now : Option Work) (q : Option When) : Type 0 where
   -- one that is pending answers one ask of the core, delivers the envelope of the open script
-  -- again, or does nothing, since the gate holds the worker back
+  -- again, or does nothing, since the gate holds the worker back, or the batch that was due gave
+  -- none: then the next take is of one alone
   pub once : OnPending answer (IfSome now (λ v. Pends behaviour w v))
   -- the last one answers one ask at most, and its record is that of the end
   pub last : IfReady answer (λ r. Ends behaviour w r)

@@ -1,5 +1,5 @@
 -- What contracts see of a worker, what one of its polls leaves, and what its record says.
-use Rattle.std.specs.Prelude.{◌≡◌, ◌+◌, ℕ, min, true, false, List, [], ◌∷◌, Option, Some, None, IsSome}
+use Rattle.std.specs.Prelude.{◌≡◌, ◌+◌, ℕ, min, Bool, true, false, List, [], ◌∷◌, Option, Some, None, IsSome}
 use Rattle.canvas_task.specs.Apply.{Behaviour}
 use Rattle.canvas_history.specs.Passes.{QueueId, Stands, Empties}
 use Rattle.canvas_semantics.specs.Line.{Line}
@@ -7,10 +7,10 @@ use Rattle.canvas_rewrite.specs.Planned.{IsPlan}
 use Rattle.canvas_envelope.specs.declared.envelope.Envelope.{Envelope}
 use Rattle.canvas_history.specs.Seats.{Desk}
 use Rattle.canvas_history.specs.Roster.{Roster, roster_of}
-use Rattle.canvas_history.specs.Queue.{redeliver, HasTaken}
+use Rattle.canvas_history.specs.Queue.{take, redeliver, HasTaken}
 use Rattle.canvas_history.specs.Callers.{told}
 use Rattle.canvas_history.specs.History.{calls}
-use Rattle.canvas_runs.specs.Core.{resting, over, is_inside}
+use Rattle.canvas_runs.specs.Core.{resting, over, is_inside, to_queue}
 use Rattle.canvas_runs.specs.Calls.{QueueAnswered}
 use Rattle.canvas_runs.specs.Following.{Pass, Seat}
 use Rattle.canvas_history.specs.Lists.{Each}
@@ -20,7 +20,7 @@ use Rattle.canvas_runs.specs.Book.{book_on}
 use Rattle.canvas_core.specs.CorePast.{task_in}
 use Rattle.canvas_core.specs.SeatRights.{Can}
 use Rattle.canvas_runs.specs.Tally.{greatest_count}
-use Rattle.canvas_core.specs.CoreState.{Standing, Progress, HasFollowed, begun as new_core, after_reply, failing, held}
+use Rattle.canvas_core.specs.CoreState.{Standing, Progress, HasFollowed, begun as new_core, after_reply, asked, failing, held}
 use Rattle.canvas_worker.specs.WorkerSteps.{AnsweredByCall, FromHeld, Batched, Delivered}
 use Rattle.canvas_core.specs.declared.ask.Ask.{Ask}
 use Rattle.canvas_core.specs.declared.ask.Ask.TheVariants.{Store, Part, Ack, Rest}
@@ -29,8 +29,8 @@ use Rattle.canvas_core.specs.declared.cause.Cause.TheVariants.{Memory}
 use Rattle.canvas_worker.specs.declared.record.Record.{Record}
 
 -- a worker in the middle of its work: the broker and the backend that it works at, its number, its
--- pass and its seat, its core, the envelopes that it took and has not given to its core, and its
--- counts
+-- pass and its seat, its core, the envelopes that it took and has not given to its core, whether
+-- its next take is of one envelope alone or of a batch, and its counts
 pub record Work : Type 0 where
   pub broker : QueueId
   pub desk : Desk
@@ -39,12 +39,13 @@ pub record Work : Type 0 where
   pub seat : Seat
   pub core : Standing
   pub held : List Envelope
+  pub alone : Bool
   pub taken : ℕ
   pub published : ℕ
   pub first : ℕ
   pub parts : ℕ
 
--- a worker that has done nothing yet
+-- a worker that has done nothing yet: its first take is of one alone
 abbrev pub working_begun : QueueId → Desk → ℕ → Pass → Seat → Work
 working_begun broker desk number pass seat =
     record {
@@ -55,6 +56,7 @@ working_begun broker desk number pass seat =
       seat = seat;
       core = new_core;
       held = [];
+      alone = true;
       taken = 0;
       published = 0;
       first = 0;
@@ -89,6 +91,7 @@ with_core w c =
       seat = w.seat;
       core = c;
       held = w.held;
+      alone = w.alone;
       taken = w.taken;
       published = w.published;
       first = w.first;
@@ -113,6 +116,7 @@ one_taken w =
       seat = w.seat;
       core = w.core;
       held = w.held;
+      alone = w.alone;
       taken = min greatest_count (w.taken + 1);
       published = w.published;
       first = w.first;
@@ -130,6 +134,25 @@ with_pass w p =
       seat = w.seat;
       core = w.core;
       held = w.held;
+      alone = w.alone;
+      taken = w.taken;
+      published = w.published;
+      first = w.first;
+      parts = w.parts;
+    }
+
+-- the next take of this worker is of one alone
+abbrev pub with_alone : Work → Work
+with_alone w =
+    record {
+      broker = w.broker;
+      desk = w.desk;
+      number = w.number;
+      pass = w.pass;
+      seat = w.seat;
+      core = w.core;
+      held = w.held;
+      alone = true;
       taken = w.taken;
       published = w.published;
       first = w.first;
@@ -163,21 +186,33 @@ pub record Ready (w : Work) : Type 0 where
   pub again : Each (CanDeliver w.pass) (in_hand (held w.core) w.held)
   pub counts : IsTally (progress w).tally
 
--- What one poll does for the core, where the gate lets the worker go on: one ask of it is answered,
--- by a call, or by an envelope that is held or of a batch that was taken for it. A take of one
--- envelope is a batch of one, and one that finds nothing is answered too.
+-- One ask of the core is answered, by a call, or by an envelope that is held or of a batch that was
+-- taken for it. A take of one envelope is a batch of one, and one that finds nothing is answered
+-- too.
 pub data Acts (behaviour : Behaviour) (plan : Roster) (p q : Progress) : Type 0 where
   makes_call : (a : Asked) (r : Answer) → AnsweredByCall behaviour plan p q a r
       → Acts behaviour plan p q
   gives_held : (es : List Envelope) (e : Envelope) (between : Progress) → Batched p between es
       → FromHeld behaviour plan between q e → Acts behaviour plan p q
 
+-- The core asks for an envelope, none is held, and the batch that was due gave none: nothing is
+-- done, but the next take is of one alone. So no two polls in a row find none.
+abbrev pub FindsNone : Work → Work → Type 0
+FindsNone w v =
+    (asked w.core.left ≡ to_queue take) × (w.held ≡ []) × (w.alone ≡ false) × (v ≡ with_alone w)
+
+-- What one poll does where the gate lets the worker go on: one ask of its core is answered, or the
+-- batch that was due gave none.
+pub data GoesOn (behaviour : Behaviour) (w v : Work) : Type 0 where
+  answers : Acts behaviour w.desk.plan (progress w) (progress v) → GoesOn behaviour w v
+  finds_none : FindsNone w v → GoesOn behaviour w v
+
 -- What a poll that is pending does: that, or the envelope of the open script is delivered again, or
 -- nothing, since the gate holds the worker back.
-pub data Moves (behaviour : Behaviour) (plan : Roster) (p q : Progress) : Type 0 where
-  waits : q ≡ p → Moves behaviour plan p q
-  acts : Acts behaviour plan p q → Moves behaviour plan p q
-  delivers : (e : Envelope) → Delivered p q e → Moves behaviour plan p q
+pub data Moves (behaviour : Behaviour) (w v : Work) : Type 0 where
+  waits : v ≡ w → Moves behaviour w v
+  acts : GoesOn behaviour w v → Moves behaviour w v
+  delivers : (e : Envelope) → Delivered (progress w) (progress v) e → Moves behaviour w v
 
 -- What the last poll does: one ask is answered, or none, since the worker is stopped or memory was
 -- refused, to which a batch may have been taken.
@@ -192,20 +227,22 @@ Redelivered w v =
     (e : Envelope) × (held w.core ≡ Some e)
     × Stands w.pass (calls w.pass.name (redeliver e) None) v.pass × (v ≡ with_pass w v.pass)
 
--- what a poll leaves that is pending, where it did this
-pub record PendsBy (Does : Progress → Progress → Type 0) (w v : Work) : Type 0 where
+-- what a poll leaves that is pending, where it did this. With an envelope that is taken alone no
+-- others are taken
+pub record PendsBy (Does : Work → Work → Type 0) (w v : Work) : Type 0 where
   pub broker : v.broker ≡ w.broker
   pub desk : v.desk ≡ w.desk
   pub number : v.number ≡ w.number
   pub ready : Ready v
-  pub moved : Does (progress w) (progress v)
+  pub alone : w.alone ≡ true → v.held ≡ w.held
+  pub moved : Does w v
 
 abbrev pub Pends : Behaviour → Work → Work → Type 0
-Pends behaviour w v = PendsBy (Moves behaviour w.desk.plan) w v
+Pends behaviour w v = PendsBy (Moves behaviour) w v
 
--- the same, where nothing was delivered again
+-- the same, where the gate lets the worker go on and nothing was delivered again
 abbrev pub Acted : Behaviour → Work → Work → Type 0
-Acted behaviour w v = PendsBy (Acts behaviour w.desk.plan) w v
+Acted behaviour w v = PendsBy (GoesOn behaviour) w v
 
 abbrev pub tally_of : Record → Tally
 tally_of r =

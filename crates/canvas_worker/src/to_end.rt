@@ -36,7 +36,7 @@ where
     ensures { IfSome result (Finished (T.behaviour shared.now.tasks.now)
         (G.may_want shared.now.gate.now) shared.now.backend.now.plan number pass seat) }
 {
-    let worker = Worker::new(rt, alloc, shared, number, pass, seat);
+    let worker = Worker::with(rt, alloc, shared, number, pass, seat);
     match block_on(rt, InRounds { future: worker }) {
         Ok(left) => Some(left),
         Err(_) => {

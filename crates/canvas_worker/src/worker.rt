@@ -7,9 +7,9 @@ ghost use Rattle.futures.specs.Poll.{OnPending, IfReady};
 ghost use Rattle.futures.specs.Task.{Covers, Keeps};
 
 use crate::working::{End, Working};
-use crate::{Gate, Record, Shared};
-use canvas_backend::BackendSeat;
-use canvas_broker::BrokerPass;
+use crate::{Gate, InFlight, Record, Shared, Stop};
+use canvas_backend::{Backend, BackendSeat};
+use canvas_broker::{Broker, BrokerPass};
 use canvas_envelope::Letter;
 use canvas_runs::When;
 use canvas_task::Tasks;
@@ -18,7 +18,8 @@ use futures::task::{Context, Poll};
 use std::alloc::Global;
 use std::sync::Wait;
 
-/// A worker, as a future of its record. One poll answers at most one ask of its core.
+/// A worker, as a future of its record. One poll answers one ask of its core, unless its gate holds
+/// it back, or the batch that was due had none: then the next poll takes one envelope alone.
 ///
 /// Where the stop was asked it is ready. Before a message's first store and before its
 /// acknowledgement it asks its gate. Where that holds it back it only yields, and where that wants
@@ -39,6 +40,35 @@ impl<'a, R: Wait, T: Tasks, G: Gate> Worker<'a, R, T, G> {
     pub fn new(
         rt: &'a R,
         alloc: Global,
+        number: u32,
+        broker: &'a Broker<Letter>,
+        pass: BrokerPass<Letter>,
+        backend: &'a Backend,
+        seat: BackendSeat,
+        tasks: &'a T,
+        gate: &'a G,
+        stop: &'a Stop,
+        flight: &'a InFlight,
+    ) -> Worker<'a, R, T, G>
+        ensures working { result.working
+            ≡ Some (working_begun broker.now backend.now number pass seat) }
+        ensures passed { result.passed ≡ None }
+        ensures tasks { result.tasks.now ≡ tasks.now }
+        ensures gate { result.gate.now ≡ gate.now }
+    {
+        let working = Working::new(rt, alloc, number, broker, pass, backend, seat, stop, flight);
+        Worker {
+            working: Some(working),
+            passed: None,
+            tasks,
+            gate,
+        }
+    }
+
+    /// As `new`, at what the workers of a run share.
+    pub fn with(
+        rt: &'a R,
+        alloc: Global,
         shared: &Shared<'a, T, G>,
         number: u32,
         pass: BrokerPass<Letter>,
@@ -50,12 +80,12 @@ impl<'a, R: Wait, T: Tasks, G: Gate> Worker<'a, R, T, G> {
         ensures tasks { result.tasks.now ≡ shared.now.tasks.now }
         ensures gate { result.gate.now ≡ shared.now.gate.now }
     {
-        Worker {
-            working: Some(Working::new(rt, alloc, shared, number, pass, seat)),
-            passed: None,
-            tasks: shared.tasks,
-            gate: shared.gate,
-        }
+        let (broker, backend) = (shared.broker, shared.backend);
+        let (tasks, gate) = (shared.tasks, shared.gate);
+        let (stop, flight) = (shared.stop, shared.flight);
+        Worker::new(
+            rt, alloc, number, broker, pass, backend, seat, tasks, gate, stop, flight,
+        )
     }
 }
 

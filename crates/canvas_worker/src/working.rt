@@ -14,9 +14,9 @@ mod answering;
 
 use crate::counted_queue::CountedQueue;
 use crate::source::Source;
-use crate::{Cause, Core, Gate, InFlight, Record, Reply, Shared, Stop};
+use crate::{Cause, Core, Gate, InFlight, Record, Reply, Stop};
 use canvas_backend::{Backend, BackendSeat};
-use canvas_broker::BrokerPass;
+use canvas_broker::{Broker, BrokerPass};
 use canvas_envelope::Letter;
 use canvas_runs::When;
 use canvas_task::{Memory, Tasks};
@@ -67,7 +67,7 @@ impl<'a, R: Wait> Model for Working<'a, R> {
     ghost use Rattle.std.specs.Coded.{codes};
     ghost use Rattle.canvas_envelope.specs.codes.ContentCode.{content_code};
     ghost use Rattle.canvas_core.specs.codes.CoreCode.{carried_code};
-    ghost use Rattle.canvas_worker.specs.steps.Held.{held_in};
+    ghost use Rattle.canvas_worker.specs.steps.Held.{held_in, alone_in};
     ghost use Rattle.canvas_worker.specs.Polls.{Work};
 
     ghost Value = { Work };
@@ -82,6 +82,7 @@ impl<'a, R: Wait> Model for Working<'a, R> {
       seat = w.seat;
       core = w.core;
       held = held_in w.source;
+      alone = alone_in w.source;
       taken = w.taken;
       published = w.published;
       first = w.first;
@@ -90,27 +91,29 @@ impl<'a, R: Wait> Model for Working<'a, R> {
 }
 
 impl<'a, R: Wait> Working<'a, R> {
-    pub(crate) fn new<T, G>(
+    pub(crate) fn new(
         rt: &'a R,
         alloc: Global,
-        shared: &Shared<'a, T, G>,
         number: u32,
+        broker: &'a Broker<Letter>,
         pass: BrokerPass<Letter>,
+        backend: &'a Backend,
         seat: BackendSeat,
+        stop: &'a Stop,
+        flight: &'a InFlight,
     ) -> Working<'a, R>
-        ensures { result
-            ≡ working_begun shared.now.broker.now shared.now.backend.now number pass seat }
+        ensures { result ≡ working_begun broker.now backend.now number pass seat }
     {
         Working {
             rt,
             alloc,
             number,
-            queue: CountedQueue::of(shared.broker),
+            queue: CountedQueue::of(broker),
             pass,
-            backend: shared.backend,
+            backend,
             seat,
-            stop: shared.stop,
-            flight: shared.flight,
+            stop,
+            flight,
             core: Core::new(alloc),
             source: Source::First,
             taken: 0,

@@ -68,7 +68,8 @@ where
 }
 
 /// To take, to store, to publish and to acknowledge are four for the first task, and to take, to
-/// store and to acknowledge three for the second; then a take that finds nothing, and the rest.
+/// store and to acknowledge three for the second; then a batch of none, which answers nothing, a
+/// take of one alone that finds nothing, and the rest.
 ///
 /// Where the gate is shut once there is one more: it is asked once more whether to go on, and at
 /// each of the four points once whether to deliver again. A redelivery is a poll of its own. Its
@@ -76,12 +77,12 @@ where
 #[test]
 fn polls_of_two_tasks(rt: HostRuntime) {
     for &(shut, at, taken, polls, asked) in &[
-        (0, 0, 2, 9, (2, 4)),
-        (1, 0, 2, 10, (3, 4)),
-        (0, 1, 3, 13, (3, 6)),
-        (0, 2, 3, 13, (3, 6)),
-        (0, 3, 3, 13, (3, 6)),
-        (0, 4, 3, 13, (3, 6)),
+        (0, 0, 2, 10, (2, 4)),
+        (1, 0, 2, 11, (3, 4)),
+        (0, 1, 3, 14, (3, 6)),
+        (0, 2, 3, 14, (3, 6)),
+        (0, 3, 3, 14, (3, 6)),
+        (0, 4, 3, 14, (3, 6)),
     ] {
         let (left, found) = counted(&rt, shut, at, 0);
         assert!(rt;

@@ -19,7 +19,7 @@ use Rattle.canvas_core.specs.CorePast.{task_in}
 use Rattle.canvas_core.specs.SeatRights.{Can}
 use Rattle.canvas_core.specs.CoreState.{Standing, Progress, asked, drops, after_reply, held, kept_next, task_next}
 use Rattle.canvas_worker.specs.WorkerSteps.{Batched, FromHeld}
-use Rattle.canvas_worker.specs.Polls.{Work, progress, with_core, with_answer, lost, one_taken, CanDeliver, in_hand, Ready, gives_held, keeps_batch, Acted, Leaves, Ends, EndsWith}
+use Rattle.canvas_worker.specs.Polls.{Work, progress, with_core, with_answer, lost, one_taken, CanDeliver, in_hand, Ready, gives_held, answers, keeps_batch, Acted, Leaves, Ends, EndsWith}
 use Rattle.canvas_core.specs.declared.cause.Cause.TheVariants.{Memory}
 use Rattle.canvas_worker.specs.declared.record.Record.{Record}
 use Rattle.canvas_worker.specs.declared.working.End.{End}
@@ -49,6 +49,7 @@ pub record Takes (w u : Work) (es : List Envelope) (e : Envelope) : Type 0 where
   pub core : u.core ≡ w.core
   pub took : Took w.pass es u.pass
   pub held : w.held ++ es ≡ e ∷ u.held
+  pub alone : w.alone ≡ true → u.held ≡ w.held
   pub taken : u.taken ≡ w.taken
   pub published : u.published ≡ w.published
   pub first : u.first ≡ w.first
@@ -152,7 +153,8 @@ module _ (behaviour : Behaviour) (w u : Work) (es : List Envelope) (e : Envelope
       again = again;
       counts = tallied plan (C.to_queue queue.take) (C.from_queue (Some e)) (progress w).tally (progress given).tally counted;
     };
-    moved = gives_held es e between batched from_held;
+    alone = x.alone;
+    moved = answers (gives_held es e between batched from_held);
   }
 
   told_is : (v : Work) → v ≡ one_taken (with_answer behaviour u (C.from_queue (Some e))) → Acted behaviour w v

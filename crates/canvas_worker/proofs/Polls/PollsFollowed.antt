@@ -17,7 +17,7 @@ use Rattle.canvas_runs.specs.declared.when.When.TheVariants.{Early, Late}
 use Rattle.canvas_core.specs.CorePast.{task_in}
 use Rattle.canvas_core.specs.CoreState.{Left, Progress, HasFollowed, held, point_in}
 use Rattle.canvas_worker.specs.GateAnswers.{unless_passed, asks_at, Wants, Heeds, waits, delivers, goes_on, LeavesHeeding, stops, fails_again, ends}
-use Rattle.canvas_worker.specs.Polls.{Work, progress, Ready, IsWanted, Acts, makes_call, gives_held, ActsLast, acts_last, does_nothing, keeps_batch, Pends, IsRecordOf, Ends, TellsOf}
+use Rattle.canvas_worker.specs.Polls.{Work, progress, Ready, IsWanted, Acts, makes_call, gives_held, GoesOn, answers, finds_none, ActsLast, acts_last, does_nothing, keeps_batch, Pends, IsRecordOf, Ends, TellsOf}
 use Rattle.canvas_worker.specs.WorkerSteps.{Delivered}
 use Rattle.canvas_core.specs.declared.cause.Cause.TheVariants.{Memory, Stopped}
 use Rattle.canvas_worker.specs.declared.record.Record.{Record}
@@ -73,6 +73,11 @@ module _ (behaviour : Behaviour) (go : ℕ → Bool → Type 0) (may_want : ℕ 
       let at = asked_for go wants w.core.left w.core.task p h in
       (at.0, ap (task_in (book_on w.desk.plan)) (sym holds) ∙ (sym (ready.task at.2) ∙ at.1), at.3)
 
+  went_first : (v : Work) (x : Progress) → GoesOn behaviour w v → Wanting behaviour wants w.desk.plan (progress v) x
+      → Wanting behaviour wants w.desk.plan (progress w) x
+  went_first v x (answers a) f = acted_first behaviour wants w.desk.plan (progress w) (progress v) x a f
+  went_first v x (finds_none found) f = subst (λ z. Wanting behaviour wants w.desk.plan (progress z) x) found.3 f
+
   heeded : (v : Work) (q : Option When) (x : Progress) → Heeds go wants behaviour w p v q → Wanting behaviour wants w.desk.plan (progress v) x
       → Wanting behaviour wants w.desk.plan (progress w) x
   heeded v q x (waits h same passed) f = subst (λ z. Wanting behaviour wants w.desk.plan (progress z) x) same f
@@ -82,7 +87,7 @@ module _ (behaviour : Behaviour) (go : ℕ → Bool → Type 0) (may_want : ℕ 
         again_first behaviour w.desk.plan (progress w) (progress v) x d.0 step f.0,
         again_wanted behaviour w.desk.plan wants (progress w) (progress v) x d.0 step f.0 (is_wanted d.0 d.1 h) f.1,
       )
-  heeded v q x (goes_on lets acted passed) f = acted_first behaviour wants w.desk.plan (progress w) (progress v) x acted.moved f
+  heeded v q x (goes_on lets acted passed) f = went_first v x acted.moved f
 
   pub goes_first : (v : Work) (q : Option When) → Pends behaviour w v → Heeds go wants behaviour w p v q → (r : Record) → TellsOf behaviour may_want v r
       → TellsOf behaviour may_want w r

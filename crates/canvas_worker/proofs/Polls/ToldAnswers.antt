@@ -19,7 +19,7 @@ use Rattle.canvas_core.specs.CorePast.{task_in}
 use Rattle.canvas_core.specs.SeatRights.{Can}
 use Rattle.canvas_core.specs.CoreState.{Standing, Progress, asked, drops, after_reply, open_of, kept_next, task_next}
 use Rattle.canvas_worker.specs.WorkerSteps.{OnlyBare, AnsweredByCall}
-use Rattle.canvas_worker.specs.Polls.{Work, progress, with_core, with_answer, lost, CanDeliver, in_hand, Ready, makes_call, acts_last, Acted, Leaves, Ends, EndsWith}
+use Rattle.canvas_worker.specs.Polls.{Work, progress, with_core, with_answer, lost, CanDeliver, in_hand, Ready, makes_call, answers, acts_last, Acted, Leaves, Ends, EndsWith}
 use Rattle.canvas_core.specs.declared.cause.Cause.TheVariants.{Memory}
 use Rattle.canvas_worker.specs.declared.record.Record.{Record}
 use Rattle.canvas_worker.specs.declared.working.End.{End}
@@ -229,7 +229,7 @@ module _ (behaviour : Behaviour) (w u : Work) (a : Asked) (r : Answer) (ready : 
   told_is : (v : Work) → v ≡ with_answer behaviour u r → Acted behaviour w v
   told_is v e =
       subst (λ z. Acted behaviour w z) (sym (e ∙ ap (λ c. with_core u c) core_is))
-      (record { broker = broker; desk = desk; number = number; ready = ready_then; moved = makes_call a r called })
+      (record { broker = broker; desk = desk; number = number; ready = ready_then; alone = λ _. held; moved = answers (makes_call a r called) })
 
   fails : (s : Record) → Leaves (lost u) (Some Memory) s → Ends behaviour w s
   fails s leaves = record {

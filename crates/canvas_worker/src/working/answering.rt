@@ -1,6 +1,6 @@
 //! What answers each ask of a worker's core.
 
-ghost use Rattle.std.specs.Prelude.{◌≡◌, [], None, Some, IsOk, IfErr, MatchResult};
+ghost use Rattle.std.specs.Prelude.{◌≡◌, [], None, Some, IsOk, IfErr, MatchResult, false};
 ghost use Rattle.canvas_task.specs.Apply.{IsInRange};
 ghost use Rattle.canvas_runs.specs.Core.{ReadsBack};
 ghost use Rattle.canvas_core.specs.Asks.{shown};
@@ -18,7 +18,7 @@ use canvas_backend::Stored;
 use canvas_task::{GroupNo, Outcome, TaskNo, Tasks};
 use std::sync::Wait;
 
-/// After so many takes in a row that found nothing a worker sleeps before it takes again.
+/// After this number of takes in a row that found nothing a worker sleeps before it takes again.
 const PATIENCE: u32 = 8;
 
 impl<R: Wait> Working<'_, R> {
@@ -44,12 +44,13 @@ impl<R: Wait> Working<'_, R> {
         }
     }
 
-    /// Takes a batch, and one alone where that has none: others may have come between, so a batch
-    /// of none doesn't say that there is no envelope.
+    /// Takes a batch. Where that has none nothing is answered, and the next take is of one alone:
+    /// others may have come between, so a batch of none doesn't say that there is no envelope.
     fn take_batch<T: Tasks>(&mut self, tasks: &T) -> Result<(), End>
         requires ready { Ready self.old }
         requires asks { shown self.old.core.task (asked self.old.core.left) ≡ ask.Take }
         requires bare { self.old.held ≡ [] }
+        requires due { self.old.alone ≡ false }
         ensures acted { MatchResult result (λ _. Acted (T.behaviour tasks.now) self.old self.new)
             (λ e. EndsWith (T.behaviour tasks.now) self.old e.fault self.new) }
         ensures memory { IfErr result (λ e. e.fault ≡ Some cause.Memory) }
@@ -61,7 +62,10 @@ impl<R: Wait> Working<'_, R> {
                 self.source = Source::Batched(batch);
                 self.give(tasks, envelope)
             }
-            None => self.take_one(tasks),
+            None => {
+                self.source = Source::Alone;
+                Ok(())
+            }
         }
     }
 
@@ -75,7 +79,7 @@ impl<R: Wait> Working<'_, R> {
         if let Some(envelope) = self.source.next() {
             return self.give(tasks, envelope);
         }
-        if self.source.is_first() {
+        if self.source.is_alone() {
             self.take_one(tasks)
         } else {
             self.take_batch(tasks)
@@ -182,7 +186,9 @@ impl<R: Wait> Working<'_, R> {
         }
     }
 
-    /// Whether a message is in flight. A worker that has been patient sleeps before it is told so.
+    /// Whether a message is in flight. A worker whose last takes in a row found nothing, 8 or more,
+    /// sleeps inside this poll before it looks, for 100 microseconds at most: so idle workers leave
+    /// the processor to those that have work. No claim rests on it.
     fn has_more(&self) -> bool {
         if self.idle >= PATIENCE {
             self.flight.nap(self.rt);

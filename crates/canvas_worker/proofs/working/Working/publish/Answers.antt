@@ -1,7 +1,7 @@
 use Rattle.std.proofs.Common.{rules, ◌≡◌, None, refl, ap, ◌∙◌}
 use Rattle.canvas_history.specs.Queue as queue
 use Rattle.canvas_runs.specs.Core as C
-use Rattle.canvas_worker.specs.steps.Held.{held_in}
+use Rattle.canvas_worker.specs.steps.Held.{held_in, alone_in}
 use Rattle.canvas_worker.specs.Polls.{Work}
 use Rattle.canvas_core.proofs.Cores.Resting.{busy_never}
 use Rattle.canvas_runs.specs.Book.{book_on}
@@ -30,6 +30,7 @@ returns-in-Ok-clause-acted g c =
       seat = c.self.inside.seat;
       core = c.envelope.new.self;
       held = held_in c.self.inside.source;
+      alone = alone_in c.self.inside.source;
       taken = c.self.inside.taken;
       published =
           c.saturating_add-self-inside.result;
@@ -68,6 +69,7 @@ returns-in-Err-clause-acted g c =
       seat = c.self.inside.seat;
       core = c.envelope.new.self;
       held = held_in c.self.inside.source;
+      alone = alone_in c.self.inside.source;
       taken = c.self.inside.taken;
       published =
           c.self.inside.published;

@@ -1,7 +1,7 @@
 use Rattle.std.proofs.Common.{rules, ◌≡◌, refl}
 use Rattle.canvas_history.specs.Table as table
 use Rattle.canvas_runs.specs.Core as C
-use Rattle.canvas_worker.specs.steps.Held.{held_in}
+use Rattle.canvas_worker.specs.steps.Held.{held_in, alone_in}
 use Rattle.canvas_core.specs.CoreState.{asked}
 use Rattle.canvas_worker.specs.Polls.{Work}
 use Rattle.canvas_core.proofs.Cores.Resting.{busy_never}
@@ -12,7 +12,7 @@ use Rattle.canvas_worker.proofs.working.Working.return_part.Goals as goal
 pub returns-clause-acted : goal.returns-clause-acted
 returns-clause-acted g c =
     let w : Work = c.args.self.now in
-    let u : Work = record { broker = c.self.inside.queue.broker.now; desk = c.self.inside.backend.now; number = c.self.inside.number; pass = c.self.inside.pass; seat = c.part-count.new.seat; core = c.self.inside.core; held = held_in c.self.inside.source; taken = c.self.inside.taken; published = c.self.inside.published; first = c.self.inside.first; parts = c.saturating_add-self-inside.result } in
+    let u : Work = record { broker = c.self.inside.queue.broker.now; desk = c.self.inside.backend.now; number = c.self.inside.number; pass = c.self.inside.pass; seat = c.part-count.new.seat; core = c.self.inside.core; held = held_in c.self.inside.source; alone = alone_in c.self.inside.source; taken = c.self.inside.taken; published = c.self.inside.published; first = c.self.inside.first; parts = c.saturating_add-self-inside.result } in
     let asks : asked w.core.left ≡ C.to_table (table.part c.args.group c.args.task) =
     is_part w.core.task c.args.group c.args.task (asked w.core.left) c.requires.asks in
     asked_well (g.T.Tasks.behaviour c.args.tasks.now) w u c.reply.new.self (C.to_table (table.part c.args.group c.args.task))

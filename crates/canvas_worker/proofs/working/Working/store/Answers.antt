@@ -2,7 +2,7 @@ use Rattle.std.proofs.Common.{rules, ◌≡◌, refl, subst, ◌≤◌}
 use Rattle.canvas_history.specs.declared.stored.Stored.TheVariants.{First, Again}
 use Rattle.canvas_history.specs.Table as table
 use Rattle.canvas_runs.specs.Core as C
-use Rattle.canvas_worker.specs.steps.Held.{held_in}
+use Rattle.canvas_worker.specs.steps.Held.{held_in, alone_in}
 use Rattle.canvas_core.specs.CoreState.{asked}
 use Rattle.canvas_worker.specs.Polls.{Work}
 use Rattle.canvas_core.proofs.Cores.Resting.{busy_never}
@@ -32,6 +32,7 @@ returns-in-First-clause-acted g c =
       seat = c.store.new.seat;
       core = c.self.inside.core;
       held = held_in c.self.inside.source;
+      alone = alone_in c.self.inside.source;
       taken = c.self.inside.taken;
       published =
           c.self.inside.published;
@@ -68,6 +69,7 @@ returns-in-Again-clause-acted g c =
       seat = c.store.new.seat;
       core = c.self.inside.core;
       held = held_in c.self.inside.source;
+      alone = alone_in c.self.inside.source;
       taken = c.self.inside.taken;
       published =
           c.self.inside.published;

@@ -1,16 +1,18 @@
-use Rattle.std.proofs.Common.{rules, ◌≡◌, ap, ◌∙◌, ◌∷◌, ◌++◌, List}
+use Rattle.std.proofs.Common.{rules, ◌≡◌, sym, ap, ◌∙◌, subst, false, [], ◌∷◌, ◌++◌, List}
+use Rattle.std.proofs.lemmas.Bool.{false≢true}
 use Rattle.canvas_envelope.specs.declared.envelope.Envelope.{Envelope}
 use Rattle.canvas_history.specs.Passes.{Took}
 use Rattle.canvas_core.specs.CoreState.{asked}
 use Rattle.canvas_worker.specs.Polls.{Work}
 use Rattle.canvas_worker.proofs.Polls.GivenEnvelope.{given_well}
 use Rattle.canvas_core.proofs.Cores.ShownAsks.{is_take}
+use Rattle.canvas_worker.proofs.Turns.{found_none}
 use Rattle.canvas_worker.proofs.working.Working.take_batch.Goals as goal
 
 pub returns-in-Some-clause-acted : goal.returns-in-Some-clause-acted
 returns-in-Some-clause-acted g c =
     let w : Work = c.args.self.now in
-    let u : Work = record { broker = c.self.inside.queue.broker.now; desk = c.self.inside.backend.now; number = c.self.inside.number; pass = c.take_batch-batch.new.pass; seat = c.self.inside.seat; core = c.self.inside.core; held = c.next.new.self; taken = c.self.inside.taken; published = c.self.inside.published; first = c.self.inside.first; parts = c.self.inside.parts } in
+    let u : Work = record { broker = c.self.inside.queue.broker.now; desk = c.self.inside.backend.now; number = c.self.inside.number; pass = c.take_batch-batch.new.pass; seat = c.self.inside.seat; core = c.self.inside.core; held = c.next.new.self; alone = false; taken = c.self.inside.taken; published = c.self.inside.published; first = c.self.inside.first; parts = c.self.inside.parts } in
     let e : Envelope = c.in-Some.envelope in
     let es : List Envelope = c.take_batch-batch.result in
     let took : Took w.pass es u.pass = search rules in
@@ -25,8 +27,18 @@ returns-in-Some-clause-acted g c =
       core = search rules;
       took = took;
       held = ap (λ h. h ++ es) c.requires.bare ∙ rest;
+      alone = λ alone. absurd (false≢true (sym c.requires.due ∙ alone));
       taken = search rules;
       published = search rules;
       first = search rules;
       parts = search rules;
     })
+
+pub returns-in-None-clause-acted : goal.returns-in-None-clause-acted
+returns-in-None-clause-acted g c =
+    let w : Work = c.args.self.now in
+    let none : c.take_batch-batch.result ≡ [] = search rules in
+    let took : Took w.pass c.take_batch-batch.result c.take_batch-batch.new.pass = search rules in
+    let same : c.take_batch-batch.new.pass ≡ w.pass = subst (λ es. Took w.pass es c.take_batch-batch.new.pass) none took in
+    found_none (g.T.Tasks.behaviour c.args.tasks.now) w _ c.requires.ready
+    (is_take w.core.task (asked w.core.left) c.requires.asks, c.requires.bare, c.requires.due, search (rules, same))

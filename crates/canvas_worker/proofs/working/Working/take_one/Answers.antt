@@ -1,10 +1,10 @@
-use Rattle.std.proofs.Common.{rules, ◌≡◌, refl, sym, ap, ◌∙◌, Some, None, [], ◌∷◌, ◌++◌}
+use Rattle.std.proofs.Common.{rules, ◌≡◌, refl, sym, ap, ◌∙◌, Some, None, false, [], ◌∷◌, ◌++◌}
 use Rattle.canvas_history.specs.History.{calls}
 use Rattle.canvas_envelope.specs.declared.envelope.Envelope.{Envelope}
 use Rattle.canvas_history.specs.Queue as queue
 use Rattle.canvas_history.specs.Passes.{Stands, Empties}
 use Rattle.canvas_runs.specs.Core as C
-use Rattle.canvas_worker.specs.steps.Held.{held_in}
+use Rattle.canvas_worker.specs.steps.Held.{held_in, alone_in}
 use Rattle.canvas_core.specs.CoreState.{asked}
 use Rattle.canvas_worker.specs.Polls.{Work}
 use Rattle.canvas_worker.proofs.Polls.GivenEnvelope.{given_well}
@@ -15,7 +15,7 @@ use Rattle.canvas_worker.proofs.working.Working.take_one.Goals as goal
 pub returns-in-Some-clause-acted : goal.returns-in-Some-clause-acted
 returns-in-Some-clause-acted g c =
     let w : Work = c.args.self.now in
-    let u : Work = record { broker = c.self.inside.queue.broker.now; desk = c.self.inside.backend.now; number = c.self.inside.number; pass = c.take.new.pass; seat = c.self.inside.seat; core = c.self.inside.core; held = []; taken = c.self.inside.taken; published = c.self.inside.published; first = c.self.inside.first; parts = c.self.inside.parts } in
+    let u : Work = record { broker = c.self.inside.queue.broker.now; desk = c.self.inside.backend.now; number = c.self.inside.number; pass = c.take.new.pass; seat = c.self.inside.seat; core = c.self.inside.core; held = []; alone = false; taken = c.self.inside.taken; published = c.self.inside.published; first = c.self.inside.first; parts = c.self.inside.parts } in
     let e : Envelope = c.in-Some.envelope in
     let stands : Stands w.pass (calls w.pass.name queue.take (Some e)) u.pass = search rules in
     given_well (g.T.Tasks.behaviour c.args.tasks.now) w u c.give.new.self (e ∷ []) e c.give.result c.give.ensures c.requires.ready (record {
@@ -28,6 +28,7 @@ returns-in-Some-clause-acted g c =
       core = search rules;
       took = stands;
       held = ap (λ h. h ++ e ∷ []) c.requires.bare;
+      alone = λ _. sym c.requires.bare;
       taken = search rules;
       published = search rules;
       first = search rules;
@@ -37,7 +38,7 @@ returns-in-Some-clause-acted g c =
 pub returns-in-None-clause-acted : goal.returns-in-None-clause-acted
 returns-in-None-clause-acted g c =
     let w : Work = c.args.self.now in
-    let u : Work = record { broker = c.self.inside.queue.broker.now; desk = c.self.inside.backend.now; number = c.self.inside.number; pass = c.take.new.pass; seat = c.self.inside.seat; core = c.self.inside.core; held = held_in c.after_none.result; taken = c.self.inside.taken; published = c.self.inside.published; first = c.self.inside.first; parts = c.self.inside.parts } in
+    let u : Work = record { broker = c.self.inside.queue.broker.now; desk = c.self.inside.backend.now; number = c.self.inside.number; pass = c.take.new.pass; seat = c.self.inside.seat; core = c.self.inside.core; held = held_in c.after_none.result; alone = alone_in c.after_none.result; taken = c.self.inside.taken; published = c.self.inside.published; first = c.self.inside.first; parts = c.self.inside.parts } in
     let asks : asked w.core.left ≡ C.to_queue queue.take = is_take w.core.task (asked w.core.left) c.requires.asks in
     let bare : u.held ≡ [] = search rules in
     let empty : Empties u.pass = search rules in
