@@ -3,6 +3,8 @@ pub mod FoundMembers
 pub mod CoreLaw
 pub mod Stores
 pub mod ScriptsMade
+pub mod Sound
+pub mod Located
 pub mod CorePasts
 pub mod EndLaw
 pub mod ShownAsks

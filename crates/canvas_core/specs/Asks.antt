@@ -1,12 +1,13 @@
 -- What contracts see of an ask and of a reply.
-use Rattle.std.specs.Prelude.{ℕ, Bool, true, false, Option, Some, None}
+use Rattle.std.specs.Prelude.{◌≡◌, Bool, true, false, Option, Some, None}
 use Rattle.canvas_task.specs.Apply.{IsInRange}
 use Rattle.canvas_envelope.specs.declared.envelope.Envelope.{Envelope}
 use Rattle.canvas_history.specs.Table as table
 use Rattle.canvas_history.specs.Queue as queue
+use Rattle.canvas_runs.specs.Book.{Book}
 use Rattle.canvas_runs.specs.Core as C
 use Rattle.canvas_core.specs.declared.ask.Ask.{Ask}
-use Rattle.canvas_core.specs.declared.ask.Ask.TheVariants.{Take, Publish, Store, Part, Read, Ack, Rest, End}
+use Rattle.canvas_core.specs.declared.ask.Ask.TheVariants.{Take, Publish, Store, Part, Read, Ack, Rest}
 use Rattle.canvas_core.specs.declared.ask.Reply.{Reply}
 use Rattle.canvas_core.specs.declared.ask.Reply.TheVariants as R
 
@@ -23,24 +24,10 @@ suits Publish R.Published = true
 suits Publish (R.NotPublished e) = true
 suits (Store t o) (R.Stored s) = true
 suits (Part g t) (R.Counted n) = true
-suits (Read t) (R.Found x) = true
+suits (Read g i) (R.Found t x) = true
 suits (Ack x) R.Acked = true
 suits Rest (R.Rested more) = true
 suits a r = false
-
--- an ask of the machine, without the envelope that it publishes, and with the task of the envelope
--- that it acknowledges
-abbrev pub shown : Option ℕ → Asked → Ask
-shown x (C.to_queue queue.take) = Take
-shown x (C.to_queue (queue.publish e)) = Publish
-shown x (C.to_table (table.store t o)) = Store t o
-shown x (C.to_table (table.part g t)) = Part g t
-shown x (C.to_table (table.read t)) = Read t
-shown x C.rest = Rest
-shown x C.end = End
-shown x C.ack = Ack x
--- no core asks it
-shown x (C.to_queue (queue.redeliver e)) = End
 
 abbrev pub to_send : Asked → Option Envelope
 to_send (C.to_queue (queue.publish e)) = Some e
@@ -53,7 +40,7 @@ replied R.Published = C.from_queue None
 replied (R.NotPublished e) = C.refused
 replied (R.Stored s) = C.from_table (table.was s)
 replied (R.Counted n) = C.from_table (table.count n)
-replied (R.Found x) = C.from_table (table.found x)
+replied (R.Found t x) = C.from_table (table.found x)
 replied (R.Rested more) = C.rested more
 replied R.Acked = C.acked
 
@@ -64,11 +51,16 @@ StoresInRange a = Unit {0}
 
 -- an outcome that was found is one that a backend keeps
 abbrev pub FoundInRange : Reply → Type 0
-FoundInRange (R.Found (Some o)) = IsInRange o
+FoundInRange (R.Found t (Some o)) = IsInRange o
 FoundInRange r = Unit {0}
+
+-- what is found is found of the task that the book has at the place that was asked
+abbrev pub FoundOf : Book → Reply → Ask → Type 0
+FoundOf book (R.Found t x) (Read g i) = book.member g i ≡ Some t
+FoundOf book r a = Unit {0}
 
 -- a reply for whose answer a core may have to grow: an envelope, or a member's outcome
 abbrev pub Grows : Reply → Type 0
 Grows (R.Taken (Some e)) = Unit {0}
-Grows (R.Found (Some o)) = Unit {0}
+Grows (R.Found t (Some o)) = Unit {0}
 Grows r = ⊥

@@ -5,17 +5,17 @@ use Rattle.canvas_envelope.specs.declared.envelope.Envelope.{Envelope}
 use Rattle.canvas_runs.specs.Book.{Book}
 use Rattle.canvas_history.specs.Queue.{publish}
 use Rattle.canvas_runs.specs.Core.{failed, end, rest, to_queue, rested, refused}
-use Rattle.canvas_core.specs.Asks.{Asked, Answer, suits, shown}
+use Rattle.canvas_core.specs.Asks.{Asked, Answer, suits}
 use Rattle.canvas_core.specs.Books.{HasMembers, IsFromOne}
 use Rattle.canvas_core.specs.CorePast.{Leads}
-use Rattle.canvas_core.specs.CoreState.{Standing, asked, failing, held_out, handed}
+use Rattle.canvas_core.specs.CoreState.{Standing, asked, next, failing, held_out, handed}
 use Rattle.canvas_core.specs.declared.ask.Reply.{Reply}
 
 -- From its end nothing leads on: no reply suits it, and no envelope is handed out.
 abbrev pub EndStays : Type 0
 EndStays =
     (s : Standing) → asked s.left ≡ end
-    → ((r : Reply) → suits (shown s.task (asked s.left)) r ≡ false) × (held_out s ≡ None)
+    → ((r : Reply) → suits (next s) r ≡ false) × (held_out s ≡ None)
     × (asked (handed s).left ≡ end)
 
 -- a core that was refused memory is at its end

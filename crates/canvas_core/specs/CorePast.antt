@@ -7,10 +7,11 @@ use Rattle.canvas_runs.specs.Calls.{held_after}
 use Rattle.canvas_envelope.specs.declared.envelope.Envelope.{Envelope}
 use Rattle.canvas_runs.specs.Core.{taking, answered, left_after, ReadsBack, IsCoreRun, is_inside}
 use Rattle.canvas_runs.specs.Worker.{opened}
-use Rattle.canvas_core.specs.Asks.{Asked, Answer, suits, shown, to_send, replied}
+use Rattle.canvas_core.specs.Asks.{Asked, Answer, suits, to_send, replied, FoundOf}
+use Rattle.canvas_core.specs.Books.{HasMembers, IsFromOne}
 use Rattle.canvas_core.specs.EnvelopeWorker.{enveloped_by}
 use Rattle.canvas_runs.specs.Tally.{greatest_count}
-use Rattle.canvas_core.specs.CoreState.{Left, Standing, held, asked, drops, unsent, begun, after_reply, held_out, handed, task_of}
+use Rattle.canvas_core.specs.CoreState.{Left, Standing, placed, held, asked, next, drops, unsent, begun, after_reply, held_out, handed, task_of}
 use Rattle.canvas_core.specs.declared.ask.Reply.{Reply}
 
 -- what is left to do after asks and answers
@@ -28,12 +29,13 @@ abbrev pub task_in : Book → Option Envelope → Option ℕ
 task_in book None = None
 task_in book (Some e) = task_of (opened book e)
 
--- an envelope that was handed out isn't there any more
+-- An envelope that was handed out isn't there any more, and what is left names no member's task.
 pub record Leads (behaviour : Behaviour) (book : Book) (xs : List (Asked × Answer)) (s : Standing) :
     Type 0 where
   pub run : IsCoreRun (enveloped_by behaviour book) taking xs
   pub left : s.left
-      ≡ (if s.is_out then unsent (left_by behaviour book xs) else left_by behaviour book xs)
+      ≡ (if s.is_out then unsent (placed (left_by behaviour book xs))
+      else placed (left_by behaviour book xs))
   pub dropped : s.dropped ≡ min greatest_count (drops_from behaviour book taking xs)
   -- it holds the envelope of the open script, from its take until its acknowledgement is answered
   pub holds : held s ≡ held_after None xs
@@ -44,15 +46,16 @@ pub record Leads (behaviour : Behaviour) (book : Book) (xs : List (Asked × Answ
 abbrev pub NoneLead : Type 0
 NoneLead = (behaviour : Behaviour) (book : Book) → Leads behaviour book [] begun
 
--- With its next ask and the answer to that, they lead to the core that was answered.
+-- With its next ask and the answer to that, they lead to the core that was answered, where its
+-- book has all members: what was found is of the member that was asked for.
 abbrev pub OneMoreLeads : Type 0
 OneMoreLeads =
-    (behaviour : Behaviour) (book : Book) (xs : List (Asked × Answer)) (s : Standing) (r : Reply)
-    → Leads behaviour book xs s
+    (behaviour : Behaviour) (book : Book) → HasMembers book → IsFromOne book
+    → (xs : List (Asked × Answer)) (s : Standing) (r : Reply) → Leads behaviour book xs s
     → ReadsBack (enveloped_by behaviour book) (left_by behaviour book xs)
-    → suits (shown s.task (asked s.left)) r ≡ true
+    → suits (next s) r ≡ true → FoundOf book r (next s)
     → Leads behaviour book (xs ++ (asked (left_by behaviour book xs), replied r) ∷ [])
-    (after_reply behaviour book s (replied r))
+    (after_reply behaviour book s r)
 
 -- They lead to a core also once its envelope was handed out: the one that its next ask publishes.
 abbrev pub HandedLeads : Type 0

@@ -1,22 +1,27 @@
 -- What contracts see of a core.
 use Rattle.std.specs.Option.{option_map}
-use Rattle.std.specs.Prelude.{ℕ, ◌+◌, ◌∷◌, min, is_some, if◌then◌else◌, Bool, false, Option, Some, None}
+use Rattle.std.specs.Prelude.{ℕ, ◌+◌, [], ◌∷◌, length, min, is_some, unwrap_or, if◌then◌else◌, Bool, false, Option, Some, None}
 use Rattle.canvas_task.specs.Apply.{Behaviour}
+use Rattle.canvas_task.specs.declared.outcome.Outcome.{Outcome}
 use Rattle.canvas_rewrite.specs.FrozenView.{PCarried}
 use Rattle.canvas_envelope.specs.Content.{Content, number_of}
-use Rattle.canvas_effects.specs.Job.{publish}
+use Rattle.canvas_effects.specs.Job.{Job, store, publish, part}
 use Rattle.canvas_envelope.specs.declared.envelope.Envelope.{Envelope}
 use Rattle.canvas_history.specs.Roster.{Roster}
 use Rattle.canvas_runs.specs.Book.{Book}
 use Rattle.canvas_runs.specs.Following.{Working, Followed}
 use Rattle.canvas_runs.specs.Tally.{greatest_count}
-use Rattle.canvas_runs.specs.Core.{CoreState, taking, failed, owning, doing, acking, from_queue, ask, answered}
+use Rattle.canvas_runs.specs.Core.{CoreState, taking, resting, over, failed, owning, doing, reading, acking, from_queue, ask, answered}
 use Rattle.canvas_runs.specs.Worker.{opened}
 use Rattle.canvas_runs.specs.declared.when.When.{When}
 use Rattle.canvas_runs.specs.declared.when.When.TheVariants.{Early, Late}
-use Rattle.canvas_core.specs.Asks.{Asked, Answer, to_send}
+use Rattle.canvas_core.specs.Asks.{Asked, Answer, to_send, replied}
 use Rattle.canvas_core.specs.Books.{no_book}
-use Rattle.canvas_core.specs.EnvelopeWorker.{Applied, unapplied, no_tasks, enveloped, enveloped_by, blank}
+use Rattle.canvas_core.specs.EnvelopeWorker.{Applied, unapplied, no_tasks, enveloped, enveloped_by, by_place, said, blank}
+use Rattle.canvas_core.specs.declared.ask.Ask.{Ask}
+use Rattle.canvas_core.specs.declared.ask.Ask.TheVariants.{Take, Publish, Store, Part, Read, Ack, Rest, End}
+use Rattle.canvas_core.specs.declared.ask.Reply.{Reply}
+use Rattle.canvas_core.specs.declared.ask.Reply.TheVariants as R
 
 abbrev pub Left : Type 0
 Left = CoreState Applied PCarried
@@ -28,6 +33,15 @@ Progress = Working Applied PCarried
 
 abbrev pub HasFollowed : Behaviour → Roster → Progress → Progress → Type 0
 HasFollowed behaviour plan w v = Followed (enveloped behaviour plan) plan w v
+
+-- What is left to do, where the task that is read is the one that a book has at the member's place.
+abbrev pub located : Book → Left → Left
+located book (reading g c t fs) = reading g c (unwrap_or (book.member g (length fs)) 0) fs
+located book s = s
+
+-- the same as a core has it, which knows the places alone
+abbrev pub placed : Left → Left
+placed = located no_book
 
 -- what is left to do, whether the envelope that is to be published was handed out, how many
 -- envelopes were dropped, the envelope of the open script once its message's outcome is stored, and
@@ -42,6 +56,27 @@ pub record Standing : Type 0 where
 -- an ask is the same whatever the tasks and the book
 abbrev pub asked : Left → Asked
 asked = ask (enveloped_by no_tasks no_book)
+
+abbrev pub next_job : Job Applied PCarried Outcome → Ask
+next_job (store t o) = Store t o
+next_job (publish m) = Publish
+next_job (part g t c) = Part g t
+
+-- what a core asks for that has this left to do: it names no envelope that it publishes, of a
+-- member that it reads the place, and of the envelope that it acknowledges the task
+abbrev pub next_in : Left → Option ℕ → Ask
+next_in taking x = Take
+next_in resting x = Rest
+next_in over x = End
+next_in failed x = End
+next_in (owning m) x = Store (number_of (said m.envelope).own) m.outcome
+next_in (doing [] b) x = End
+next_in (doing (j ∷ js) b) x = next_job j
+next_in (reading g c t fs) x = Read g (length fs)
+next_in acking x = Ack x
+
+abbrev pub next : Standing → Ask
+next s = next_in s.left s.task
 
 abbrev pub unread : Option Content → ℕ
 unread None = 1
@@ -95,14 +130,22 @@ point_in s x = None
 abbrev pub point_at : Standing → Option (ℕ × When)
 point_at s = point_in s.left s.task
 
-abbrev pub after_reply : Behaviour → Book → Standing → Answer → Standing
+-- the member that was read is of this task
+abbrev pub taught : Left → Reply → Left
+taught (reading g c t fs) (R.Found u x) = reading g c u fs
+taught s r = s
+
+abbrev pub left_told : Behaviour → Book → Left → Reply → Left
+left_told behaviour book s r = answered (by_place behaviour book) (taught s r) (replied r)
+
+abbrev pub after_reply : Behaviour → Book → Standing → Reply → Standing
 after_reply behaviour book s r =
     record {
-      left = answered (enveloped_by behaviour book) s.left r;
+      left = left_told behaviour book s.left r;
       is_out = false;
-      dropped = min greatest_count (s.dropped + drops book s.left r);
-      kept = kept_next book s.left s.kept r;
-      task = task_next book s.left s.task r;
+      dropped = min greatest_count (s.dropped + drops book s.left (replied r));
+      kept = kept_next book s.left s.kept (replied r);
+      task = task_next book s.left s.task (replied r);
     }
 
 -- where memory was refused

@@ -1,7 +1,7 @@
 -- The worker of a plan where each message is kept as its envelope, as a core keeps it (Celery task
 -- message protocol, version 2). `law_of_cores` leads from here to the worker whose messages are
 -- what the envelopes say.
-use Rattle.std.specs.Prelude.{◌≡◌, Bool, ◌&&◌, if◌then◌else◌, [], map, Option, Some, None, is_none, Ok}
+use Rattle.std.specs.Prelude.{◌≡◌, ℕ, Bool, ◌&&◌, if◌then◌else◌, [], map, Option, Some, None, is_none, Ok}
 use Rattle.canvas_task.specs.Apply.{Behaviour}
 use Rattle.canvas_task.specs.declared.outcome.Kind.TheVariants.{NotRegistered}
 use Rattle.canvas_task.specs.declared.outcome.Fault.TheVariants.{Plain}
@@ -61,9 +61,9 @@ module _ (behaviour : Behaviour) where
   applied_if None e = None
   applied_if (Some c) e = Some (record { envelope = e; outcome = outcome_of behaviour (said e) })
 
-  -- of what a book knows
-  abbrev pub enveloped_by : Book → Protocol Envelope
-  enveloped_by book = record {
+  -- of what a book knows, where these are the tasks of a header's members
+  abbrev pub enveloped_with : Book → (ℕ → ℕ → Option ℕ) → Protocol Envelope
+  enveloped_with book member = record {
     Message = Applied;
     Carried = PCarried;
     no = λ m. number_of (said m.envelope).own;
@@ -71,11 +71,19 @@ module _ (behaviour : Behaviour) where
     ended = λ m o. map enclosed (script (after (said m.envelope) o));
     completed = λ c es. map enclosed (script (body_after c es));
     size = λ c. c.size;
-    member = book.member;
+    member = member;
     sealed = λ m. m.envelope;
     Back = λ m. read_envelope m.envelope ≡ Ok (said m.envelope);
     opened = λ e. applied_if (opened book e) e;
   }
+
+  abbrev pub enveloped_by : Book → Protocol Envelope
+  enveloped_by book = enveloped_with book book.member
+
+  -- As a core goes by a book, which knows a header's members by their places alone: each has 0 for
+  -- its task.
+  abbrev pub by_place : Book → Protocol Envelope
+  by_place book = enveloped_with book (λ g i. Some 0)
 
   abbrev pub enveloped : Roster → Protocol Envelope
   enveloped plan = enveloped_by (book_on plan)

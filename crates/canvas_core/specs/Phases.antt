@@ -21,7 +21,7 @@ left_of (Publishing p) =
     doing (publish (unapplied (unwrap_or p.envelope blank)) ∷ jobs_of p.script) p.script.latest
 left_of (Returning p) = doing (part p.group p.task (carried_view p.chord) ∷ []) First
 left_of Acking = acking
-left_of (Reading r) = reading r.group r.chord r.task r.found.items
+left_of (Reading r) = reading r.group r.chord 0 r.found.items
 
 abbrev pub is_out : Phase → Bool
 is_out (Publishing p) = not (is_some p.envelope)

@@ -18,8 +18,8 @@ pub enum Ask {
     Store(TaskNo, Outcome),
     /// To return the part of a chord by the last task of a member.
     Part(GroupNo, TaskNo),
-    /// To read the outcome of a task: the last of a header's member.
-    Read(TaskNo),
+    /// To read the outcome of a header's member: the chord, and the member's place, from 0.
+    Read(GroupNo, u32),
     /// To acknowledge the envelope of this task, whose script is done; None where it was dropped.
     Ack(Option<TaskNo>),
     /// To wait, since the queue is empty.
@@ -41,8 +41,8 @@ pub enum Reply {
     Stored(Stored),
     /// To a part: how many were returned before.
     Counted(u64),
-    /// To a read: the task's outcome.
-    Found(Option<Outcome>),
+    /// To a read: the member's last task, and its outcome.
+    Found(TaskNo, Option<Outcome>),
     /// To an acknowledgement.
     Acked,
     /// To a rest: whether more may come. Where not, the core has ended.

@@ -23,10 +23,6 @@ pub trait Book {
     fn is_member(&self, group: GroupNo, task: TaskNo) -> bool
         ensures { result ≡ (book self.now).is_member group task };
 
-    /// The last task of a member of the group or chord, counted from 0.
-    fn member(&self, group: GroupNo, place: u32) -> Option<TaskNo>
-        ensures { result ≡ (book self.now).member group place };
-
     ghost from_one: { (b : Self) (g : ℕ) → (book b).is_member g 0 ≡ false };
 
     ghost has_members: { (b : Self) → HasMembers (book b) };

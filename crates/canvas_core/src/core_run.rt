@@ -3,14 +3,16 @@
 ghost use Rattle.std.specs.Prelude.{◌≡◌, ◌≢◌, ◌≤◌, ◌+◌, min, true, false, Some, None, Ok, OnOk, OnErr, IfOk, IfSome};
 ghost use Rattle.std.specs.Option.{option_map};
 ghost use Rattle.canvas_task.specs.Apply.{Behaviour};
-ghost use Rattle.canvas_core.specs.Asks.{suits, shown, replied, StoresInRange, FoundInRange, Grows};
+ghost use Rattle.canvas_core.specs.Asks.{suits, StoresInRange, FoundInRange, FoundOf, Grows};
 ghost use Rattle.canvas_core.specs.Books.{no_book};
 ghost use Rattle.canvas_history.specs.Queue.{take};
-ghost use Rattle.canvas_runs.specs.Core.{ReadsBack, taking, acking, to_queue, from_queue, is_inside};
+ghost use Rattle.canvas_runs.specs.Book.{Book as Known};
+ghost use Rattle.canvas_runs.specs.Core.{ReadsBack, taking, acking, to_queue, is_inside};
 ghost use Rattle.canvas_core.specs.Phases.{left_of, is_out};
 ghost use Rattle.canvas_core.specs.declared.ask.Ask.TheVariants as ask;
+ghost use Rattle.canvas_core.specs.declared.ask.Reply.TheVariants.{Taken};
 ghost use Rattle.canvas_runs.specs.Tally.{greatest_count};
-ghost use Rattle.canvas_core.specs.CoreState.{asked, begun, after_reply, failing, held, held_out, handed, point_at, waiting};
+ghost use Rattle.canvas_core.specs.CoreState.{asked, next, begun, after_reply, failing, held, held_out, handed, point_at, waiting};
 ghost use Rattle.canvas_core.specs.EnvelopeWorker.{enveloped_by, said, no_tasks};
 ghost use Rattle.canvas_runs.specs.Worker.{opened, read_envelope};
 
@@ -30,6 +32,7 @@ use std::mem;
 /// All that a message or a completed header needs is built before its first store or publish.
 #[derive(Drop)]
 pub struct Core {
+    alloc: Global,
     phase: Phase,
     dropped: u64,
     // The envelope of the open script once its message's outcome is stored, and the task of that
@@ -86,10 +89,11 @@ fn open<B: Book>(
 
 impl Core {
     /// A core that has nothing to do yet.
-    pub fn new(_alloc: Global) -> Core
+    pub fn new(alloc: Global) -> Core
         ensures { result ≡ begun }
     {
         Core {
+            alloc,
             phase: Phase::Taking,
             dropped: 0,
             kept: None,
@@ -99,7 +103,7 @@ impl Core {
 
     /// What the core asks for.
     pub fn next(&self) -> Ask
-        ensures ask { result ≡ shown self.now.task (asked self.now.left) }
+        ensures ask { result ≡ next self.now }
         ensures in_range { StoresInRange (asked self.now.left) }
         ensures reads_back { self.now.is_out ≡ false
             → ReadsBack (enveloped_by no_tasks no_book) self.now.left }
@@ -113,7 +117,7 @@ impl Core {
             Phase::Storing(storing) => Ask::Store(storing.task, storing.outcome),
             Phase::Publishing(_) => Ask::Publish,
             Phase::Returning(part) => Ask::Part(part.group, part.task),
-            Phase::Reading(reading) => Ask::Read(reading.task),
+            Phase::Reading(reading) => Ask::Read(reading.group, reading.place()),
             Phase::Acking => Ask::Ack(self.task),
         }
     }
@@ -174,25 +178,26 @@ impl Core {
     }
 
     /// Answers what the core asks for. Where memory was refused the core has failed; only an
-    /// envelope and a member's outcome may need any.
+    /// envelope and a member's outcome may need any. The core can't look a member up: who answers a
+    /// read names the last task of the member that was asked for.
     pub fn answer<B: Book, T: Tasks>(
         &mut self,
-        alloc: Global,
         book: &B,
         tasks: &T,
         reply: Reply,
     ) -> Result<(), Memory>
-        requires suits { suits (shown self.old.task (asked self.old.left)) reply ≡ true }
+        requires suits { suits (next self.old) reply ≡ true }
+        requires found { FoundOf (B.book book.now) reply (next self.old) }
         requires in_range { FoundInRange reply }
         ensures ok { OnOk result (self.new
-            ≡ after_reply (T.behaviour tasks.now) (B.book book.now) self.old (replied reply)) }
+            ≡ after_reply (T.behaviour tasks.now) (B.book book.now) self.old reply) }
         ensures err { OnErr result (self.new ≡ failing self.old) }
         ensures memory { OnErr result (Grows reply) }
     {
         match self.phase {
             Phase::Taking => {
                 self.set(Phase::Failed);
-                self.take_in(alloc, book, tasks, reply)
+                self.take_in(book, tasks, reply)
             }
             // nothing is moved here, and it comes once a message
             Phase::Acking => {
@@ -200,18 +205,18 @@ impl Core {
                 self.set(acknowledged(&reply));
                 Ok(())
             }
-            _ => self.go_on(alloc, book, &reply),
+            _ => self.go_on(&reply),
         }
     }
 
     /// The answer to what is neither a take nor an acknowledgement, for which no task is called.
-    fn go_on<B: Book>(&mut self, alloc: Global, book: &B, reply: &Reply) -> Result<(), Memory>
+    fn go_on(&mut self, reply: &Reply) -> Result<(), Memory>
         requires asks { asked self.old.left ≢ to_queue take }
         requires holds { self.old.left ≢ acking }
-        requires suits { suits (shown self.old.task (asked self.old.left)) reply.now ≡ true }
+        requires suits { suits (next self.old) reply.now ≡ true }
         requires in_range { FoundInRange reply.now }
-        ensures ok { OnOk result ((behaviour : Behaviour)
-            → self.new ≡ after_reply behaviour (B.book book.now) self.old (replied reply.now)) }
+        ensures ok { OnOk result ((behaviour : Behaviour) (book : Known)
+            → self.new ≡ after_reply behaviour book self.old reply.now) }
         ensures err { OnErr result (self.new ≡ failing self.old) }
         ensures memory { OnErr result (Grows reply.now) }
     {
@@ -223,9 +228,9 @@ impl Core {
             Phase::Owning(owned) => self.keep(owned.answered(reply)),
             Phase::Storing(storing) => self.set(storing.answered(reply)),
             Phase::Publishing(publishing) => self.set(publishing.answered(reply)),
-            Phase::Returning(part) => self.set(returned(alloc, book, part, reply)),
+            Phase::Returning(part) => self.set(returned(self.alloc, part, reply)),
             Phase::Reading(reading) => {
-                let phase = reading.answered(alloc, book, reply)?;
+                let phase = reading.answered(self.alloc, reply)?;
                 self.set(phase);
             }
         }
@@ -270,7 +275,6 @@ impl Core {
     /// where memory is refused.
     fn take_in<B: Book, T: Tasks>(
         &mut self,
-        alloc: Global,
         book: &B,
         tasks: &T,
         reply: Reply,
@@ -278,12 +282,12 @@ impl Core {
         requires { suits ask.Take reply ≡ true }
         ensures ok { OnOk result (self.new
             ≡ after_reply (T.behaviour tasks.now) (B.book book.now)
-            (waiting self.old.dropped self.old.kept self.old.task) (replied reply)) }
+            (waiting self.old.dropped self.old.kept self.old.task) reply) }
         ensures err { OnErr result (self.new ≡ self.old) }
         ensures memory { OnErr result (Grows reply) }
     {
         match reply {
-            Reply::Taken(Some(envelope)) => self.take_up(alloc, book, tasks, envelope),
+            Reply::Taken(Some(envelope)) => self.take_up(book, tasks, envelope),
             Reply::Taken(None) => {
                 self.set(Phase::Resting);
                 Ok(())
@@ -294,16 +298,16 @@ impl Core {
 
     fn take_up<B: Book, T: Tasks>(
         &mut self,
-        alloc: Global,
         book: &B,
         tasks: &T,
         mut letter: Letter,
     ) -> Result<(), Memory>
         ensures ok { OnOk result (self.new
             ≡ after_reply (T.behaviour tasks.now) (B.book book.now)
-            (waiting self.old.dropped self.old.kept self.old.task) (from_queue (Some letter))) }
+            (waiting self.old.dropped self.old.kept self.old.task) (Taken (Some letter))) }
         ensures err { OnErr result (self.new ≡ self.old) }
     {
+        let alloc = self.alloc;
         match open(alloc, book, &mut letter)? {
             Some(message) => {
                 let task = message.task;

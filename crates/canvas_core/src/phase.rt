@@ -14,16 +14,17 @@ ghost use Rattle.canvas_core.specs.Asks.{replied, suits, FoundInRange, Grows};
 ghost use Rattle.canvas_core.specs.Books.{no_book};
 ghost use Rattle.canvas_core.specs.declared.ask.Ask.TheVariants as ask;
 ghost use Rattle.canvas_runs.specs.Core.{is_due, settled, reads_next, part_counted, all_read, answered, owning, doing, resting, acking, reading as state_reading};
+ghost use Rattle.canvas_core.specs.CoreState.{taught};
 ghost use Rattle.canvas_core.specs.Phases.{IsAt};
 ghost use Rattle.canvas_core.specs.Scripts.{jobs_of};
-ghost use Rattle.canvas_core.specs.EnvelopeWorker.{enveloped_by, no_tasks, said, enclosed, unapplied, blank};
+ghost use Rattle.canvas_core.specs.EnvelopeWorker.{by_place, no_tasks, said, enclosed, unapplied, blank};
 
+use crate::Reply;
 use crate::due::latest;
 use crate::script::Script;
 use crate::sealed::Sealed;
 use crate::sealing::script_of;
 use crate::stages::{Owned, Publishing, Reading, Storing};
-use crate::{Book, Reply};
 use canvas_backend::Stored;
 use canvas_effects::{ChordBody, PartCall, into_body, into_todo};
 use canvas_envelope::{Letter, Message};
@@ -45,7 +46,7 @@ pub(crate) enum Phase {
 }
 
 fn part_or_ack(part: Option<PartCall>, latest: Stored) -> Phase
-    ensures { IsAt result (settled (enveloped_by no_tasks no_book)
+    ensures { IsAt result (settled (by_place no_tasks no_book)
         (map enclosed (part_jobs (option_map part_view part))) latest) }
 {
     match part {
@@ -60,7 +61,7 @@ fn part_or_ack(part: Option<PartCall>, latest: Stored) -> Phase
 /// What is next in a script.
 #[inline(always)]
 fn settle(script: Script) -> Phase
-    ensures { IsAt result (settled (enveloped_by no_tasks no_book) (jobs_of script) script.latest) }
+    ensures { IsAt result (settled (by_place no_tasks no_book) (jobs_of script) script.latest) }
 {
     let Script {
         mut stores,
@@ -97,7 +98,7 @@ fn settle(script: Script) -> Phase
 
 /// The same, where a store is answered.
 fn settle_after(script: Script, task: TaskNo, stored: Stored) -> Phase
-    ensures { IsAt result (settled (enveloped_by no_tasks no_book) (jobs_of script)
+    ensures { IsAt result (settled (by_place no_tasks no_book) (jobs_of script)
         (cond (is_due task (jobs_of script)) stored script.latest)) }
 {
     let latest = latest(&script, task, stored);
@@ -157,7 +158,7 @@ impl Owned {
 
     /// The envelope is given back, which is kept until it is acknowledged.
     pub(crate) fn answered(self, reply: &Reply) -> (Phase, Letter)
-        ensures phase { IsAt result.0 (answered (enveloped_by no_tasks no_book)
+        ensures phase { IsAt result.0 (answered (by_place no_tasks no_book)
             (owning (record { envelope = self.envelope; outcome = self.outcome }))
             (replied reply.now)) }
         ensures envelope { result.1 ≡ self.envelope }
@@ -179,7 +180,7 @@ impl Owned {
 
 impl Storing {
     pub(crate) fn answered(self, reply: &Reply) -> Phase
-        ensures { IsAt result (answered (enveloped_by no_tasks no_book)
+        ensures { IsAt result (answered (by_place no_tasks no_book)
             (doing (store self.task self.outcome ∷ jobs_of self.script) self.script.latest)
             (replied reply.now)) }
     {
@@ -193,7 +194,7 @@ impl Storing {
 impl Publishing {
     pub(crate) fn answered(self, reply: &Reply) -> Phase
         requires { suits ask.Publish reply.now ≡ true }
-        ensures { IsAt result (answered (enveloped_by no_tasks no_book) (doing
+        ensures { IsAt result (answered (by_place no_tasks no_book) (doing
             (publish (unapplied (unwrap_or self.envelope blank)) ∷ jobs_of self.script)
             self.script.latest) (replied reply.now)) }
     {
@@ -204,30 +205,18 @@ impl Publishing {
     }
 }
 
-/// The next member of a completed header is read, where the book has it.
-fn read_next<B: Book>(
-    book: &B,
-    group: GroupNo,
-    chord: ChordBody,
-    found: Vec<(TaskNo, Outcome)>,
-) -> Phase
+/// The next member of a completed header is read.
+fn read_next(group: GroupNo, chord: ChordBody, found: Vec<(TaskNo, Outcome)>) -> Phase
     requires fits { carried_ok chord ≡ true }
     requires few { length found.items < chord.size }
     requires in_range { All (λ e. IsInRange e.1) found.items }
-    ensures { IsAt result (reads_next (enveloped_by no_tasks (B.book book.now)) group
-        chord found.items) }
+    ensures { IsAt result (reads_next (by_place no_tasks no_book) group chord found.items) }
 {
-    // For the proof alone: a size that is read is known to fit its type.
-    let _size = size_of(&chord);
-    match book.member(group, found.len() as u32) {
-        Some(task) => Phase::Reading(Reading {
-            group,
-            chord,
-            task,
-            found,
-        }),
-        None => Phase::Failed,
-    }
+    Phase::Reading(Reading {
+        group,
+        chord,
+        found,
+    })
 }
 
 /// Room for the outcomes of so many members, where there is memory for it: else it grows as they
@@ -242,32 +231,32 @@ fn room_for(alloc: Global, size: usize) -> Vec<(TaskNo, Outcome)>
 }
 
 /// Where the part was the last of its header, the members are read.
-fn counted<B: Book>(alloc: Global, book: &B, part: PartCall, count: u64) -> Phase
-    ensures { IsAt result (part_counted (enveloped_by no_tasks (B.book book.now)) part.group
+fn counted(alloc: Global, part: PartCall, count: u64) -> Phase
+    ensures { IsAt result (part_counted (by_place no_tasks no_book) part.group
         (carried_view part.chord) count) }
 {
     let chord = ChordBody::of(part.chord, part.text);
     let size = u64::from(size_of(&chord));
     if count < size && count + 1 == size {
-        read_next(book, part.group, chord, room_for(alloc, size as usize))
+        read_next(part.group, chord, room_for(alloc, size as usize))
     } else {
         Phase::Acking
     }
 }
 
-pub(crate) fn returned<B: Book>(alloc: Global, book: &B, part: PartCall, reply: &Reply) -> Phase
-    ensures { IsAt result (answered (enveloped_by no_tasks (B.book book.now))
+pub(crate) fn returned(alloc: Global, part: PartCall, reply: &Reply) -> Phase
+    ensures { IsAt result (answered (by_place no_tasks no_book)
         (doing (job.part part.group part.task (carried_view part.chord) ∷ []) First)
         (replied reply.now)) }
 {
     match reply {
-        Reply::Counted(count) => counted(alloc, book, part, *count),
+        Reply::Counted(count) => counted(alloc, part, *count),
         _ => Phase::Failed,
     }
 }
 
 pub(crate) fn acknowledged(reply: &Reply) -> Phase
-    ensures { IsAt result (answered (enveloped_by no_tasks no_book) acking (replied reply.now)) }
+    ensures { IsAt result (answered (by_place no_tasks no_book) acking (replied reply.now)) }
 {
     match reply {
         Reply::Acked => Phase::Taking,
@@ -276,7 +265,7 @@ pub(crate) fn acknowledged(reply: &Reply) -> Phase
 }
 
 pub(crate) fn rested(reply: &Reply) -> Phase
-    ensures { IsAt result (answered (enveloped_by no_tasks no_book) resting (replied reply.now)) }
+    ensures { IsAt result (answered (by_place no_tasks no_book) resting (replied reply.now)) }
 {
     match reply {
         Reply::Rested { more: true } => Phase::Taking,
@@ -286,16 +275,24 @@ pub(crate) fn rested(reply: &Reply) -> Phase
 }
 
 impl Reading {
+    /// The place of the member that is read next.
+    pub(crate) fn place(&self) -> u32
+        ensures { result ≡ length self.now.found.items }
+    {
+        // For the proof alone: a size that is read is known to fit its type.
+        let _size = size_of(&self.chord);
+        self.found.len() as u32
+    }
+
     /// The outcome of one more member. After the last, all that the body needs is built.
-    fn add<B: Book>(self, alloc: Global, book: &B, outcome: Outcome) -> Result<Phase, Memory>
+    fn add(self, alloc: Global, task: TaskNo, outcome: Outcome) -> Result<Phase, Memory>
         requires { IsInRange outcome }
-        ensures { IfOk result (λ p. IsAt p (all_read (enveloped_by no_tasks (B.book book.now))
-            self.group self.chord (self.found.items ++ (self.task, outcome) ∷ []))) }
+        ensures { IfOk result (λ p. IsAt p (all_read (by_place no_tasks no_book)
+            self.group self.chord (self.found.items ++ (task, outcome) ∷ []))) }
     {
         let Reading {
             group,
             chord,
-            task,
             mut found,
         } = self;
         found.push((task, outcome))?;
@@ -303,25 +300,20 @@ impl Reading {
             let todo = into_body(alloc, chord, &found)?;
             Ok(settle(script_of(alloc, todo, Stored::Again)?))
         } else {
-            Ok(read_next(book, group, chord, found))
+            Ok(read_next(group, chord, found))
         }
     }
 
-    pub(crate) fn answered<B: Book>(
-        self,
-        alloc: Global,
-        book: &B,
-        reply: &Reply,
-    ) -> Result<Phase, Memory>
+    pub(crate) fn answered(self, alloc: Global, reply: &Reply) -> Result<Phase, Memory>
         requires { FoundInRange reply.now }
-        ensures at { IfOk result (λ p. IsAt p (answered (enveloped_by no_tasks (B.book book.now))
-            (state_reading self.group self.chord self.task self.found.items)
+        ensures at { IfOk result (λ p. IsAt p (answered (by_place no_tasks no_book)
+            (taught (state_reading self.group self.chord 0 self.found.items) reply.now)
             (replied reply.now))) }
         ensures memory { OnErr result (Grows reply.now) }
     {
         match reply {
-            Reply::Found(Some(outcome)) => self.add(alloc, book, *outcome),
-            Reply::Found(None) => Ok(Phase::Acking),
+            Reply::Found(task, Some(outcome)) => self.add(alloc, *task, *outcome),
+            Reply::Found(_, None) => Ok(Phase::Acking),
             _ => Ok(Phase::Failed),
         }
     }

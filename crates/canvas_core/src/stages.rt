@@ -58,8 +58,6 @@ pub(crate) struct Publishing {
 pub(crate) struct Reading {
     pub group: GroupNo,
     pub chord: ChordBody,
-    /// The task of the member that is read next.
-    pub task: TaskNo,
     pub found: Vec<(TaskNo, Outcome)>,
     ghost fits: { carried_ok chord ≡ true },
     ghost few: { length found.items < chord.size },

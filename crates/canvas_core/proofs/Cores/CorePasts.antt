@@ -1,5 +1,5 @@
 -- One ask and answer more, as a core takes them.
-use Rattle.std.proofs.Common.{◌≡◌, ◌∙◌, ℕ, ◌+◌, min, Bool, true, false, List, [], ◌∷◌, ◌++◌, None, refl, sym, ap, arith, Option, eqb, suc, length, cond, Some}
+use Rattle.std.proofs.Common.{◌≡◌, ◌∙◌, ℕ, ◌+◌, min, Bool, true, false, List, [], ◌∷◌, ◌++◌, None, refl, sym, ap, subst, arith, Option, eqb, suc, length, cond, Some}
 use Rattle.std.specs.Prelude.{if◌then◌else◌, is_some}
 use Rattle.std.proofs.lemmas.Bool.{false≢true}
 use Rattle.canvas_task.specs.Apply.{Behaviour}
@@ -14,51 +14,57 @@ use Rattle.canvas_runs.proofs.Runs.MoreAsks.{held_append, reads_cases}
 use Rattle.canvas_runs.specs.Calls.{held_by, held_after}
 use Rattle.canvas_effects.specs.Job.{store, publish, part}
 use Rattle.canvas_runs.specs.Book.{Book}
-use Rattle.canvas_runs.specs.Core as C
 use Rattle.canvas_history.specs.Table as table
-use Rattle.canvas_history.specs.Queue as queue
-use Rattle.canvas_runs.specs.Core.{taking, resting, over, failed, owning, doing, reading, from_queue, refused, from_table, rested, answered, left_after, Suits, ReadsBack, IsCoreRun, acking, acked, settled, opens, reads_next, Jobs, is_due, is_inside}
-use Rattle.canvas_core.specs.Asks.{Asked, Answer, suits, shown, replied}
+use Rattle.canvas_runs.specs.Core.{taking, resting, owning, doing, reading, from_queue, refused, from_table, rested, answered, left_after, Suits, ReadsBack, IsCoreRun, acking, acked, settled, opens, reads_next, Jobs, is_due, is_inside}
+use Rattle.canvas_core.specs.Asks.{Asked, Answer, suits, replied, FoundOf}
+use Rattle.canvas_core.specs.Books.{HasMembers, no_book}
 use Rattle.canvas_core.specs.Asks as asks
-use Rattle.canvas_core.specs.EnvelopeWorker.{enveloped_by, applied_if}
+use Rattle.canvas_core.specs.EnvelopeWorker.{enveloped_with, enveloped_by, by_place, applied_if}
 use Rattle.canvas_core.specs.CorePast.{left_by, drops_from, task_in, NoneLead, OneMoreLeads, HandedLeads, HandsOut}
 use Rattle.canvas_runs.specs.Tally.{greatest_count}
-use Rattle.canvas_core.specs.CoreState.{Left, asked, drops, unsent, open_of, kept_next, kept_taken, task_next}
+use Rattle.canvas_core.specs.CoreState.{Left, located, placed, asked, next_in, taught, left_told, drops, unsent, open_of, kept_next, kept_taken, task_next}
 use Rattle.canvas_core.specs.declared.ask.Reply.{Reply}
 use Rattle.canvas_core.specs.declared.ask.Reply.TheVariants as R
+use Rattle.canvas_core.proofs.Cores.Sound.{Sound, run_sound}
+use Rattle.canvas_core.proofs.Cores.Located.{located_same, located_twice, unsent_located, located_sound, told_placed, told_located}
 
 -- a reply that suits by kind is one that the machine's ask admits
-pub suited : (book : Book) (x : Option ℕ) (a : Asked) (r : Reply) → suits (shown x a) r ≡ true → Suits a (replied r)
-suited book n (C.to_queue queue.take) (R.Taken x) h = tt
-suited book n (C.to_queue (queue.publish e)) R.Published h = tt
-suited book n (C.to_queue (queue.publish e)) (R.NotPublished f) h = tt
-suited book n (C.to_table (table.store t o)) (R.Stored s) h = tt
-suited book n (C.to_table (table.part g t)) (R.Counted m) h = tt
-suited book n (C.to_table (table.read t)) (R.Found x) h = tt
-suited book n C.rest (R.Rested more) h = tt
-suited book n C.ack R.Acked h = tt
-suited book n a r h = absurd cc
+pub suited : (s : Left) (x : Option ℕ) (r : Reply) → suits (next_in s x) r ≡ true → Suits (asked s) (replied r)
+suited taking n (R.Taken x) h = tt
+suited (doing (publish e ∷ js) b) n R.Published h = tt
+suited (doing (publish e ∷ js) b) n (R.NotPublished f) h = tt
+suited (owning m) n (R.Stored a) h = tt
+suited (doing (store t o ∷ js) b) n (R.Stored a) h = tt
+suited (doing (part g t c ∷ js) b) n (R.Counted m) h = tt
+suited (reading g c t fs) n (R.Found u x) h = tt
+suited resting n (R.Rested more) h = tt
+suited acking n R.Acked h = tt
+suited s n r h = absurd cc
 
 -- ---- an envelope that was handed out
 
-unsent_shown : (x : Option ℕ) (s : Left) → shown x (asked (unsent s)) ≡ shown x (asked s)
-unsent_shown n taking = refl
-unsent_shown n resting = refl
-unsent_shown n over = refl
-unsent_shown n failed = refl
-unsent_shown n (owning e) = refl
-unsent_shown n (doing [] b) = refl
-unsent_shown n (doing (store t o ∷ js) b) = refl
-unsent_shown n (doing (publish e ∷ js) b) = refl
-unsent_shown n (doing (part g t c ∷ js) b) = refl
-unsent_shown n (reading g c t fs) = refl
-unsent_shown n acking = refl
+unsent_next : (x : Option ℕ) (s : Left) → next_in (unsent s) x ≡ next_in s x
+unsent_next n (doing (publish e ∷ js) b) = refl
+unsent_next n s = refl
 
-pub unsent_answered : (behaviour : Behaviour) (book : Book) (s : Left) (r : Answer)
-    → answered (enveloped_by behaviour book) (unsent s) r ≡ answered (enveloped_by behaviour book) s r
-unsent_answered behaviour book (doing (publish e ∷ js) b) (from_queue None) = refl
-unsent_answered behaviour book (doing (publish e ∷ js) b) r = refl
-unsent_answered behaviour book s r = refl
+unsent_answered : (behaviour : Behaviour) (book : Book) (member : ℕ → ℕ → Option ℕ) (s : Left) (r : Answer)
+    → answered (enveloped_with behaviour book member) (unsent s) r ≡ answered (enveloped_with behaviour book member) s r
+unsent_answered behaviour book member (doing (publish e ∷ js) b) (from_queue None) = refl
+unsent_answered behaviour book member (doing (publish e ∷ js) b) r = refl
+unsent_answered behaviour book member s r = refl
+
+unsent_taught : (s : Left) (r : Reply) → taught (unsent s) r ≡ unsent (taught s r)
+unsent_taught (doing (publish e ∷ js) b) r = refl
+unsent_taught (reading g c t fs) (R.Found u x) = refl
+unsent_taught s r = refl
+
+pub unsent_told : (behaviour : Behaviour) (book : Book) (s : Left) (r : Reply) → left_told behaviour book (unsent s) r ≡ left_told behaviour book s r
+unsent_told behaviour book s r =
+    ap (λ u. answered (by_place behaviour book) u (replied r)) (unsent_taught s r) ∙ unsent_answered behaviour book (λ g i. Some 0) (taught s r) (replied r)
+
+unsent_sound : (book : Book) (s : Left) → Sound book s → Sound book (unsent s)
+unsent_sound book (doing (publish e ∷ js) b) h = h
+unsent_sound book s h = h
 
 pub unsent_drops : (book : Book) (s : Left) (r : Answer) → drops book (unsent s) r ≡ drops book s r
 unsent_drops book taking r = refl
@@ -102,13 +108,22 @@ run_one_more behaviour book s (y ∷ xs) x run is suit back =
 abbrev standing : Left → Bool → Left
 standing s out = if out then unsent s else s
 
-shown_so : (x : Option ℕ) (s : Left) (out : Bool) → shown x (asked (standing s out)) ≡ shown x (asked s)
-shown_so n s true = unsent_shown n s
-shown_so n s false = refl
+next_so : (x : Option ℕ) (s : Left) (out : Bool) → next_in (standing s out) x ≡ next_in s x
+next_so n s true = unsent_next n s
+next_so n s false = refl
+
+sound_so : (book : Book) (s : Left) (out : Bool) → Sound book s → Sound book (standing s out)
+sound_so book s true h = unsent_sound book s h
+sound_so book s false h = h
+
+-- with its members' tasks again
+located_so : (book : Book) (s : Left) (out : Bool) → Sound book s → located book (standing (placed s) out) ≡ standing s out
+located_so book s true h = sym (unsent_located book (placed s)) ∙ ap unsent (located_twice book no_book s ∙ located_sound book s h)
+located_so book s false h = located_twice book no_book s ∙ located_sound book s h
 
 answered_so : (behaviour : Behaviour) (book : Book) (s : Left) (out : Bool) (r : Answer)
     → answered (enveloped_by behaviour book) (standing s out) r ≡ answered (enveloped_by behaviour book) s r
-answered_so behaviour book s true r = unsent_answered behaviour book s r
+answered_so behaviour book s true r = unsent_answered behaviour book book.member s r
 answered_so behaviour book s false r = refl
 
 drops_so : (book : Book) (s : Left) (out : Bool) (r : Answer) → drops book (standing s out) r ≡ drops book s r
@@ -200,30 +215,71 @@ none_lead behaviour book = record { run = tt; left = refl; dropped = refl; holds
 counts : (n m d : ℕ) → d ≡ min greatest_count n → min greatest_count (d + m) ≡ min greatest_count (n + m)
 counts n m d is = omega (arith, is)
 
+-- ---- a core that was told
+
+module _ (behaviour : Behaviour) (book : Book) (members : HasMembers book) (s : Left) (h : Option Envelope) (x : Option ℕ) (r : Reply)
+    (sound : Sound book (located book s)) (suit : Suits (asked (located book s)) (replied r)) (found : FoundOf book r (next_in s x)) where
+  abbrev told : located book (left_told behaviour book s r) ≡ answered (enveloped_by behaviour book) (located book s) (replied r)
+  told = told_located behaviour book members s x r sound found
+
+  -- the envelope that it holds
+  pub book_told : open_of (left_told behaviour book s r) (kept_next book s h (replied r)) ≡ held_by (open_of s h) (asked (located book s)) (replied r)
+  book_told =
+      sym (located_same (λ u. open_of u (kept_next book s h (replied r))) (λ g c t v fs. refl) book (left_told behaviour book s r))
+      ∙ ap (λ u. open_of u (kept_next book s h (replied r))) told
+      ∙ ap (λ k. open_of (answered (enveloped_by behaviour book) (located book s) (replied r)) k)
+      (sym (located_same (λ u. kept_next book u h (replied r)) (λ g c t v fs. refl) book s))
+      ∙ book_step behaviour book (located book s) h (replied r) suit
+      ∙ ap (λ k. held_by k (asked (located book s)) (replied r)) (located_same (λ u. open_of u h) (λ g c t v fs. refl) book s)
+
+  -- and the task of that one's message
+  pub task_told : (is_inside s ≡ true → x ≡ task_in book (open_of s h)) → is_inside (left_told behaviour book s r) ≡ true
+      → task_next book s x (replied r) ≡ task_in book (held_by (open_of s h) (asked (located book s)) (replied r))
+  task_told was i =
+      let opens : open_of (located book s) h ≡ open_of s h = located_same (λ u. open_of u h) (λ g c t v fs. refl) book s in
+      sym (located_same (λ u. task_next book u x (replied r)) (λ g c t v fs. refl) book s)
+      ∙ task_step behaviour book (located book s) h x (replied r) suit
+      (λ j. was (sym (located_same is_inside (λ g c t v fs. refl) book s) ∙ j) ∙ ap (task_in book) (sym opens))
+      (ap is_inside (sym told) ∙ (located_same is_inside (λ g c t v fs. refl) book (left_told behaviour book s r) ∙ i))
+      ∙ ap (λ k. task_in book (held_by k (asked (located book s)) (replied r))) opens
+
 pub one_more_leads : OneMoreLeads
-one_more_leads behaviour book xs s r leads back suit =
+one_more_leads behaviour book members from_one xs s r leads back suit found =
     let before : Left = left_by behaviour book xs in
     let x : Asked × Answer = (asked before, replied r) in
-    let same : s.left ≡ standing before s.is_out = leads.left in
-    let fits : suits (shown s.task (asked before)) r ≡ true =
-    ap (λ a. suits a r) (sym (ap (λ u. shown s.task (asked u)) same ∙ shown_so s.task before s.is_out)) ∙ suit in
+    let sound : Sound book before = run_sound behaviour book from_one taking xs tt in
+    let same : s.left ≡ standing (placed before) s.is_out = leads.left in
+    let again : located book s.left ≡ standing before s.is_out = ap (located book) same ∙ located_so book before s.is_out sound in
+    let here : Sound book (located book s.left) = subst (Sound book) (sym again) (sound_so book before s.is_out sound) in
+    let asks : next_in s.left s.task ≡ next_in before s.task =
+    ap (λ u. next_in u s.task) same ∙ (next_so s.task (placed before) s.is_out
+    ∙ located_same (λ u. next_in u s.task) (λ g c t v fs. refl) no_book before) in
+    let fits : Suits (asked before) (replied r) = suited before s.task r (ap (λ a. suits a r) (sym asks) ∙ suit) in
+    let fits_here : Suits (asked (located book s.left)) (replied r) =
+    suited (located book s.left) s.task r (ap (λ a. suits a r) (located_same (λ u. next_in u s.task) (λ g c t v fs. refl) book s.left) ∙ suit) in
+    let holds : open_of (left_told behaviour book s.left r) (kept_next book s.left s.kept (replied r))
+    ≡ held_by (open_of s.left s.kept) (asked (located book s.left)) (replied r) =
+    book_told behaviour book members s.left s.kept s.task r here fits_here found in
     record {
-      run = run_one_more behaviour book taking xs x leads.run refl (suited book s.task (asked before) r fits) back;
-      left = ap (λ u. answered (enveloped_by behaviour book) u (replied r)) same ∙ answered_so behaviour book before s.is_out (replied r)
-          ∙ sym (left_one_more behaviour book taking xs x);
+      run = run_one_more behaviour book taking xs x leads.run refl fits back;
+      left =
+          sym (told_placed behaviour book s.left r) ∙ sym (located_twice no_book book (left_told behaviour book s.left r))
+          ∙ ap placed (told_located behaviour book members s.left s.task r here found
+          ∙ ap (λ u. answered (enveloped_by behaviour book) u (replied r)) again ∙ answered_so behaviour book before s.is_out (replied r)
+          ∙ sym (left_one_more behaviour book taking xs x));
       dropped =
           counts (drops_from behaviour book taking xs) (drops book s.left (replied r)) s.dropped leads.dropped
-          ∙ ap (λ n. min greatest_count (drops_from behaviour book taking xs + n)) (ap (λ u. drops book u (replied r)) same
+          ∙ ap (λ n. min greatest_count (drops_from behaviour book taking xs + n))
+          (sym (located_same (λ u. drops book u (replied r)) (λ g c t v fs. refl) book s.left) ∙ ap (λ u. drops book u (replied r)) again
           ∙ drops_so book before s.is_out (replied r))
           ∙ ap (λ n. min greatest_count n) (sym (drops_one_more behaviour book taking xs x));
       holds =
-          book_step behaviour book s.left s.kept (replied r) (suited book s.task (asked s.left) r suit)
-          ∙ (ap (λ h. held_by h (asked s.left) (replied r)) leads.holds
-          ∙ (ap (λ u. held_by (held_after None xs) (asked u) (replied r)) same
+          holds ∙ (ap (λ h. held_by h (asked (located book s.left)) (replied r)) leads.holds
+          ∙ (ap (λ u. held_by (held_after None xs) (asked u) (replied r)) again
           ∙ (by_standing (held_after None xs) before s.is_out (replied r) ∙ sym (held_append None xs (x ∷ [])))));
       task = λ i.
-          task_step behaviour book s.left s.kept s.task (replied r) (suited book s.task (asked s.left) r suit) leads.task i
-          ∙ ap (task_in book) (sym (book_step behaviour book s.left s.kept (replied r) (suited book s.task (asked s.left) r suit)));
+          task_told behaviour book members s.left s.kept s.task r here fits_here found leads.task i
+          ∙ ap (task_in book) (sym holds);
     }
 
 -- ---- handed out
@@ -240,7 +296,7 @@ pub handed_leads : HandedLeads
 handed_leads behaviour book xs s leads =
     record {
       run = leads.run;
-      left = handed_by (left_by behaviour book xs) s.left s.is_out leads.left
+      left = handed_by (placed (left_by behaviour book xs)) s.left s.is_out leads.left
           (is_some (asks.to_send (asked s.left))) refl;
       dropped = leads.dropped;
       holds = open_unsent s.left s.kept ∙ leads.holds;
@@ -251,4 +307,5 @@ handed_leads behaviour book xs s leads =
 pub hands_out : HandsOut
 hands_out behaviour book xs s leads held =
     ap (λ b. if b then None else asks.to_send (asked s.left)) held
-    ∙ ap (λ u. asks.to_send (asked u)) (leads.left ∙ ap (λ b. standing (left_by behaviour book xs) b) held)
+    ∙ (ap (λ u. asks.to_send (asked u)) (leads.left ∙ ap (λ b. standing (placed (left_by behaviour book xs)) b) held)
+    ∙ located_same (λ u. asks.to_send (asked u)) (λ g c t v fs. refl) no_book (left_by behaviour book xs))

@@ -1,41 +1,37 @@
 -- What ends a core, and that it stays at its end.
-use Rattle.std.proofs.Common.{◌≡◌, ◌∙◌, ◌⊎◌, ◌<◌, ◌+◌, ℕ, suc, Bool, true, false, cond, List, [], ◌∷◌, ◌++◌, length-append, Option, Some, None, inl, inr, refl, sym, ap, subst, true≢false, arith}
-use Rattle.std.specs.Prelude.{if◌then◌else◌, eqb, length, map, IsSome, is_some}
-use Rattle.std.proofs.lemmas.Bool.{eqb-true, eqb-false}
+use Rattle.std.proofs.Common.{◌≡◌, ◌∙◌, ◌⊎◌, ◌<◌, ℕ, suc, Bool, true, false, cond, List, [], ◌∷◌, ◌++◌, Option, Some, None, inl, inr, refl, sym, ap, subst, true≢false}
+use Rattle.std.specs.Prelude.{if◌then◌else◌, eqb, length, is_some}
+use Rattle.std.proofs.lemmas.Bool.{eqb-true}
 use Rattle.canvas_task.specs.Apply.{Behaviour}
 use Rattle.canvas_task.specs.declared.outcome.Outcome.{Outcome}
 use Rattle.canvas_rewrite.specs.FrozenView.{PCarried}
-use Rattle.canvas_envelope.specs.Content.{Content, number_of}
-use Rattle.canvas_effects.specs.Effects.{after, body_after, script}
 use Rattle.canvas_effects.specs.Job.{store, publish, part}
 use Rattle.canvas_envelope.specs.declared.envelope.Envelope.{Envelope}
 use Rattle.canvas_history.specs.declared.stored.Stored.{Stored}
 use Rattle.canvas_history.specs.declared.stored.Stored.TheVariants.{First, Again}
 use Rattle.canvas_history.specs.Table as table
 use Rattle.canvas_history.specs.Queue as queue
-use Rattle.canvas_runs.specs.Book.{Book, has_size, line_known, message_known}
+use Rattle.canvas_runs.specs.Book.{Book}
 use Rattle.canvas_runs.specs.Protocol.{Protocol}
 use Rattle.canvas_runs.specs.Worker.{opened}
 use Rattle.canvas_runs.proofs.Runs.MoreAsks.{reads_cases}
 use Rattle.canvas_runs.specs.Core as C
 use Rattle.canvas_runs.specs.Core.{taking, resting, over, failed, owning, doing, reading, from_queue, refused, from_table, rested, answered, left_after, settled, opens, Suits, IsCoreRun, acking, acked}
-use Rattle.canvas_core.specs.Asks.{Asked, Answer, suits, shown}
+use Rattle.canvas_core.specs.Asks.{Asked, Answer, suits}
 use Rattle.canvas_core.specs.Asks as asks
 use Rattle.canvas_core.specs.AtEnd.{EndStays, FailingEnds, EndsACore, EndsBehind, FailsBehind}
-use Rattle.canvas_core.specs.Books.{HasMembers, IsFromOne}
+use Rattle.canvas_core.specs.Books.{HasMembers, IsFromOne, no_book}
 use Rattle.canvas_core.specs.EnvelopeWorker as enveloping
 use Rattle.canvas_core.specs.EnvelopeWorker.{Applied, enveloped_by}
 use Rattle.canvas_core.specs.CorePast.{left_by}
-use Rattle.canvas_core.specs.CoreState.{Left, asked, unsent}
-use Rattle.canvas_core.specs.SeatRights.{Carries, InBook}
+use Rattle.canvas_core.specs.CoreState.{Left, placed, asked, next_in, unsent}
+use Rattle.canvas_core.specs.SeatRights.{Carries}
 use Rattle.canvas_core.specs.declared.ask.Reply.{Reply}
 use Rattle.canvas_core.specs.declared.ask.Ask.TheVariants.{End}
 use Rattle.canvas_core.specs.declared.ask.Reply.TheVariants as R
 use Rattle.canvas_core.proofs.Cores.CorePasts.{left_one_more}
-use Rattle.canvas_core.proofs.Books.KnownJobs.{StoredIn, Behind as BehindTask, ended_jobs, body_jobs, ended_known, body_known}
-use Rattle.canvas_core.proofs.Books.KnownScripts.{script_known}
-use Rattle.canvas_core.proofs.Books.Opening.{opened_as}
-use Rattle.canvas_core.proofs.Books.Sendable.{said_of}
+use Rattle.canvas_core.proofs.Cores.Sound.{Sound, first_low, more_low, step_sound}
+use Rattle.canvas_core.proofs.Cores.Located.{located_same, has_next}
 
 abbrev is_end : Asked → Bool
 is_end C.end = true
@@ -49,7 +45,7 @@ none_suits R.Published = refl
 none_suits (R.NotPublished e) = refl
 none_suits (R.Stored s) = refl
 none_suits (R.Counted n) = refl
-none_suits (R.Found x) = refl
+none_suits (R.Found t x) = refl
 none_suits (R.Rested more) = refl
 none_suits R.Acked = refl
 
@@ -62,20 +58,26 @@ still_end : (s : Left) → asked s ≡ C.end → asked (unsent s) ≡ C.end
 still_end (doing (publish e ∷ js) b) h = absurd (true≢false (sym (ap is_end h)))
 still_end s h = h
 
+at_end : (s : Left) (x : Option ℕ) → asked s ≡ C.end → next_in s x ≡ End
+at_end over x h = refl
+at_end failed x h = refl
+at_end (doing [] b) x h = refl
+at_end (doing (store t o ∷ js) b) x h = absurd (true≢false (sym (ap is_end h)))
+at_end (doing (publish e ∷ js) b) x h = absurd (true≢false (sym (ap is_end h)))
+at_end (doing (part g t c ∷ js) b) x h = absurd (true≢false (sym (ap is_end h)))
+at_end s x h = absurd (true≢false (sym (ap is_end h)))
+
 pub end_stays : EndStays
-end_stays s h =
-    ((λ r. ap (λ a. suits (shown s.task a) r) h ∙ none_suits r), ap (λ a. if s.is_out then None else asks.to_send a) h ∙ none_held s.is_out, still_end s.left h)
+end_stays s h = (
+  (λ r. ap (λ a. suits a r) (at_end s.left s.task h) ∙ none_suits r),
+  ap (λ a. if s.is_out then None else asks.to_send a) h ∙ none_held s.is_out,
+  still_end s.left h,
+)
 
 pub failing_ends : FailingEnds
 failing_ends s = refl
 
--- ---- what a core has left names only what its book knows
-
-abbrev Sound : Book → Left → Type 0
-Sound book (owning m) = opened book m.envelope ≡ Some (enveloping.said m.envelope)
-Sound book (doing js b) = InBook book js
-Sound book (reading g c t fs) = Carries book g c × (length fs < c.size)
-Sound book s = Unit {0}
+-- ---- what goes on
 
 -- the state isn't at its end
 abbrev GoesOn : Left → Type 0
@@ -90,24 +92,6 @@ Behind xs = (ys : List (Asked × Answer)) × (x : Asked × Answer) × (xs ≡ ys
 module _ (behaviour : Behaviour) (book : Book) where
   abbrev X : Protocol Envelope
   X = enveloped_by behaviour book
-
-  settled_sound : (js : C.Jobs X) (b : Stored) → InBook book js → Sound book (settled X js b)
-  settled_sound [] b h = tt
-  settled_sound (store t o ∷ js) First h = h
-  settled_sound (store t o ∷ js) Again h = h
-  settled_sound (publish e ∷ js) First h = h
-  settled_sound (publish e ∷ js) Again h = h
-  settled_sound (part g t c ∷ js) First h = h
-  settled_sound (part g t c ∷ js) Again h = tt
-
-  opens_sound : (e : Envelope) (o : Option Content) → opened book e ≡ o → Sound book (opens X (enveloping.applied_if behaviour o e))
-  opens_sound e None is = tt
-  opens_sound e (Some c) is = is ∙ ap Some (sym (said_of e c (opened_as book e c is).0))
-
-  next_sound : (g : ℕ) (c : PCarried) (fs : List (ℕ × Outcome)) → Carries book g c → length fs < c.size → Sound book (C.reads_next X g c fs)
-  next_sound g c fs h low = reads_cases X (Sound book) g c fs (λ e. tt) (λ t e. (h, low))
-
-  -- ---- what ends
 
   settled_on : (js : C.Jobs X) (b : Stored) → GoesOn (settled X js b)
   settled_on [] b = refl
@@ -129,67 +113,52 @@ module _ (behaviour : Behaviour) (book : Book) where
   ended_by s r h = absurd h
 
   module _ (members : HasMembers book) (from_one : IsFromOne book) where
-    sized : (o : Option ℕ) (n : ℕ) → has_size n o ≡ true → o ≡ Some n
-    sized None n h = absurd (true≢false (sym h))
-    sized (Some m) n h = ap Some (eqb-true m n h)
-
     -- a chord that has the size which its message says has the next member
     next_on : (g : ℕ) (c : PCarried) (fs : List (ℕ × Outcome)) → Carries book g c → length fs < c.size → GoesOn (C.reads_next X g c fs)
     next_on g c fs h low =
-        let there : IsSome (book.member g (length fs)) = members g c.size (length fs) (sized (book.size g) c.size h.0) low in
-        reads_cases X GoesOn g c fs (λ e. absurd (true≢false (sym there ∙ ap is_some e))) (λ t e. refl)
+        reads_cases X GoesOn g c fs (λ e. absurd (true≢false (sym (has_next behaviour book members g c fs h low) ∙ ap is_some e))) (λ t e. refl)
 
     -- the state is sound, and not at its end
     abbrev Well : Left → Type 0
     Well s = Sound book s × GoesOn s
 
-    well_settled : (js : C.Jobs X) (b : Stored) → InBook book js → Well (settled X js b)
-    well_settled js b h = (settled_sound js b h, settled_on js b)
+    counted_on : (g : ℕ) (c : PCarried) (n : ℕ) (z : Bool) → Carries book g c → eqb (suc n) c.size ≡ z → GoesOn (cond z (C.reads_next X g c []) acking)
+    counted_on g c n true h e = next_on g c [] h (first_low n c.size (eqb-true (suc n) c.size e))
+    counted_on g c n false h e = refl
 
-    ended_in : (c : Content) (o : Outcome) → message_known book c ≡ true → InBook book (map enveloping.enclosed (script (after c o)))
-    ended_in c o h = script_known book (BehindTask (number_of c.own) (ended_jobs c o)) (ended_jobs c o) (ended_known book from_one c o h)
-
-    body_in : (c : PCarried) (es : List (ℕ × Outcome)) → line_known book c.body ≡ true → InBook book (map enveloping.enclosed (script (body_after c es)))
-    body_in c es h = script_known book (StoredIn (body_jobs c es)) (body_jobs c es) (body_known book from_one c es h)
-
-    well_next : (g : ℕ) (c : PCarried) (fs : List (ℕ × Outcome)) → Carries book g c → length fs < c.size → Well (C.reads_next X g c fs)
-    well_next g c fs h low = (next_sound g c fs h low, next_on g c fs h low)
-
-    well_counted : (g : ℕ) (c : PCarried) (n : ℕ) (z : Bool) → Carries book g c → eqb (suc n) c.size ≡ z → Well (cond z (C.reads_next X g c []) acking)
-    well_counted g c n true h e = well_next g c [] h (let full : suc n ≡ c.size = eqb-true (suc n) c.size e in omega (arith, full))
-    well_counted g c n false h e = (tt, refl)
-
-    well_read : (g : ℕ) (c : PCarried) (fs : List (ℕ × Outcome)) (t : ℕ) (o : Outcome) (z : Bool) → Carries book g c → length fs < c.size
-        → eqb (length (fs ++ (t, o) ∷ [])) c.size ≡ z
-        → Well (cond z (settled X (X.completed c (fs ++ (t, o) ∷ [])) Again) (C.reads_next X g c (fs ++ (t, o) ∷ [])))
-    well_read g c fs t o true h low e = well_settled (X.completed c (fs ++ (t, o) ∷ [])) Again (body_in c (fs ++ (t, o) ∷ []) h.1)
-    well_read g c fs t o false h low e =
-        well_next g c (fs ++ (t, o) ∷ []) h
-        (let more : length (fs ++ (t, o) ∷ []) ≡ length fs + 1 = length-append fs ((t, o) ∷ []) in
-        let apart = eqb-false (length (fs ++ (t, o) ∷ [])) c.size e in omega (arith, more, apart, low))
+    read_on : (g : ℕ) (c : PCarried) (fs : List (ℕ × Outcome)) (e : ℕ × Outcome) (z : Bool) → Carries book g c → length fs < c.size
+        → eqb (length (fs ++ e ∷ [])) c.size ≡ z
+        → GoesOn (cond z (settled X (X.completed c (fs ++ e ∷ [])) Again) (C.reads_next X g c (fs ++ e ∷ [])))
+    read_on g c fs e true h low is = settled_on (X.completed c (fs ++ e ∷ [])) Again
+    read_on g c fs e false h low is = next_on g c (fs ++ e ∷ []) h (more_low fs e c.size low is)
 
     -- an ask and an answer that end a core, or they leave one that goes on
     abbrev EndsOr : Left → Answer → Type 0
     EndsOr s r = EndsACore (asked s) r ⊎ Well (answered X s r)
 
+    goes : (s : Left) (r : Answer) → Well s → GoesOn (answered X s r) → EndsOr s r
+    goes s r w on = inr (step_sound behaviour book from_one s r w.0, on)
+
     step : (s : Left) (r : Answer) → Well s → Suits (asked s) r → EndsOr s r
     step taking (from_queue None) w suit = inr (tt, refl)
-    step taking (from_queue (Some e)) w suit = inr (opens_sound e (opened book e) refl, opens_on (enveloping.applied_if behaviour (opened book e) e))
+    step taking (from_queue (Some e)) w suit = goes taking (from_queue (Some e)) w (opens_on (enveloping.applied_if behaviour (opened book e) e))
     step resting (rested true) w suit = inr (tt, refl)
     step resting (rested false) w suit = inl tt
     step over r w suit = absurd (true≢false w.1)
     step failed r w suit = absurd (true≢false w.1)
     step (owning m) (from_table (table.was First)) w suit =
-        inr (well_settled (X.ended m (X.outcome m)) First
-        (ended_in (enveloping.said m.envelope) m.outcome (opened_as book m.envelope (enveloping.said m.envelope) w.0).1))
+        goes (owning m) (from_table (table.was First)) w (settled_on (X.ended m (X.outcome m)) First)
     step (owning m) (from_table (table.was Again)) w suit = inr (tt, refl)
     step (doing [] b) r w suit = absurd (true≢false w.1)
-    step (doing (store t o ∷ js) b) (from_table (table.was a)) w suit = inr (well_settled js (cond (C.is_due t js) a b) w.0.1)
-    step (doing (publish e ∷ js) b) (from_queue None) w suit = inr (well_settled js b w.0)
+    step (doing (store t o ∷ js) b) (from_table (table.was a)) w suit =
+        goes (doing (store t o ∷ js) b) (from_table (table.was a)) w (settled_on js (cond (C.is_due t js) a b))
+    step (doing (publish e ∷ js) b) (from_queue None) w suit = goes (doing (publish e ∷ js) b) (from_queue None) w (settled_on js b)
     step (doing (publish e ∷ js) b) refused w suit = inl tt
-    step (doing (part g t c ∷ js) b) (from_table (table.count n)) w suit = inr (well_counted g c n (eqb (suc n) c.size) w.0.1 refl)
+    step (doing (part g t c ∷ js) b) (from_table (table.count n)) w suit =
+        goes (doing (part g t c ∷ js) b) (from_table (table.count n)) w (counted_on g c n (eqb (suc n) c.size) w.0.1 refl)
     step (reading g c t fs) (from_table (table.found (Some o))) w suit =
-        inr (well_read g c fs t o (eqb (length (fs ++ (t, o) ∷ [])) c.size) w.0.0 w.0.1 refl)
+        goes (reading g c t fs) (from_table (table.found (Some o))) w
+        (read_on g c fs (t, o) (eqb (length (fs ++ (t, o) ∷ [])) c.size) w.0.0 w.0.1 refl)
     step (reading g c t fs) (from_table (table.found None)) w suit = inr (tt, refl)
     step acking acked w suit = inr (tt, refl)
     step s r w suit = absurd suit
@@ -229,7 +198,8 @@ end_so s false = refl
 pub ends_behind : EndsBehind
 ends_behind behaviour book members from_one xs s leads h =
     ends_behind_from behaviour book members from_one taking xs (tt, refl) leads.run
-    (sym (end_so (left_by behaviour book xs) s.is_out) ∙ ap (λ u. is_end (asked u)) (sym leads.left) ∙ ap is_end h)
+    (sym (located_same (λ u. is_end (asked u)) (λ g c t v fs. refl) no_book (left_by behaviour book xs))
+    ∙ sym (end_so (placed (left_by behaviour book xs)) s.is_out) ∙ ap (λ u. is_end (asked u)) (sym leads.left) ∙ ap is_end h)
 
 -- ---- what fails
 
@@ -290,5 +260,7 @@ which behaviour book xs ys a r run fails same by = absurd by
 pub fails_behind : FailsBehind
 fails_behind behaviour book members from_one xs s leads h =
     let last = ends_behind behaviour book members from_one xs s leads (ap asked h) in
-    which behaviour book xs last.0 last.1.0 last.1.1 leads.run (sym (failed_so (left_by behaviour book xs) s.is_out) ∙ ap is_failed (sym leads.left)
+    which behaviour book xs last.0 last.1.0 last.1.1 leads.run
+    (sym (located_same is_failed (λ g c t v fs. refl) no_book (left_by behaviour book xs))
+    ∙ sym (failed_so (placed (left_by behaviour book xs)) s.is_out) ∙ ap is_failed (sym leads.left)
     ∙ ap is_failed h) last.2 last.3

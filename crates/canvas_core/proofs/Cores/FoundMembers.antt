@@ -1,5 +1,5 @@
 -- The outcomes of a header's members that a core has read.
-use Rattle.std.proofs.Common.{◌≡◌, ◌<◌, ℕ, List, [], ◌∷◌, ◌++◌, All, length, get_or, sym, subst, arith}
+use Rattle.std.proofs.Common.{◌≡◌, ℕ, List, [], ◌∷◌, ◌++◌, All, get_or, sym, subst, arith}
 use Rattle.std.proofs.lemmas.List.Elements.{All-append}
 use Rattle.canvas_task.specs.Apply.{IsInRange}
 use Rattle.canvas_task.specs.declared.outcome.Outcome.{Outcome}

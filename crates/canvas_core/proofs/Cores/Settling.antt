@@ -5,7 +5,7 @@ use Rattle.canvas_effects.specs.Job.{store, publish}
 use Rattle.canvas_history.specs.declared.stored.Stored.{Stored}
 use Rattle.canvas_runs.specs.Core.{doing, settled}
 use Rattle.canvas_core.specs.Books.{no_book}
-use Rattle.canvas_core.specs.EnvelopeWorker.{no_tasks, enveloped_by, unapplied}
+use Rattle.canvas_core.specs.EnvelopeWorker.{no_tasks, by_place, unapplied}
 use Rattle.canvas_core.specs.CoreState.{Left}
 use Rattle.canvas_core.specs.Scripts.{EnvelopeJobs}
 use Rattle.canvas_core.specs.declared.sealed.Sealed.{Sealed}
@@ -15,7 +15,7 @@ module _ (part : EnvelopeJobs) (latest : Stored) where
   jobs stores publishes = map (λ e. store e.0 e.1) stores ++ (map (λ p. publish (unapplied p.envelope)) publishes ++ part)
 
   abbrev next : EnvelopeJobs → Left
-  next js = settled (enveloped_by no_tasks no_book) js latest
+  next js = settled (by_place no_tasks no_book) js latest
 
   pub store_first : (e : ℕ × Outcome) (stores others : List (ℕ × Outcome)) (publishes : List Sealed) → stores ≡ e ∷ others
       → doing (store e.0 e.1 ∷ jobs others publishes) latest ≡ next (jobs stores publishes)
