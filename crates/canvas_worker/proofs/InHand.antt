@@ -1,13 +1,10 @@
 -- The envelopes in hand: what a worker's pass took and its core has not done with. Each of them may be delivered again.
 use Rattle.std.proofs.Common.{◌≡◌, ◌∙◌, List, [], ◌∷◌, ◌++◌, Option, Some, None, Result, Ok, Err, refl, sym, subst, append_assoc, append-nil}
-use Rattle.std.specs.Prelude.{true, false, IsSome, MatchResult}
+use Rattle.std.specs.Prelude.{true, MatchResult}
 use Rattle.std.proofs.lemmas.Bool.{false≢true}
 use Rattle.canvas_task.specs.Apply.{Behaviour}
 use Rattle.canvas_history.specs.History.{calls}
-use Rattle.canvas_effects.specs.Job.{store, publish, part}
 use Rattle.canvas_envelope.specs.declared.envelope.Envelope.{Envelope}
-use Rattle.canvas_history.specs.Table as table
-use Rattle.canvas_history.specs.Roster.{Roster}
 use Rattle.canvas_history.specs.Queue as queue
 use Rattle.canvas_history.specs.Queue.{QueueCall}
 use Rattle.canvas_history.specs.Passes.{Stands, Took}
@@ -18,8 +15,7 @@ use Rattle.canvas_runs.specs.Following.{Pass, Makes}
 use Rattle.canvas_history.specs.Lists.{Each}
 use Rattle.canvas_runs.proofs.Lists.Words.{each_append, each_weaker}
 use Rattle.canvas_core.specs.Asks.{Asked, Answer}
-use Rattle.canvas_core.specs.EnvelopeWorker.{enveloped}
-use Rattle.canvas_core.specs.CoreState.{Left, asked, open_of, held}
+use Rattle.canvas_core.specs.CoreState.{Left, held}
 use Rattle.canvas_worker.specs.Polls.{Work, CanDeliver, in_hand, Ready, delivers, Redelivered, Pends, EndsWith}
 use Rattle.canvas_core.specs.declared.cause.Cause.TheVariants.{Memory}
 use Rattle.canvas_worker.specs.declared.working.End.{End}

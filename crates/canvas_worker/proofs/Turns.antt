@@ -1,12 +1,10 @@
 -- What one turn of a worker leaves.
-use Rattle.std.proofs.Common.{◌≡◌, ◌∙◌, ℕ, ◌+◌, ◌≤◌, min, true, false, [], ◌∷◌, Option, Some, None, Result, Ok, Err, refl, sym, subst, arith}
+use Rattle.std.proofs.Common.{◌≡◌, ◌∙◌, ℕ, ◌+◌, ◌≤◌, min, [], ◌∷◌, Option, Some, None, Result, Ok, Err, refl, sym, subst, arith}
 use Rattle.std.specs.Prelude.{MatchResult}
 use Rattle.std.proofs.lemmas.Bool.{false≢true}
 use Rattle.canvas_task.specs.Apply.{Behaviour}
-use Rattle.canvas_envelope.specs.declared.envelope.Envelope.{Envelope}
 use Rattle.canvas_history.specs.Roster.{Roster}
-use Rattle.canvas_runs.specs.Calls.{QueueAnswered, TableAnswered, takes_one, broker_calls, backend_calls}
-use Rattle.canvas_history.specs.Lists.{total}
+use Rattle.canvas_runs.specs.Calls.{takes_one}
 use Rattle.canvas_runs.specs.Tally.{Tally, IsTally, Counted, CountsMore, publishing, storing, returning, dropping, greatest_count}
 use Rattle.canvas_core.specs.Asks.{Asked, Answer}
 use Rattle.canvas_core.proofs.Cores.Counts.{of_queue, of_table}

@@ -5,8 +5,7 @@ use Rattle.canvas_task.specs.Apply.{Behaviour}
 use Rattle.canvas_runs.specs.Core.{is_inside}
 use Rattle.canvas_runs.specs.declared.when.When.{When}
 use Rattle.canvas_runs.specs.declared.when.When.TheVariants.{Early, Late}
-use Rattle.canvas_core.specs.Asks.{shown}
-use Rattle.canvas_core.specs.CoreState.{Standing, asked, point_at}
+use Rattle.canvas_core.specs.CoreState.{Standing, next, point_at}
 use Rattle.canvas_worker.specs.Polls.{Work, Acted, Ends, EndsFor, Leaves, Redelivered}
 use Rattle.canvas_core.specs.declared.cause.Cause.{Cause}
 use Rattle.canvas_core.specs.declared.cause.Cause.TheVariants.{Memory, Stopped}
@@ -74,7 +73,7 @@ module _ (go : ℕ → Bool → Type 0) (again : ℕ → Type 0) where
       fails_again : LetsOn (asks_at w.core p) → Wants (asks_at w.core p)
           → Leaves w (Some Memory) r → LeavesHeeding r
       ends : LetsOn (asks_at w.core p) → Ends behaviour w r
-          → EndsFor (shown w.core.task (asked w.core.left)) r.fault → LeavesHeeding r
+          → EndsFor (next w.core) r.fault → LeavesHeeding r
 
     -- where the gate can only hold the worker back, nothing was done
     abbrev pub HeldBack : Work → Option When → Type 0

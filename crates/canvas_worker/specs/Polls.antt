@@ -7,10 +7,10 @@ use Rattle.canvas_rewrite.specs.Planned.{IsPlan}
 use Rattle.canvas_envelope.specs.declared.envelope.Envelope.{Envelope}
 use Rattle.canvas_history.specs.Seats.{Desk}
 use Rattle.canvas_history.specs.Roster.{Roster, roster_of}
-use Rattle.canvas_history.specs.Queue.{take, redeliver, HasTaken}
+use Rattle.canvas_history.specs.Queue.{redeliver, HasTaken}
 use Rattle.canvas_history.specs.Callers.{told}
 use Rattle.canvas_history.specs.History.{calls}
-use Rattle.canvas_runs.specs.Core.{resting, over, is_inside, to_queue}
+use Rattle.canvas_runs.specs.Core.{resting, over, is_inside}
 use Rattle.canvas_runs.specs.Calls.{QueueAnswered}
 use Rattle.canvas_runs.specs.Following.{Pass, Seat}
 use Rattle.canvas_history.specs.Lists.{Each}
@@ -20,10 +20,11 @@ use Rattle.canvas_runs.specs.Book.{book_on}
 use Rattle.canvas_core.specs.CorePast.{task_in}
 use Rattle.canvas_core.specs.SeatRights.{Can}
 use Rattle.canvas_runs.specs.Tally.{greatest_count}
-use Rattle.canvas_core.specs.CoreState.{Standing, Progress, HasFollowed, begun as new_core, after_reply, asked, failing, held}
+use Rattle.canvas_core.specs.CoreState.{Left, Standing, Progress, HasFollowed, located, next, begun as new_core, after_reply, failing, held}
 use Rattle.canvas_worker.specs.WorkerSteps.{AnsweredByCall, FromHeld, Batched, Delivered}
 use Rattle.canvas_core.specs.declared.ask.Ask.{Ask}
-use Rattle.canvas_core.specs.declared.ask.Ask.TheVariants.{Store, Part, Ack, Rest}
+use Rattle.canvas_core.specs.declared.ask.Ask.TheVariants.{Take, Store, Part, Ack, Rest}
+use Rattle.canvas_core.specs.declared.ask.Reply.{Reply}
 use Rattle.canvas_core.specs.declared.cause.Cause.{Cause}
 use Rattle.canvas_core.specs.declared.cause.Cause.TheVariants.{Memory}
 use Rattle.canvas_worker.specs.declared.record.Record.{Record}
@@ -63,11 +64,15 @@ working_begun broker desk number pass seat =
       parts = 0;
     }
 
+-- what its core has left to do, with the tasks of the members that the plan has
+abbrev pub left_at : Work → Left
+left_at w = located (book_on w.desk.plan) w.core.left
+
 abbrev pub progress : Work → Progress
 progress w = record {
   pass = w.pass;
   seat = w.seat;
-  left = w.core.left;
+  left = left_at w;
   current = held w.core;
   held = w.held;
   tally =
@@ -99,7 +104,7 @@ with_core w c =
     }
 
 -- its core was answered; and where memory was refused for that
-abbrev pub with_answer : Behaviour → Work → Answer → Work
+abbrev pub with_answer : Behaviour → Work → Reply → Work
 with_answer behaviour w r = with_core w (after_reply behaviour (book_on w.desk.plan) w.core r)
 
 abbrev pub lost : Work → Work
@@ -176,7 +181,7 @@ pub record Ready (w : Work) : Type 0 where
   pub home : w.seat.of ≡ w.desk.id
   pub plan : (l : Line) × IsPlan l × (w.desk.plan ≡ roster_of l)
   pub inside : w.core.is_out ≡ false
-  pub can : Can w.desk.plan w.seat w.core.left
+  pub can : Can w.desk.plan w.seat (left_at w)
   pub rested : w.core.left ≡ resting → (w.held ≡ []) × Empties w.pass
   -- a script that is open has an envelope, of whose message the core knows the task, and each
   -- envelope in hand may be delivered again
@@ -199,7 +204,7 @@ pub data Acts (behaviour : Behaviour) (plan : Roster) (p q : Progress) : Type 0 
 -- done, but the next take is of one alone. So no two polls in a row find none.
 abbrev pub FindsNone : Work → Work → Type 0
 FindsNone w v =
-    (asked w.core.left ≡ to_queue take) × (w.held ≡ []) × (w.alone ≡ false) × (v ≡ with_alone w)
+    (next w.core ≡ Take) × (w.held ≡ []) × (w.alone ≡ false) × (v ≡ with_alone w)
 
 -- What one poll does where the gate lets the worker go on: one ask of its core is answered, or the
 -- batch that was due gave none.

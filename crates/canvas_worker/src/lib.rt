@@ -16,7 +16,9 @@ mod working;
 ghost use Rattle.canvas_worker.specs.Finished.{WorkersStart, WorkersFinish};
 ghost use Rattle.canvas_worker.specs.StepLaws.{Rests, CallFirst, HeldFirst, BatchFirst, AgainFirst, TakenCan, StillCan};
 
-pub use canvas_core::{Ask, Book, Cause, Core, Reply};
+pub use canvas_core::{
+    Ask, Book, Cause, Core, Reply, law_of_answers, law_of_cores, law_of_ends, law_of_seats,
+};
 pub use canvas_runs::When;
 pub use gate::{Gate, OpenGate};
 pub use in_flight::InFlight;

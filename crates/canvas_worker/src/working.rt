@@ -1,12 +1,14 @@
 //! A worker in the middle of its work.
 
 ghost use Rattle.std.specs.Prelude.{◌≡◌, Some, Ok, IsSome, IfOk, IfErr, OnErr, MatchResult, true};
-ghost use Rattle.canvas_runs.specs.Core.{from_queue, is_inside};
-ghost use Rattle.canvas_core.specs.Asks.{suits, shown, replied, FoundInRange, Grows};
+ghost use Rattle.canvas_runs.specs.Book.{book_on};
+ghost use Rattle.canvas_runs.specs.Core.{is_inside};
+ghost use Rattle.canvas_core.specs.Asks.{suits, FoundInRange, FoundOf, Grows};
 ghost use Rattle.canvas_worker.specs.GateAnswers.{asks_at, passed_after, Heard, Heeds, EndsHeeding};
-ghost use Rattle.canvas_core.specs.CoreState.{asked, held};
+ghost use Rattle.canvas_core.specs.CoreState.{next, held};
 ghost use Rattle.canvas_worker.specs.Polls.{Ready, EndsFor, Acted, Pends, EndsWith, Leaves, Redelivered, working_begun, with_answer, lost, one_taken};
 ghost use Rattle.canvas_core.specs.declared.ask.Ask.TheVariants as ask;
+ghost use Rattle.canvas_core.specs.declared.ask.Reply.TheVariants.{Taken};
 ghost use Rattle.canvas_core.specs.declared.cause.Cause.TheVariants as cause;
 ghost use Rattle.canvas_worker.specs.declared.working.Said.TheVariants.{Wait, Again, On};
 
@@ -155,15 +157,15 @@ impl<'a, R: Wait> Working<'a, R> {
 
     /// Answers the core.
     fn answer<T: Tasks>(&mut self, tasks: &T, reply: Reply) -> Result<(), End>
-        requires suits { suits (shown self.old.core.task (asked self.old.core.left)) reply ≡ true }
+        requires suits { suits (next self.old.core) reply ≡ true }
+        requires found { FoundOf (book_on self.old.desk.plan) reply (next self.old.core) }
         requires in_range { FoundInRange reply }
         ensures value { MatchResult result
-            (λ _. self.new ≡ with_answer (T.behaviour tasks.now) self.old (replied reply))
+            (λ _. self.new ≡ with_answer (T.behaviour tasks.now) self.old reply)
             (λ e. (self.new ≡ lost self.old) × (e.fault ≡ Some cause.Memory)) }
         ensures memory { OnErr result (Grows reply) }
     {
-        let (alloc, backend) = (self.alloc, self.backend);
-        match self.core.answer(alloc, backend.roster(), tasks, reply) {
+        match self.core.answer(self.backend, tasks, reply) {
             Ok(()) => Ok(()),
             Err(_) => Err(self.fail()),
         }
@@ -171,10 +173,11 @@ impl<'a, R: Wait> Working<'a, R> {
 
     /// Answers the core inside the script of a message, which may end with that.
     fn reply<T: Tasks>(&mut self, tasks: &T, reply: Reply) -> Result<(), End>
-        requires suits { suits (shown self.old.core.task (asked self.old.core.left)) reply ≡ true }
+        requires suits { suits (next self.old.core) reply ≡ true }
+        requires found { FoundOf (book_on self.old.desk.plan) reply (next self.old.core) }
         requires in_range { FoundInRange reply }
         ensures value { MatchResult result
-            (λ _. self.new ≡ with_answer (T.behaviour tasks.now) self.old (replied reply))
+            (λ _. self.new ≡ with_answer (T.behaviour tasks.now) self.old reply)
             (λ e. (self.new ≡ lost self.old) × (e.fault ≡ Some cause.Memory)) }
         ensures memory { OnErr result (Grows reply) }
     {
@@ -189,9 +192,9 @@ impl<'a, R: Wait> Working<'a, R> {
 
     /// Gives an envelope to the core.
     fn give<T: Tasks>(&mut self, tasks: &T, envelope: Letter) -> Result<(), End>
-        requires { shown self.old.core.task (asked self.old.core.left) ≡ ask.Take }
+        requires { next self.old.core ≡ ask.Take }
         ensures { MatchResult result (λ _. self.new
-            ≡ one_taken (with_answer (T.behaviour tasks.now) self.old (from_queue (Some envelope))))
+            ≡ one_taken (with_answer (T.behaviour tasks.now) self.old (Taken (Some envelope))))
             (λ e. (self.new ≡ lost self.old) × (e.fault ≡ Some cause.Memory)) }
     {
         self.idle = 0;
@@ -280,7 +283,7 @@ impl<'a, R: Wait> Working<'a, R> {
             → MatchResult result (λ _. Acted (T.behaviour tasks.now) self.old self.new)
             (λ e. EndsWith (T.behaviour tasks.now) self.old e.fault self.new) }
         ensures ends { said ≡ On → IfErr result
-            (λ e. EndsFor (shown self.old.core.task (asked self.old.core.left)) e.fault) }
+            (λ e. EndsFor (next self.old.core) e.fault) }
     {
         match said {
             Said::Wait => Ok(()),

@@ -7,7 +7,7 @@ use Rattle.canvas_history.specs.Seats.{Desk}
 use Rattle.canvas_history.specs.Roster.{Roster}
 use Rattle.canvas_history.specs.Queue as queue
 use Rattle.canvas_history.specs.Passes.{Took}
-use Rattle.canvas_runs.specs.Book.{book_on}
+use Rattle.canvas_runs.specs.Book.{Book, book_on}
 use Rattle.canvas_runs.specs.Calls.{backend_call, held_by}
 use Rattle.canvas_runs.specs.Core as C
 use Rattle.canvas_runs.specs.Core.{answered, is_inside, Suits, ReadsBack}
@@ -17,15 +17,21 @@ use Rattle.canvas_runs.specs.Tally.{Tally, Counted, dropping, greatest_count}
 use Rattle.canvas_core.specs.EnvelopeWorker.{enveloped}
 use Rattle.canvas_core.specs.CorePast.{task_in}
 use Rattle.canvas_core.specs.SeatRights.{Can}
-use Rattle.canvas_core.specs.CoreState.{Standing, Progress, asked, drops, after_reply, held, kept_next, task_next}
+use Rattle.canvas_core.specs.CoreState.{Standing, Progress, located, asked, next, left_told, drops, after_reply, held, kept_next, task_next}
+use Rattle.canvas_core.specs.declared.ask.Ask.TheVariants.{Take}
+use Rattle.canvas_core.specs.declared.ask.Reply.{Reply}
+use Rattle.canvas_core.specs.declared.ask.Reply.TheVariants as R
+use Rattle.canvas_core.specs.steps.Members.{members_in}
 use Rattle.canvas_worker.specs.WorkerSteps.{Batched, FromHeld}
-use Rattle.canvas_worker.specs.Polls.{Work, progress, with_core, with_answer, lost, one_taken, CanDeliver, in_hand, Ready, gives_held, answers, keeps_batch, Acted, Leaves, Ends, EndsWith}
+use Rattle.canvas_worker.specs.Polls.{Work, left_at, progress, with_core, with_answer, lost, one_taken, CanDeliver, in_hand, Ready, gives_held, answers, keeps_batch, Acted, Leaves, Ends, EndsWith}
 use Rattle.canvas_core.specs.declared.cause.Cause.TheVariants.{Memory}
 use Rattle.canvas_worker.specs.declared.record.Record.{Record}
 use Rattle.canvas_worker.specs.declared.working.End.{End}
-use Rattle.canvas_core.proofs.Rights.Asking.{may_go_on}
-use Rattle.canvas_core.proofs.Cores.CorePasts.{book_step, task_step}
-use Rattle.canvas_core.proofs.Cores.ShownAsks.{drops_so, takes_taking}
+use Rattle.canvas_core.proofs.Rights.Asking.{may_go_on, can_sound}
+use Rattle.canvas_core.proofs.Cores.Sound.{Sound}
+use Rattle.canvas_core.proofs.Cores.Located.{told_located, reads_located}
+use Rattle.canvas_core.proofs.Cores.CorePasts.{book_told, task_told}
+use Rattle.canvas_core.proofs.Cores.ShownAsks.{is_take, drops_so, takes_taking, reads_back}
 use Rattle.canvas_worker.proofs.InHand.{batch_can, but_open}
 use Rattle.canvas_core.proofs.Cores.Resting.{given_never}
 use Rattle.canvas_worker.proofs.Turns.{unchanged, one_more, tallied, some_none}
@@ -40,7 +46,7 @@ same_tallies e f g h i = cc
 
 -- Where from w on es were taken, and e is the first of all that is held then; u is the worker before its core is given it.
 pub record Takes (w u : Work) (es : List Envelope) (e : Envelope) : Type 0 where
-  pub asked_is : asked w.core.left ≡ C.to_queue queue.take
+  pub asks : next w.core ≡ Take
   pub broker : u.broker ≡ w.broker
   pub desk : u.desk ≡ w.desk
   pub number : u.number ≡ w.number
@@ -59,38 +65,53 @@ module _ (behaviour : Behaviour) (w u : Work) (es : List Envelope) (e : Envelope
   abbrev plan : Roster
   plan = w.desk.plan
 
+  abbrev book : Book
+  book = book_on plan
+
+  abbrev reply : Reply
+  reply = R.Taken (Some e)
+
+  asked_is : asked (left_at w) ≡ C.to_queue queue.take
+  asked_is = is_take book w.core x.asks
+
+  suits_left : Suits (asked (left_at w)) (C.from_queue (Some e))
+  suits_left = subst (λ b. Suits b (C.from_queue (Some e))) (sym asked_is) tt
+
+  sound : Sound book (left_at w)
+  sound = can_sound plan w.seat (left_at w) ready.can
+
+  told : located book (left_told behaviour book w.core.left reply) ≡ answered (enveloped behaviour plan) (left_at w) (C.from_queue (Some e))
+  told = told_located behaviour book (members_in plan) w.core.left w.core.task reply sound tt
+
   -- with what was taken, before the core is given any of it
   abbrev between : Progress
-  between = record { pass = u.pass; seat = w.seat; left = w.core.left; current = held w.core; held = w.held ++ es; tally = (progress w).tally }
+  between = record { pass = u.pass; seat = w.seat; left = left_at w; current = held w.core; held = w.held ++ es; tally = (progress w).tally }
 
   batched : Batched (progress w) between es
   batched = (refl, x.took, refl, refl, refl, refl)
 
   abbrev core : Standing
   core = record {
-    left = answered (enveloped behaviour plan) w.core.left (C.from_queue (Some e));
+    left = left_told behaviour book w.core.left reply;
     is_out = false;
     dropped = min greatest_count
         (w.core.dropped + of_queue (dropping plan) (C.to_queue queue.take) (C.from_queue (Some e)));
-    kept = kept_next (book_on plan) w.core.left w.core.kept (C.from_queue (Some e));
-    task =
-        task_next (book_on plan) w.core.left w.core.task (C.from_queue (Some e));
+    kept = kept_next book w.core.left w.core.kept (C.from_queue (Some e));
+    task = task_next book w.core.left w.core.task (C.from_queue (Some e));
   }
 
-  core_is : after_reply behaviour (book_on u.desk.plan) u.core (C.from_queue (Some e)) ≡ core
+  core_is : after_reply behaviour (book_on u.desk.plan) u.core reply ≡ core
   core_is =
-      let so : drops (book_on plan) w.core.left (C.from_queue (Some e)) ≡ of_queue (dropping plan) (C.to_queue queue.take) (C.from_queue (Some e)) =
-      drops_so plan w.core.left (C.from_queue (Some e)) ∙ ap (λ b. of_queue (dropping plan) b (C.from_queue (Some e))) x.asked_is in
-      ap (λ (d : Desk). after_reply behaviour (book_on d.plan) u.core (C.from_queue (Some e))) x.desk
-      ∙ ap (λ c. after_reply behaviour (book_on plan) c (C.from_queue (Some e))) x.core
+      let so : drops book w.core.left (C.from_queue (Some e)) ≡ of_queue (dropping plan) (C.to_queue queue.take) (C.from_queue (Some e)) =
+      drops_so plan w.core.left (C.from_queue (Some e)) ∙ ap (λ b. of_queue (dropping plan) b (C.from_queue (Some e))) asked_is in
+      ap (λ (d : Desk). after_reply behaviour (book_on d.plan) u.core reply) x.desk
+      ∙ ap (λ c. after_reply behaviour book c reply) x.core
       ∙ ap (λ (n : ℕ). record {
-        left = answered (enveloped behaviour plan) w.core.left (C.from_queue (Some e));
+        left = left_told behaviour book w.core.left reply;
         is_out = false;
-        dropped = min greatest_count
-            (w.core.dropped + n);
-        kept = kept_next (book_on plan) w.core.left w.core.kept (C.from_queue (Some e));
-        task =
-            task_next (book_on plan) w.core.left w.core.task (C.from_queue (Some e));
+        dropped = min greatest_count (w.core.dropped + n);
+        kept = kept_next book w.core.left w.core.kept (C.from_queue (Some e));
+        task = task_next book w.core.left w.core.task (C.from_queue (Some e));
       }) so
 
   abbrev given : Work
@@ -105,35 +126,43 @@ module _ (behaviour : Behaviour) (w u : Work) (es : List Envelope) (e : Envelope
     dropped = refl;
   }
 
-  back : ReadsBack (enveloped behaviour plan) w.core.left
-  back = subst (λ s. ReadsBack (enveloped behaviour plan) s) (sym (takes_taking w.core.left x.asked_is)) tt
+  back : ReadsBack (enveloped behaviour plan) (left_at w)
+  back = reads_located behaviour book book w.core.left (reads_back w.core.left w.core.task x.asks)
 
   current : held core ≡ Some e
   current =
-      book_step behaviour (book_on plan) w.core.left w.core.kept (C.from_queue (Some e)) (subst (λ b. Suits b (C.from_queue (Some e))) (sym x.asked_is) tt)
-      ∙ ap (λ b. held_by (held w.core) b (C.from_queue (Some e))) x.asked_is
+      book_told behaviour book (members_in plan) w.core.left w.core.kept w.core.task reply sound suits_left tt
+      ∙ ap (λ b. held_by (held w.core) b (C.from_queue (Some e))) asked_is
 
-  suits_left : Suits (asked w.core.left) (C.from_queue (Some e))
-  suits_left = subst (λ b. Suits b (C.from_queue (Some e))) (sym x.asked_is) tt
-
-  names_task : is_inside core.left ≡ true → core.task ≡ task_in (book_on plan) (held core)
+  names_task : is_inside core.left ≡ true → core.task ≡ task_in book (held core)
   names_task i =
-      task_step behaviour (book_on plan) w.core.left w.core.kept w.core.task (C.from_queue (Some e)) suits_left ready.task i
-      ∙ ap (task_in (book_on plan)) (sym (book_step behaviour (book_on plan) w.core.left w.core.kept (C.from_queue (Some e)) suits_left))
+      task_told behaviour book (members_in plan) w.core.left w.core.kept w.core.task reply sound suits_left tt ready.task i
+      ∙ ap (task_in book) (sym (book_told behaviour book (members_in plan) w.core.left w.core.kept w.core.task reply sound suits_left tt))
+
+  left_is : left_at given ≡ answered (enveloped behaviour plan) (left_at w) (C.from_queue (Some e))
+  left_is = ap (λ (d : Desk). located (book_on d.plan) core.left) x.desk ∙ told
 
   from_held : FromHeld behaviour plan between (progress given) e
-  from_held = (record { asked = sym x.asked_is; suits = tt; back = back; counts = counted; left = refl; current = current }, x.held, refl, x.seat)
+  from_held = (
+    record { asked = sym asked_is; suits = tt; back = back; counts = counted; left = left_is; current = current },
+    x.held,
+    refl,
+    x.seat,
+  )
 
   again : Each (CanDeliver u.pass) (in_hand (held core) u.held)
   again =
       subst (λ h. Each (CanDeliver u.pass) (in_hand h u.held)) (sym current)
       (subst (Each (CanDeliver u.pass)) x.held (batch_can es w.held w.pass u.pass x.took (but_open w.pass (held w.core) w.held ready.again)))
 
-  can : Can plan u.seat core.left
+  can : Can plan u.seat (located book core.left)
   can =
-      may_go_on behaviour plan ready.plan w.seat u.seat w.core.left (C.from_queue (Some e)) ready.can
-      (subst (λ b. Suits b (C.from_queue (Some e))) (sym x.asked_is) tt)
-      (subst (λ b. Serves plan w.seat (backend_call b (C.from_queue (Some e))) u.seat) (sym x.asked_is) x.seat)
+      subst (Can plan u.seat) (sym told)
+      (may_go_on behaviour plan ready.plan w.seat u.seat (left_at w) (C.from_queue (Some e)) ready.can suits_left
+      (subst (λ b. Serves plan w.seat (backend_call b (C.from_queue (Some e))) u.seat) (sym asked_is) x.seat))
+
+  taking_is : left_at w ≡ C.taking
+  taking_is = ap (located book) (takes_taking w.core.left w.core.task x.asks)
 
   goes : Acted behaviour w given
   goes = record {
@@ -145,9 +174,9 @@ module _ (behaviour : Behaviour) (w u : Work) (es : List Envelope) (e : Envelope
       home = ap (λ (s : Seat). s.of) x.seat ∙ ready.home ∙ sym (ap (λ (d : Desk). d.id) x.desk);
       plan = (ready.plan.0, ready.plan.1, ap (λ (d : Desk). d.plan) x.desk ∙ ready.plan.2);
       inside = refl;
-      can = subst (λ (d : Desk). Can d.plan u.seat core.left) (sym x.desk) can;
+      can = subst (λ (d : Desk). Can d.plan u.seat (located (book_on d.plan) core.left)) (sym x.desk) can;
       rested = λ rests. absurd (given_never behaviour plan e
-          (subst (λ s. answered (enveloped behaviour plan) s (C.from_queue (Some e)) ≡ C.resting) (takes_taking w.core.left x.asked_is) rests));
+          (ap (λ s. answered (enveloped behaviour plan) s (C.from_queue (Some e))) (sym taking_is) ∙ (sym told ∙ ap (located book) rests)));
       current = λ _. subst (λ h. IsSome h) (sym current) refl;
       task = λ i. subst (λ (d : Desk). core.task ≡ task_in (book_on d.plan) (held core)) (sym x.desk) (names_task i);
       again = again;
@@ -157,7 +186,7 @@ module _ (behaviour : Behaviour) (w u : Work) (es : List Envelope) (e : Envelope
     moved = answers (gives_held es e between batched from_held);
   }
 
-  told_is : (v : Work) → v ≡ one_taken (with_answer behaviour u (C.from_queue (Some e))) → Acted behaviour w v
+  told_is : (v : Work) → v ≡ one_taken (with_answer behaviour u (R.Taken (Some e))) → Acted behaviour w v
   told_is v is = subst (λ z. Acted behaviour w z) (sym (is ∙ ap (λ c. one_taken (with_core u c)) core_is)) goes
 
   same_tally : (progress (lost u)).tally ≡ (progress w).tally
@@ -182,13 +211,13 @@ module _ (behaviour : Behaviour) (w u : Work) (es : List Envelope) (e : Envelope
   lost_is v is s leaves = fails s (subst (λ z. Leaves z (Some Memory) s) is leaves)
 
   well : {A : Type 0} (result : Result A End) (v : Work)
-      → MatchResult result (λ _. v ≡ one_taken (with_answer behaviour u (C.from_queue (Some e)))) (λ end. (v ≡ lost u) × (end.fault ≡ Some Memory))
+      → MatchResult result (λ _. v ≡ one_taken (with_answer behaviour u (R.Taken (Some e)))) (λ end. (v ≡ lost u) × (end.fault ≡ Some Memory))
       → MatchResult result (λ _. Acted behaviour w v) (λ end. EndsWith behaviour w end.fault v)
   well (Ok _) v is = told_is v is
   well (Err end) v is = subst (λ f. EndsWith behaviour w f v) (sym is.1) (lost_is v is.0)
 
 pub given_well : {A : Type 0} (behaviour : Behaviour) (w u v : Work) (es : List Envelope) (e : Envelope) (result : Result A End)
-    → MatchResult result (λ _. v ≡ one_taken (with_answer behaviour u (C.from_queue (Some e)))) (λ end. (v ≡ lost u) × (end.fault ≡ Some Memory)) → Ready w
+    → MatchResult result (λ _. v ≡ one_taken (with_answer behaviour u (R.Taken (Some e)))) (λ end. (v ≡ lost u) × (end.fault ≡ Some Memory)) → Ready w
     → Takes w u es e
     → MatchResult result (λ _. Acted behaviour w v) (λ end. EndsWith behaviour w end.fault v)
 given_well behaviour w u v es e result is ready x = well behaviour w u es e ready x result v is

@@ -3,10 +3,9 @@
 ghost use Rattle.std.specs.Prelude.{◌≡◌, [], None, Some, IsOk, IfErr, MatchResult, false};
 ghost use Rattle.canvas_task.specs.Apply.{IsInRange};
 ghost use Rattle.canvas_runs.specs.Core.{ReadsBack};
-ghost use Rattle.canvas_core.specs.Asks.{shown};
 ghost use Rattle.canvas_core.specs.Books.{no_book};
 ghost use Rattle.canvas_core.specs.EnvelopeWorker.{enveloped_by, no_tasks};
-ghost use Rattle.canvas_core.specs.CoreState.{asked};
+ghost use Rattle.canvas_core.specs.CoreState.{next};
 ghost use Rattle.canvas_worker.specs.Polls.{Ready, EndsFor, Acted, EndsWith};
 ghost use Rattle.canvas_core.specs.declared.ask.Ask.TheVariants as ask;
 ghost use Rattle.canvas_core.specs.declared.cause.Cause.TheVariants as cause;
@@ -24,7 +23,7 @@ const PATIENCE: u32 = 8;
 impl<R: Wait> Working<'_, R> {
     fn take_one<T: Tasks>(&mut self, tasks: &T) -> Result<(), End>
         requires ready { Ready self.old }
-        requires asks { shown self.old.core.task (asked self.old.core.left) ≡ ask.Take }
+        requires asks { next self.old.core ≡ ask.Take }
         requires bare { self.old.held ≡ [] }
         ensures acted { MatchResult result (λ _. Acted (T.behaviour tasks.now) self.old self.new)
             (λ e. EndsWith (T.behaviour tasks.now) self.old e.fault self.new) }
@@ -48,7 +47,7 @@ impl<R: Wait> Working<'_, R> {
     /// others may have come between, so a batch of none doesn't say that there is no envelope.
     fn take_batch<T: Tasks>(&mut self, tasks: &T) -> Result<(), End>
         requires ready { Ready self.old }
-        requires asks { shown self.old.core.task (asked self.old.core.left) ≡ ask.Take }
+        requires asks { next self.old.core ≡ ask.Take }
         requires bare { self.old.held ≡ [] }
         requires due { self.old.alone ≡ false }
         ensures acted { MatchResult result (λ _. Acted (T.behaviour tasks.now) self.old self.new)
@@ -71,7 +70,7 @@ impl<R: Wait> Working<'_, R> {
 
     fn take<T: Tasks>(&mut self, tasks: &T) -> Result<(), End>
         requires ready { Ready self.old }
-        requires asks { shown self.old.core.task (asked self.old.core.left) ≡ ask.Take }
+        requires asks { next self.old.core ≡ ask.Take }
         ensures acted { MatchResult result (λ _. Acted (T.behaviour tasks.now) self.old self.new)
             (λ e. EndsWith (T.behaviour tasks.now) self.old e.fault self.new) }
         ensures memory { IfErr result (λ e. e.fault ≡ Some cause.Memory) }
@@ -88,7 +87,7 @@ impl<R: Wait> Working<'_, R> {
 
     fn publish<T: Tasks>(&mut self, tasks: &T) -> Result<(), End>
         requires ready { Ready self.old }
-        requires asks { shown self.old.core.task (asked self.old.core.left) ≡ ask.Publish }
+        requires asks { next self.old.core ≡ ask.Publish }
         requires reads_back { ReadsBack (enveloped_by no_tasks no_book) self.old.core.left }
         ensures acted { MatchResult result (λ _. Acted (T.behaviour tasks.now) self.old self.new)
             (λ e. EndsWith (T.behaviour tasks.now) self.old e.fault self.new) }
@@ -112,8 +111,7 @@ impl<R: Wait> Working<'_, R> {
 
     fn store<T: Tasks>(&mut self, tasks: &T, task: TaskNo, outcome: Outcome) -> Result<(), End>
         requires ready { Ready self.old }
-        requires asks { shown self.old.core.task (asked self.old.core.left)
-            ≡ ask.Store task outcome }
+        requires asks { next self.old.core ≡ ask.Store task outcome }
         requires reads_back { ReadsBack (enveloped_by no_tasks no_book) self.old.core.left }
         requires in_range { IsInRange outcome }
         ensures acted { MatchResult result (λ _. Acted (T.behaviour tasks.now) self.old self.new)
@@ -132,7 +130,7 @@ impl<R: Wait> Working<'_, R> {
 
     fn return_part<T: Tasks>(&mut self, tasks: &T, group: GroupNo, task: TaskNo) -> Result<(), End>
         requires ready { Ready self.old }
-        requires asks { shown self.old.core.task (asked self.old.core.left) ≡ ask.Part group task }
+        requires asks { next self.old.core ≡ ask.Part group task }
         requires reads_back { ReadsBack (enveloped_by no_tasks no_book) self.old.core.left }
         ensures acted { MatchResult result (λ _. Acted (T.behaviour tasks.now) self.old self.new)
             (λ e. EndsWith (T.behaviour tasks.now) self.old e.fault self.new) }
@@ -144,23 +142,28 @@ impl<R: Wait> Working<'_, R> {
         self.reply(tasks, Reply::Counted(count))
     }
 
-    fn read<T: Tasks>(&mut self, tasks: &T, task: TaskNo) -> Result<(), End>
+    /// Looks the member up, and reads its last task.
+    fn read<T: Tasks>(&mut self, tasks: &T, group: GroupNo, place: u32) -> Result<(), End>
         requires ready { Ready self.old }
-        requires asks { shown self.old.core.task (asked self.old.core.left) ≡ ask.Read task }
+        requires asks { next self.old.core ≡ ask.Read group place }
         requires reads_back { ReadsBack (enveloped_by no_tasks no_book) self.old.core.left }
         ensures acted { MatchResult result (λ _. Acted (T.behaviour tasks.now) self.old self.new)
             (λ e. EndsWith (T.behaviour tasks.now) self.old e.fault self.new) }
         ensures memory { IfErr result (λ e. e.fault ≡ Some cause.Memory) }
     {
         let backend = self.backend;
-        let found = backend.read(&mut self.seat, task);
-        self.reply(tasks, Reply::Found(found))
+        match backend.member(group, place) {
+            Some(task) => {
+                let found = backend.read(&mut self.seat, task);
+                self.reply(tasks, Reply::Found(task, found))
+            }
+            None => unreachable!(),
+        }
     }
 
     fn acknowledge<T: Tasks>(&mut self, tasks: &T) -> Result<(), End>
         requires ready { Ready self.old }
-        requires asks { shown self.old.core.task (asked self.old.core.left)
-            ≡ ask.Ack self.old.core.task }
+        requires asks { next self.old.core ≡ ask.Ack self.old.core.task }
         requires reads_back { ReadsBack (enveloped_by no_tasks no_book) self.old.core.left }
         ensures acted { MatchResult result (λ _. Acted (T.behaviour tasks.now) self.old self.new)
             (λ e. EndsWith (T.behaviour tasks.now) self.old e.fault self.new) }
@@ -171,7 +174,7 @@ impl<R: Wait> Working<'_, R> {
 
     fn rest<T: Tasks>(&mut self, tasks: &T) -> Result<(), End>
         requires ready { Ready self.old }
-        requires asks { shown self.old.core.task (asked self.old.core.left) ≡ ask.Rest }
+        requires asks { next self.old.core ≡ ask.Rest }
         requires reads_back { ReadsBack (enveloped_by no_tasks no_book) self.old.core.left }
         ensures acted { MatchResult result (λ _. Acted (T.behaviour tasks.now) self.old self.new)
             (λ e. EndsWith (T.behaviour tasks.now) self.old e.fault self.new) }
@@ -203,14 +206,14 @@ impl<R: Wait> Working<'_, R> {
         ensures acted { MatchResult result (λ _. Acted (T.behaviour tasks.now) self.old self.new)
             (λ e. EndsWith (T.behaviour tasks.now) self.old e.fault self.new) }
         ensures ends { IfErr result
-            (λ e. EndsFor (shown self.old.core.task (asked self.old.core.left)) e.fault) }
+            (λ e. EndsFor (next self.old.core) e.fault) }
     {
         match self.core.next() {
             Ask::Take => self.take(tasks),
             Ask::Publish => self.publish(tasks),
             Ask::Store(task, outcome) => self.store(tasks, task, outcome),
             Ask::Part(group, task) => self.return_part(tasks, group, task),
-            Ask::Read(task) => self.read(tasks, task),
+            Ask::Read(group, place) => self.read(tasks, group, place),
             Ask::Ack(_) => self.acknowledge(tasks),
             Ask::Rest => self.rest(tasks),
             Ask::End => Err(self.fail()),

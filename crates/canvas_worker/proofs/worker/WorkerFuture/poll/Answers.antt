@@ -1,4 +1,4 @@
-use Rattle.std.proofs.Common.{rules, ◌≡◌, ℕ, Bool, Some}
+use Rattle.std.proofs.Common.{rules, ◌≡◌, ℕ, Some}
 use Rattle.canvas_task.specs.Apply.{Behaviour}
 use Rattle.canvas_worker.specs.Polls.{Work, TellsOf}
 use Rattle.canvas_worker.proofs.Polls.Held.{held_back}

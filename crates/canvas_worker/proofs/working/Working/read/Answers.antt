@@ -1,9 +1,14 @@
-use Rattle.std.proofs.Common.{rules, ◌≡◌, refl, subst, ◌≤◌}
+use Rattle.std.proofs.Common.{rules, ◌≡◌, Some, refl, sym, subst, ◌≤◌}
+use Rattle.std.specs.Prelude.{slice_get}
 use Rattle.canvas_history.specs.Table as table
+use Rattle.canvas_history.specs.Roster.{members}
+use Rattle.canvas_runs.specs.Book.{book_on}
 use Rattle.canvas_runs.specs.Core as C
 use Rattle.canvas_worker.specs.steps.Held.{held_in, alone_in}
 use Rattle.canvas_core.specs.CoreState.{asked}
-use Rattle.canvas_worker.specs.Polls.{Work}
+use Rattle.canvas_core.specs.Asks.{FoundOf}
+use Rattle.canvas_core.specs.declared.ask.Reply.TheVariants as R
+use Rattle.canvas_worker.specs.Polls.{Work, left_at}
 use Rattle.canvas_core.proofs.Cores.Resting.{busy_never}
 use Rattle.canvas_core.specs.SeatRights.{LetsAsk}
 use Rattle.canvas_core.proofs.Rights.Asking.{may_ask}
@@ -15,9 +20,10 @@ pub read-found-requires-clause-task : goal.read-found-requires-clause-task
 read-found-requires-clause-task g c =
     let w : Work = c.args.self.now in
     let same : w.desk ≡ c.self.inside.backend.now = search rules in
-    subst (λ d. c.args.task ≤ d.plan.tasks) same
-    (subst (LetsAsk w.desk.plan w.seat) (is_read w.core.task c.args.task (asked w.core.left) c.requires.asks)
-    (may_ask w.desk.plan c.requires.ready.plan w.seat w.core.left c.requires.ready.can))
+    let there : slice_get (members w.desk.plan c.args.group) c.args.place ≡ Some c.in-Some.task = search rules in
+    subst (λ d. c.in-Some.task ≤ d.plan.tasks) same
+    (subst (LetsAsk w.desk.plan w.seat) (is_read (book_on w.desk.plan) c.args.group c.args.place c.in-Some.task w.core c.requires.asks there)
+    (may_ask w.desk.plan c.requires.ready.plan w.seat (left_at w) c.requires.ready.can))
 
 pub returns-clause-acted : goal.returns-clause-acted
 returns-clause-acted g c =
@@ -36,19 +42,22 @@ returns-clause-acted g c =
       first = c.self.inside.first;
       parts = c.self.inside.parts;
     } in
-    let asks : asked w.core.left ≡ C.to_table (table.read c.args.task) = is_read w.core.task c.args.task (asked w.core.left) c.requires.asks in
-    asked_well (g.T.Tasks.behaviour c.args.tasks.now) w u c.reply.new.self (C.to_table (table.read c.args.task))
-    (C.from_table (table.found c.read-found.result)) c.reply.result c.reply.ensures.value c.requires.ready (record {
+    let there : slice_get (members w.desk.plan c.args.group) c.args.place ≡ Some c.in-Some.task = search rules in
+    let asks : asked (left_at w) ≡ C.to_table (table.read c.in-Some.task) =
+    is_read (book_on w.desk.plan) c.args.group c.args.place c.in-Some.task w.core c.requires.asks there in
+    asked_well (g.T.Tasks.behaviour c.args.tasks.now) w u c.reply.new.self (C.to_table (table.read c.in-Some.task))
+    (R.Found c.in-Some.task c.read-found.result) c.reply.result c.reply.ensures.value c.requires.ready (record {
       asked_is = asks;
       suits = tt;
+      found = subst (λ a. FoundOf (book_on w.desk.plan) (R.Found c.in-Some.task c.read-found.result) a) (sym c.requires.asks) there;
       back = c.requires.reads_back;
       beside = search rules;
       bare = tt;
       makes = search rules;
       serves = search rules;
       counts = search rules;
-      still = λ rests. absurd (busy_never (g.T.Tasks.behaviour c.args.tasks.now) w.desk.plan w.core.left (C.from_table (table.found c.read-found.result))
-          (C.to_table (table.read c.args.task)) asks tt rests);
+      still = λ rests. absurd (busy_never (g.T.Tasks.behaviour c.args.tasks.now) w.desk.plan (left_at w) (C.from_table (table.found c.read-found.result))
+          (C.to_table (table.read c.in-Some.task)) asks tt rests);
       none_dropped = refl;
       core = search rules;
     })

@@ -3,8 +3,10 @@ use Rattle.canvas_history.specs.declared.stored.Stored.TheVariants.{First, Again
 use Rattle.canvas_history.specs.Table as table
 use Rattle.canvas_runs.specs.Core as C
 use Rattle.canvas_worker.specs.steps.Held.{held_in, alone_in}
+use Rattle.canvas_runs.specs.Book.{book_on}
 use Rattle.canvas_core.specs.CoreState.{asked}
-use Rattle.canvas_worker.specs.Polls.{Work}
+use Rattle.canvas_core.specs.declared.ask.Reply.TheVariants as R
+use Rattle.canvas_worker.specs.Polls.{Work, left_at}
 use Rattle.canvas_core.proofs.Cores.Resting.{busy_never}
 use Rattle.canvas_core.specs.SeatRights.{LetsAsk}
 use Rattle.canvas_core.proofs.Rights.Asking.{may_ask}
@@ -17,8 +19,8 @@ store-requires-clause-task g c =
     let w : Work = c.args.self.now in
     let same : w.desk ≡ c.self.inside.backend.now = search rules in
     subst (λ d. c.args.task ≤ d.plan.tasks) same
-    (subst (LetsAsk w.desk.plan w.seat) (is_store w.core.task c.args.task c.args.outcome (asked w.core.left) c.requires.asks)
-    (may_ask w.desk.plan c.requires.ready.plan w.seat w.core.left c.requires.ready.can))
+    (subst (LetsAsk w.desk.plan w.seat) (is_store (book_on w.desk.plan) c.args.task c.args.outcome w.core c.requires.asks)
+    (may_ask w.desk.plan c.requires.ready.plan w.seat (left_at w) c.requires.ready.can))
 
 pub returns-in-First-clause-acted : goal.returns-in-First-clause-acted
 returns-in-First-clause-acted g c =
@@ -39,19 +41,20 @@ returns-in-First-clause-acted g c =
       first = c.saturating_add-self-inside.result;
       parts = c.self.inside.parts;
     } in
-    let asks : asked w.core.left ≡ C.to_table (table.store c.args.task c.args.outcome) =
-    is_store w.core.task c.args.task c.args.outcome (asked w.core.left) c.requires.asks in
+    let asks : asked (left_at w) ≡ C.to_table (table.store c.args.task c.args.outcome) =
+    is_store (book_on w.desk.plan) c.args.task c.args.outcome w.core c.requires.asks in
     asked_well (g.T.Tasks.behaviour c.args.tasks.now) w u c.reply.new.self (C.to_table (table.store c.args.task c.args.outcome))
-    (C.from_table (table.was First)) c.reply.result c.reply.ensures.value c.requires.ready (record {
+    (R.Stored First) c.reply.result c.reply.ensures.value c.requires.ready (record {
       asked_is = asks;
       suits = tt;
+      found = tt;
       back = c.requires.reads_back;
       beside = search rules;
       bare = tt;
       makes = search rules;
       serves = search rules;
       counts = search rules;
-      still = λ rests. absurd (busy_never (g.T.Tasks.behaviour c.args.tasks.now) w.desk.plan w.core.left (C.from_table (table.was First))
+      still = λ rests. absurd (busy_never (g.T.Tasks.behaviour c.args.tasks.now) w.desk.plan (left_at w) (C.from_table (table.was First))
           (C.to_table (table.store c.args.task c.args.outcome)) asks tt rests);
       none_dropped = refl;
       core = search rules;
@@ -76,19 +79,20 @@ returns-in-Again-clause-acted g c =
       first = c.self.inside.first;
       parts = c.self.inside.parts;
     } in
-    let asks : asked w.core.left ≡ C.to_table (table.store c.args.task c.args.outcome) =
-    is_store w.core.task c.args.task c.args.outcome (asked w.core.left) c.requires.asks in
+    let asks : asked (left_at w) ≡ C.to_table (table.store c.args.task c.args.outcome) =
+    is_store (book_on w.desk.plan) c.args.task c.args.outcome w.core c.requires.asks in
     asked_well (g.T.Tasks.behaviour c.args.tasks.now) w u c.reply-in-Again.new.self (C.to_table (table.store c.args.task c.args.outcome))
-    (C.from_table (table.was Again)) c.reply-in-Again.result c.reply-in-Again.ensures.value c.requires.ready (record {
+    (R.Stored Again) c.reply-in-Again.result c.reply-in-Again.ensures.value c.requires.ready (record {
       asked_is = asks;
       suits = tt;
+      found = tt;
       back = c.requires.reads_back;
       beside = search rules;
       bare = tt;
       makes = search rules;
       serves = search rules;
       counts = search rules;
-      still = λ rests. absurd (busy_never (g.T.Tasks.behaviour c.args.tasks.now) w.desk.plan w.core.left (C.from_table (table.was Again))
+      still = λ rests. absurd (busy_never (g.T.Tasks.behaviour c.args.tasks.now) w.desk.plan (left_at w) (C.from_table (table.was Again))
           (C.to_table (table.store c.args.task c.args.outcome)) asks tt rests);
       none_dropped = refl;
       core = search rules;

@@ -3,10 +3,8 @@ use Rattle.std.proofs.lemmas.Bool.{false≢true}
 use Rattle.canvas_envelope.specs.declared.envelope.Envelope.{Envelope}
 use Rattle.canvas_history.specs.Passes.{Took}
 use Rattle.canvas_worker.specs.steps.Held.{held_in, alone_in}
-use Rattle.canvas_core.specs.CoreState.{asked}
 use Rattle.canvas_worker.specs.Polls.{Work}
 use Rattle.canvas_worker.proofs.Polls.GivenEnvelope.{given_well}
-use Rattle.canvas_core.proofs.Cores.ShownAsks.{is_take}
 use Rattle.canvas_worker.proofs.working.Working.take.Goals as goal
 
 pub returns-in-Some-clause-acted : goal.returns-in-Some-clause-acted
@@ -18,7 +16,7 @@ returns-in-Some-clause-acted g c =
     let took : Took w.pass [] u.pass = search rules in
     let due : w.alone ≡ false = search rules in
     given_well (g.T.Tasks.behaviour c.args.tasks.now) w u c.give.new.self [] e c.give.result c.give.ensures c.requires.ready (record {
-      asked_is = is_take w.core.task (asked w.core.left) c.requires.asks;
+      asks = c.requires.asks;
       broker = search rules;
       desk = search rules;
       number = search rules;

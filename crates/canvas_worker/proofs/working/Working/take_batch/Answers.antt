@@ -2,10 +2,8 @@ use Rattle.std.proofs.Common.{rules, ◌≡◌, sym, ap, ◌∙◌, subst, false
 use Rattle.std.proofs.lemmas.Bool.{false≢true}
 use Rattle.canvas_envelope.specs.declared.envelope.Envelope.{Envelope}
 use Rattle.canvas_history.specs.Passes.{Took}
-use Rattle.canvas_core.specs.CoreState.{asked}
 use Rattle.canvas_worker.specs.Polls.{Work}
 use Rattle.canvas_worker.proofs.Polls.GivenEnvelope.{given_well}
-use Rattle.canvas_core.proofs.Cores.ShownAsks.{is_take}
 use Rattle.canvas_worker.proofs.Turns.{found_none}
 use Rattle.canvas_worker.proofs.working.Working.take_batch.Goals as goal
 
@@ -18,7 +16,7 @@ returns-in-Some-clause-acted g c =
     let took : Took w.pass es u.pass = search rules in
     let rest : es ≡ e ∷ u.held = search rules in
     given_well (g.T.Tasks.behaviour c.args.tasks.now) w u c.give.new.self es e c.give.result c.give.ensures c.requires.ready (record {
-      asked_is = is_take w.core.task (asked w.core.left) c.requires.asks;
+      asks = c.requires.asks;
       broker = search rules;
       desk = search rules;
       number = search rules;
@@ -41,4 +39,4 @@ returns-in-None-clause-acted g c =
     let took : Took w.pass c.take_batch-batch.result c.take_batch-batch.new.pass = search rules in
     let same : c.take_batch-batch.new.pass ≡ w.pass = subst (λ es. Took w.pass es c.take_batch-batch.new.pass) none took in
     found_none (g.T.Tasks.behaviour c.args.tasks.now) w _ c.requires.ready
-    (is_take w.core.task (asked w.core.left) c.requires.asks, c.requires.bare, c.requires.due, search (rules, same))
+    (c.requires.asks, c.requires.bare, c.requires.due, search (rules, same))

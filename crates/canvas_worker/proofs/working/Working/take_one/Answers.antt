@@ -5,8 +5,10 @@ use Rattle.canvas_history.specs.Queue as queue
 use Rattle.canvas_history.specs.Passes.{Stands, Empties}
 use Rattle.canvas_runs.specs.Core as C
 use Rattle.canvas_worker.specs.steps.Held.{held_in, alone_in}
+use Rattle.canvas_runs.specs.Book.{book_on}
 use Rattle.canvas_core.specs.CoreState.{asked}
-use Rattle.canvas_worker.specs.Polls.{Work}
+use Rattle.canvas_core.specs.declared.ask.Reply.TheVariants as R
+use Rattle.canvas_worker.specs.Polls.{Work, left_at}
 use Rattle.canvas_worker.proofs.Polls.GivenEnvelope.{given_well}
 use Rattle.canvas_core.proofs.Cores.ShownAsks.{is_take, reads_back}
 use Rattle.canvas_worker.proofs.Polls.ToldAnswers.{asked_well}
@@ -19,7 +21,7 @@ returns-in-Some-clause-acted g c =
     let e : Envelope = c.in-Some.envelope in
     let stands : Stands w.pass (calls w.pass.name queue.take (Some e)) u.pass = search rules in
     given_well (g.T.Tasks.behaviour c.args.tasks.now) w u c.give.new.self (e ∷ []) e c.give.result c.give.ensures c.requires.ready (record {
-      asked_is = is_take w.core.task (asked w.core.left) c.requires.asks;
+      asks = c.requires.asks;
       broker = search rules;
       desk = search rules;
       number = search rules;
@@ -39,15 +41,16 @@ pub returns-in-None-clause-acted : goal.returns-in-None-clause-acted
 returns-in-None-clause-acted g c =
     let w : Work = c.args.self.now in
     let u : Work = record { broker = c.self.inside.queue.broker.now; desk = c.self.inside.backend.now; number = c.self.inside.number; pass = c.take.new.pass; seat = c.self.inside.seat; core = c.self.inside.core; held = held_in c.after_none.result; alone = alone_in c.after_none.result; taken = c.self.inside.taken; published = c.self.inside.published; first = c.self.inside.first; parts = c.self.inside.parts } in
-    let asks : asked w.core.left ≡ C.to_queue queue.take = is_take w.core.task (asked w.core.left) c.requires.asks in
+    let asks : asked (left_at w) ≡ C.to_queue queue.take = is_take (book_on w.desk.plan) w.core c.requires.asks in
     let bare : u.held ≡ [] = search rules in
     let empty : Empties u.pass = search rules in
-    asked_well (g.T.Tasks.behaviour c.args.tasks.now) w u c.answer.new.self (C.to_queue queue.take) (C.from_queue None)
+    asked_well (g.T.Tasks.behaviour c.args.tasks.now) w u c.answer.new.self (C.to_queue queue.take) (R.Taken None)
     c.answer.result c.answer.ensures.value c.requires.ready
     (record {
       asked_is = asks;
       suits = tt;
-      back = reads_back w.core.left asks;
+      found = tt;
+      back = reads_back w.core.left w.core.task c.requires.asks;
       beside = (search rules, search rules, search rules, search rules, search rules, bare ∙ sym c.requires.bare, search rules);
       bare = tt;
       makes = search rules;
