@@ -1,6 +1,6 @@
 //! The table of results: for one thread, with seats, and of a plan without tasks.
 
-ghost use Rattle.std.specs.Prelude.{◌≡◌, ◌≢◌, ◌≤◌, ℕ, false, IsTrue, IsSome, IfSome};
+ghost use Rattle.std.specs.Prelude.{◌≡◌, ◌≢◌, ◌≤◌, ℕ, false, IsTrue};
 ghost use Rattle.canvas_history.specs.Roster.{is_chord, is_member};
 ghost use Rattle.canvas_history.specs.Table.{no_results};
 ghost use Rattle.canvas_backend.specs.Plain.{held};
@@ -67,7 +67,7 @@ fn completes_plain(
     Some((stored, backend.part(chord, task)))
 }
 
-/// Whether a second store of task 2 answers Again and leaves the first outcome, and task 4 has none.
+/// Whether a second store of task 2 answers Again and leaves the first outcome; task 4 has none.
 fn keeps_plain(backend: &mut PlainBackend) -> bool
     ensures { (t : ℕ) → (held backend.old).returned t ≡ false
         → (held backend.new).returned t ≡ false }

@@ -15,8 +15,10 @@ use Rattle.canvas_tests.proofs.queues.trade_twice.Lts as types
 -- the closure captures the runtime, the allocator, the broker and a pass
 pub join-one-requires-send-F : goal.join-one-requires-send-F
 join-one-requires-send-F g c κs within =
-    let captures : List RattleType = lent _ (param 0 g.row.R) tt ∷ Global.the_row ∷ lent _ (Broker.the_row Letter.the_row) tt ∷ BrokerPass.the_row Letter.the_row ∷ [] in
-    let all = captured captures (shr_send _ _ _ c.type_bounds.sync-R, (heap, (shr_send _ _ _ (broker Letter.the_row letter), (pass Letter.the_row letter, tt)))) in
+    let captures : List RattleType =
+    lent _ (param 0 g.row.R) tt ∷ Global.the_row ∷ lent _ (Broker.the_row Letter.the_row) tt ∷ BrokerPass.the_row Letter.the_row ∷ [] in
+    let all =
+    captured captures (shr_send _ _ _ c.type_bounds.sync-R, (heap, (shr_send _ _ _ (broker Letter.the_row letter), (pass Letter.the_row letter, tt)))) in
     param_send 1 (types.arg-9-1 g.row.R g.R.laws g.R.Threads-dict g.R.Wait-dict κs) record {
       owned = all.owned;
       leaving = all.leaving;

@@ -17,7 +17,8 @@ returns-clause-own g c =
     let old : Knowledge g.row.T.Denot = c.pass.inside.pass.me.view.client.knows in
     let new : Knowledge g.row.T.Denot = c.push_as.new.pass.me.view.client.knows in
     elim c.match-push_as.branch [
-      | in-Ok w ↦ rw w.result-is (subst (λ (p : Pass g.row.T.Denot). Adds p (calls p.name (publish c.args.envelope) None ∷ []) (pass_of p.of new)) c.pass.view_is
+      | in-Ok w ↦ rw w.result-is (subst (λ (p : Pass g.row.T.Denot). Adds p (calls p.name (publish c.args.envelope) None ∷ []) (pass_of p.of new))
+          c.pass.view_is
           (stands_own old (calls old.name (publish c.args.envelope) None) new c.pass.invariant.2.0 (refl, tt) w.in-Ok.ensures.rule.0.0))
       | in-Err w ↦ rw w.result-is tt
     ]

@@ -17,7 +17,8 @@ use Rattle.canvas_broker.proofs.broker.Broker.take_batch.Goals as goal
 
 pub try_pop_batch-requires-clause-rule : goal.try_pop_batch-requires-clause-rule
 try_pop_batch-requires-clause-rule g c =
-    let ready : IsReady c.head-head.new.pass.me.view.client = subst (λ (v : View g.row.T.Denot). IsReady v) (sym c.head-head.ensures.1.0.2) c.pass.invariant.2 in
+    let ready : IsReady c.head-head.new.pass.me.view.client =
+    subst (λ (v : View g.row.T.Denot). IsReady v) (sym c.head-head.ensures.1.0.2) c.pass.invariant.2 in
     ((λ n _ _. takes_many _ n _ ready), misses _ _ ready, admits)
 
 pub next_of-requires : goal.next_of-requires
