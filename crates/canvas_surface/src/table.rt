@@ -11,6 +11,7 @@ use crate::tasks::{ZERO_DIVISION, group, task};
 use canvas_backend::{Backend, BackendSeat, PlainBackend, Stored};
 use canvas_rewrite::Plan;
 use canvas_task::{GroupNo, Memory, Outcome, TaskNo};
+use canvas_worker::Book;
 use std::alloc::Global;
 
 /// What a table says of the plan of a chord of three members, `#4` its body and `#5` a callback.
@@ -35,6 +36,40 @@ fn knows(backend: &Backend) -> bool {
         && backend.member(group(1), 3).is_none()
         && backend.is_member(group(1), task(2))
         && !backend.is_member(group(1), task(4))
+}
+
+// ---- as a book
+
+/// Whether a book has the chord's plan.
+fn is_book<B: Book>(book: &B) -> bool {
+    book.knows(task(5)) && book.size(group(1)) == Some(3) && book.is_member(group(1), task(2))
+}
+
+/// A book of no tasks, as users write one of their own.
+struct Nothing;
+
+impl Book for Nothing {
+    ghost use Rattle.std.specs.Prelude.{is_some, refl};
+    ghost use Rattle.std.proofs.Common.{ap, sym, true≢false};
+    ghost use Rattle.canvas_core.specs.Books.{no_book};
+
+    ghost book = { λ _. no_book };
+
+    ghost from_one = { λ _ _. refl };
+
+    ghost has_members = { λ _ _ _ _ size _. absurd (true≢false (sym (ap is_some size))) };
+
+    fn knows(&self, _task: TaskNo) -> bool {
+        false
+    }
+
+    fn size(&self, _group: GroupNo) -> Option<u32> {
+        None
+    }
+
+    fn is_member(&self, _group: GroupNo, _task: TaskNo) -> bool {
+        false
+    }
 }
 
 // ---- for one thread
@@ -98,7 +133,7 @@ fn counts_plain(backend: &mut PlainBackend) -> bool
 
 fn is_right_plain(alloc: Global, plan: &Plan) -> Result<bool, Memory> {
     let mut backend = PlainBackend::new(alloc, plan)?;
-    Ok(knows_plain(&backend) && counts_plain(&mut backend))
+    Ok(knows_plain(&backend) && is_book(&backend) && counts_plain(&mut backend))
 }
 
 // ---- with seats
@@ -174,7 +209,12 @@ fn splits(backend: &Backend, seat: &mut BackendSeat) -> bool
 
 fn is_right(alloc: Global, plan: &Plan) -> Result<bool, Memory> {
     let (backend, mut seat) = Backend::new(alloc, plan)?;
-    Ok(knows(&backend) && counts(&backend, &mut seat) && splits(&backend, &mut seat))
+    Ok(
+        knows(&backend)
+            && is_book(&backend)
+            && counts(&backend, &mut seat)
+            && splits(&backend, &mut seat),
+    )
 }
 
 /// Whether a table without tasks splits a seat and takes it in again.
@@ -208,6 +248,7 @@ enum Which {
 
 #[test]
 fn tables(rt: HostRuntime) {
+    assert!(rt; !is_book(&Nothing));
     for &(text, which) in &[
         (CHORD, Which::Plain),
         (CHORD, Which::Seats),
