@@ -3,15 +3,18 @@ use Rattle.std.proofs.Common.{◌≡◌, Bool, true, false, Option, Result, Ok, 
 use Rattle.canvas_effects.specs.Effects.{first_messages}
 use Rattle.canvas_semantics.specs.Line.{Line}
 use Rattle.canvas_envelope.specs.declared.envelope.Envelope.{Envelope}
-use Rattle.canvas_history.specs.Queue as queue
 use Rattle.canvas_runs.specs.Core as C
 use Rattle.canvas_runs.specs.Worker.{sealed}
 use Rattle.canvas_turns.specs.Turns.{Step, redelivery}
-use Rattle.canvas_core.specs.Asks.{Asked, shown}
+use Rattle.canvas_effects.specs.Job.{store, publish, part}
+use Rattle.canvas_history.specs.Roster.{Roster}
+use Rattle.canvas_runs.specs.Book.{book_on}
+use Rattle.canvas_core.specs.CoreState.{Standing, Left, located, asked, next, next_in}
 use Rattle.canvas_core.specs.declared.ask.Ask.{Ask}
 use Rattle.canvas_core.specs.declared.ask.Ask.TheVariants as A
 use Rattle.canvas_by_turns.specs.Traced.{sent_by, sent_in, sent_after}
 use Rattle.canvas_by_turns.specs.steps.Noting.{Noted, kept}
+use Rattle.canvas_by_turns.specs.steps.Stages.{asks_of}
 use Rattle.canvas_by_turns.specs.declared.sent.Sent.{Sent}
 
 pub kept_nothing : (b : Bool) → kept b [] ≡ []
@@ -59,12 +62,13 @@ sends_shown A.Publish = true
 sends_shown v = false
 
 -- an ask that is shown as no publish sends nothing
-pub silent : (s : Sent) (x : Option ℕ) (a : Asked) (v : Ask) → v ≡ shown x a → sends_shown v ≡ false → Noted s (sent_by a) s
-silent s x a v is none = same a (ap sends_shown (sym is) ∙ none)
+pub silent : (s : Sent) (plan : Roster) (c : Standing) (v : Ask) → v ≡ next c → sends_shown v ≡ false → Noted s (sent_by (asks_of plan c)) s
+silent s plan c v is none = same c.left c.task (ap sends_shown (sym is) ∙ none)
   where
-    same : (b : Asked) → sends_shown (shown x b) ≡ false → Noted s (sent_by b) s
-    same (C.to_queue queue.take) h = none_noted s
-    same (C.to_queue (queue.publish e)) h = absurd cc
-    same (C.to_queue (queue.redeliver e)) h = none_noted s
-    same (C.to_table c) h = none_noted s
-    same b h = none_noted s
+    same : (left : Left) (x : Option ℕ) → sends_shown (next_in left x) ≡ false → Noted s (sent_by (asked (located (book_on plan) left))) s
+    same (C.doing [] b) x h = none_noted s
+    same (C.doing (store t o ∷ js) b) x h = none_noted s
+    same (C.doing (publish e ∷ js) b) x h = absurd cc
+    same (C.doing (part g t c ∷ js) b) x h = none_noted s
+    same (C.reading g c t fs) x h = none_noted s
+    same left x h = none_noted s

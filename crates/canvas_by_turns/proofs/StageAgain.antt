@@ -13,7 +13,7 @@ use Rattle.canvas_history.specs.declared.stored.Stored.TheVariants.{First, Again
 use Rattle.canvas_history.specs.Table.{Results}
 use Rattle.canvas_backend.specs.Plain.{held}
 use Rattle.canvas_history.specs.Roster.{Roster, roster_of}
-use Rattle.canvas_runs.specs.Book.{book_of}
+use Rattle.canvas_runs.specs.Book.{book_of, book_on}
 use Rattle.canvas_runs.specs.Calls.{scripts_of, of_scripts, held_after}
 use Rattle.canvas_history.specs.Table as table
 use Rattle.canvas_history.specs.Queue.{redeliver}
@@ -29,16 +29,18 @@ use Rattle.canvas_turns.specs.Spending.{TurnedAgain, wanted, spent, comes_to, me
 use Rattle.canvas_turns.specs.Turns.{Step, IsWorker, redelivery, Turned, all_taken, delivers_again, left, holds, holds_more, is_queued, redelivers_one}
 use Rattle.canvas_turns.proofs.Spending.{again_step, again_spend}
 use Rattle.canvas_turns.proofs.Turning.{queue_more, results_more, turned_append}
-use Rattle.canvas_core.specs.Asks.{Asked, Answer}
+use Rattle.canvas_core.specs.Asks.{Asked, Answer, replied}
 use Rattle.canvas_core.specs.Cores.{IsAlike}
 use Rattle.canvas_core.specs.Books.{no_book}
 use Rattle.canvas_core.specs.EnvelopeWorker.{enveloped, enveloped_by, no_tasks}
 use Rattle.canvas_core.specs.CorePast.{task_in}
 use Rattle.canvas_core.specs.CoreState as standing
-use Rattle.canvas_core.specs.CoreState.{Standing, Left, asked, task_of, point_in, point_at}
+use Rattle.canvas_core.specs.CoreState.{Standing, Left, located, next, task_of, point_in, point_at}
+use Rattle.canvas_core.specs.declared.ask.Ask.TheVariants.{Rest}
+use Rattle.canvas_core.proofs.Cores.Located.{located_same}
 use Rattle.canvas_by_turns.specs.Traced.{sent_by, sent_after}
 use Rattle.canvas_by_turns.specs.steps.Noting.{Noted, kept}
-use Rattle.canvas_by_turns.specs.steps.Stages.{AnswersNow, Stepped, store_answer, counted_on, Redelivers, IsCoreAt, LeadsTo, Given, Reached, IsTurn}
+use Rattle.canvas_by_turns.specs.steps.Stages.{asks_of, AnswersNow, Stepped, store_answer, counted_on, Redelivers, IsCoreAt, LeadsTo, Given, Reached, IsTurn}
 use Rattle.canvas_by_turns.specs.declared.stage.Stage.{Stage}
 use Rattle.canvas_by_turns.proofs.Sending.{sent_then, sent_too}
 use Rattle.canvas_by_turns.proofs.StageAsks.{stored_says}
@@ -117,9 +119,10 @@ module _ (behaviour : Behaviour) (l : Line) (n : ℕ) (us : List ℕ) (xs : List
     pub point_is : point_at c ≡ comes_to behaviour l xs (suc i)
     point_is =
         let at = leads.cores_are i c here in
-        point_alike l behaviour c.left (left behaviour l xs (suc i))
+        sym (located_same (λ u. point_in u c.task) (λ g d t v fs. refl) (book_of l) c.left)
+        ∙ point_alike l behaviour (located (book_of l) c.left) (left behaviour l xs (suc i))
         (subst (λ z. IsAlike behaviour z (left behaviour l xs (suc i))) (sym at.left) (together behaviour l n us xs s leads (suc i)).1.alike) c.task
-        (holds xs (suc i)) at.task
+        (holds xs (suc i)) (λ inside. at.task (sym (located_same is_inside (λ g d t v fs. refl) (book_of l) c.left) ∙ inside))
 
     module _ (own : IsWorker n (suc i)) (e : Envelope) (has : standing.held c ≡ Some e) where
       abbrev copy : Step
@@ -188,7 +191,7 @@ stood behaviour l n us xs s leads i c here own t gone = go gone.envelope
 
 module _ (behaviour : Behaviour) (l : Line) (n most : ℕ) (es : Given) (us : List ℕ) (xs : List Step) (s : Stage)
     (reached : Reached behaviour l n most es us xs s) (i : ℕ) (c : Standing) (here : slice_get s.cores.items i ≡ Some c) (own : IsWorker n (suc i)) where
-  module _ (t : Stage) (gone : Redelivers c s t) (more : Bool) (told : asked c.left ≡ rest
+  module _ (t : Stage) (gone : Redelivers c s t) (more : Bool) (told : next c ≡ Rest
       → more ≡ (is_queued t.queue || list_any (λ d. is_inside d.left) t.cores.items)) where
     here_too : slice_get t.cores.items i ≡ Some c
     here_too = ap (λ z. slice_get z.items i) gone.others.1 ∙ here
@@ -196,21 +199,21 @@ module _ (behaviour : Behaviour) (l : Line) (n most : ℕ) (es : Given) (us : Li
     module _ (s' : Stage) (c' : Standing) (step : Stepped behaviour more c t.queue t.table c' s'.queue s'.table)
         (put : (length s'.cores.items ≡ length t.cores.items)
         × ((j : ℕ) (e : Standing) → slice_get s'.cores.items j ≡ Some e → ((j ≡ i) × (e ≡ c')) ⊎ ((j ≡ i → ⊥) × (slice_get t.cores.items j ≡ Some e))))
-        (fewer : t.steps ≡ suc s'.steps) (said : s'.repeats ≡ counted_on t.repeats (store_answer (held t.table) (asked c.left)))
-        (kept_so : s'.again.items ≡ t.again.items) (noted : Noted t.sent (sent_by (asked c.left)) s'.sent) where
+        (fewer : t.steps ≡ suc s'.steps) (said : s'.repeats ≡ counted_on t.repeats (store_answer (held t.table) (asks_of t.table.plan c)))
+        (kept_so : s'.again.items ≡ t.again.items) (noted : Noted t.sent (sent_by (asks_of t.table.plan c)) s'.sent) where
       abbrev answer : Step
-      answer = (suc i, (asked c.left, step.reply))
+      answer = (suc i, (asks_of t.table.plan c, (replied step.reply)))
 
-      is_answer : redelivers_one (asked c.left) ≡ 0
-      is_answer = no_copy (asked c.left) (asks_of_scripts (enveloped_by no_tasks no_book) c.left)
+      is_answer : redelivers_one (asks_of t.table.plan c) ≡ 0
+      is_answer = no_copy (asks_of t.table.plan c) (asks_of_scripts (enveloped_by no_tasks no_book) (located (book_on t.table.plan) c.left))
 
       -- the answers Again so far
       agains_so : (ys : List Step) → t.repeats ≡ min greatest_count (agains_in ys) → s'.repeats ≡ min greatest_count (agains_in (ys ++ answer ∷ []))
       agains_so ys so_far =
-          let said_so : answers_again (asked c.left) step.reply ≡ again_one (store_answer (held t.table) (asked c.left)) =
-          again_said t.table.plan t.queue (held t.table) more (asked c.left) step.reply step.answers in
+          let said_so : answers_again (asks_of t.table.plan c) (replied step.reply) ≡ again_one (store_answer (held t.table) (asks_of t.table.plan c)) =
+          again_said t.table.plan t.queue (held t.table) more (asks_of t.table.plan c) (replied step.reply) step.answers in
           let whole = total-append (λ (y : Step). answers_again y.1.0 y.1.1) ys (answer ∷ []) in
-          more_agains (agains_in ys) t.repeats s'.repeats (store_answer (held t.table) (asked c.left)) so_far said
+          more_agains (agains_in ys) t.repeats s'.repeats (store_answer (held t.table) (asks_of t.table.plan c)) so_far said
           ∙ ap (min greatest_count) (omega (arith, whole, said_so))
 
       keeps_so : s'.sent.keeps ≡ es.1
@@ -224,7 +227,7 @@ module _ (behaviour : Behaviour) (l : Line) (n most : ℕ) (es : Given) (us : Li
           (ap (λ z. z.envelopes.items) gone.sent ∙ reached.sent ∙ ap (kept es.1) (sym same)) noted
 
       module _ (ys : List Step) (leads : LeadsTo behaviour l n us ys t) where
-        told_so : asked c.left ≡ rest → more ≡ holds_more behaviour l n ys
+        told_so : next c ≡ Rest → more ≡ holds_more behaviour l n ys
         told_so e = told e ∙ more_is behaviour l n us ys t leads
 
         leads_then : LeadsTo behaviour l n (us ++ suc i ∷ []) (ys ++ answer ∷ []) s'
@@ -244,10 +247,10 @@ module _ (behaviour : Behaviour) (l : Line) (n most : ℕ) (es : Given) (us : Li
                 record {
                   leads = leads_then xs leads;
                   turned = subst (TurnedAgain behaviour l n [] es.0 (us ++ suc i ∷ []) (xs ++ answer ∷ [])) (sym (kept_so ∙ a))
-                      (again_step behaviour l n es.0 us xs s.again.items reached.turned (suc i) (asked c.left) step.reply
+                      (again_step behaviour l n es.0 us xs s.again.items reached.turned (suc i) (asks_of t.table.plan c) (replied step.reply)
                       (ap (λ z. wanted z s.again.items) (sym here_point) ∙ w)
                       (worker_back behaviour l n us xs t leads i c here_too step.reads_back) (same_ask behaviour l n us xs t leads i c here_too step.reads_back)
-                      (answered_so behaviour l n us xs t leads i c here_too more (told_so xs leads) step.reply step.answers));
+                      (answered_so behaviour l n us xs t leads i c here_too more (told_so xs leads) (replied step.reply) step.answers));
                   agains = agains_so xs (gone.others.3 ∙ reached.agains);
                   count =
                       let long = length-append xs (answer ∷ []) in
@@ -272,10 +275,10 @@ module _ (behaviour : Behaviour) (l : Line) (n most : ℕ) (es : Given) (us : Li
                   leads = subst (λ zs. LeadsTo behaviour l n (us ++ suc i ∷ []) zs s') all (leads_then ys leads);
                   turned = subst (TurnedAgain behaviour l n [] es.0 (us ++ suc i ∷ []) (xs ++ d ∷ answer ∷ []))
                       (sym (kept_so ∙ a ∙ ap (λ z. spent z s.again.items) here_point))
-                      (again_spend behaviour l n es.0 us xs s.again.items reached.turned (suc i) e (asked c.left) step.reply
+                      (again_spend behaviour l n es.0 us xs s.again.items reached.turned (suc i) e (asks_of t.table.plan c) (replied step.reply)
                       (ap (λ z. wanted z s.again.items) (sym here_point) ∙ w) own (sym (there.cores_are i c here).holds ∙ has)
                       (worker_back behaviour l n us ys t leads i c here_too step.reads_back) (same_ask behaviour l n us ys t leads i c here_too step.reads_back)
-                      (answered_so behaviour l n us ys t leads i c here_too more (told_so ys leads) step.reply step.answers));
+                      (answered_so behaviour l n us ys t leads i c here_too more (told_so ys leads) (replied step.reply) step.answers));
                   agains = agains_so ys (gone.others.3 ∙ reached.agains ∙ ap (min greatest_count) (sym none_more))
                       ∙ ap (λ zs. min greatest_count (agains_in zs)) all;
                   count =

@@ -15,23 +15,28 @@ use Rattle.canvas_history.specs.Roster.{Roster, roster_of}
 use Rattle.canvas_runs.specs.Book.{book_of, book_on}
 use Rattle.canvas_history.specs.Table as table
 use Rattle.canvas_history.specs.Queue as queue
-use Rattle.canvas_runs.specs.Core.{to_queue, to_table, rest, end, from_queue, from_table, rested, CoreState, taking, resting, over, failed, owning, doing, reading, ask, answered, left_after, Suits, ReadsBack, IsCoreRun, is_inside, ack, acked, acking}
+use Rattle.canvas_runs.specs.Core.{to_queue, to_table, rest, from_queue, from_table, rested, CoreState, taking, resting, over, failed, owning, doing, reading, ask, answered, left_after, Suits, ReadsBack, IsCoreRun, is_inside, ack, acked, acking}
 use Rattle.canvas_history.specs.Lists.{Each, by}
 use Rattle.canvas_runs.specs.Worker.{worker}
 use Rattle.canvas_runs.proofs.Runs.MoreAsks.{by_more, by_other, left_more, core_more, scripts_more, asks_of_scripts, held_append}
 use Rattle.canvas_turns.specs.Turns.{Step, IsWorker, Turned, Answers, HasEnded, left, queue_after, queue_next, results_after, results_next, holds_more, some_inside, is_queued}
 use Rattle.canvas_turns.proofs.Turning.{queue_more, results_more, turned_step}
-use Rattle.canvas_core.specs.Asks.{Asked, Answer}
+use Rattle.canvas_core.specs.Asks.{Asked, Answer, FoundOf, replied}
 use Rattle.canvas_core.specs.Books.{no_book}
 use Rattle.canvas_core.specs.Cores.{GoTogether, IsAlike}
 use Rattle.canvas_core.specs.EnvelopeWorker.{enveloped, enveloped_by, no_tasks}
 use Rattle.canvas_core.specs.CorePast.{task_in}
 use Rattle.canvas_core.specs.CoreState as standing
-use Rattle.canvas_core.specs.CoreState.{Standing, Left, asked, after_reply}
+use Rattle.canvas_core.specs.CoreState.{Standing, Left, located, asked, next, after_reply}
+use Rattle.canvas_core.specs.declared.ask.Ask.TheVariants.{Rest, End}
+use Rattle.canvas_core.specs.steps.Members.{members_in}
 use Rattle.canvas_core.proofs.Cores.CoreLaw.{cores_are_workers}
-use Rattle.canvas_core.proofs.Cores.Opened.{has_open}
-use Rattle.canvas_core.proofs.Cores.CorePasts.{book_step, task_step}
-use Rattle.canvas_by_turns.specs.steps.Stages.{AnswersNow, Stepped, IsCoreAt, LeadsTo}
+use Rattle.canvas_core.proofs.Cores.Opened.{has_told}
+use Rattle.canvas_core.proofs.Cores.Sound.{Sound, run_sound}
+use Rattle.canvas_core.proofs.Cores.Located.{located_same, reads_located, told_located}
+use Rattle.canvas_core.proofs.Cores.CorePasts.{book_told, task_told}
+use Rattle.canvas_core.proofs.Cores.ShownAsks.{is_end, shown_end, shown_rest}
+use Rattle.canvas_by_turns.specs.steps.Stages.{asks_of, AnswersNow, Stepped, IsCoreAt, LeadsTo}
 use Rattle.canvas_by_turns.specs.declared.stage.Stage.{Stage}
 
 -- ---- what was answered
@@ -109,7 +114,8 @@ module _ (behaviour : Behaviour) (l : Line) (n : ℕ) (us : List ℕ) (xs : List
   pub more_is : (is_queued s.queue || list_any (λ c. is_inside c.left) s.cores.items) ≡ holds_more behaviour l n xs
   more_is =
       let one : (i : ℕ) (c : Standing) → slice_get s.cores.items i ≡ Some c → is_inside c.left ≡ is_inside (left behaviour l xs (suc (0 + i))) = λ i c e.
-      ap is_inside (leads.cores_are i c e).left ∙ inside_alike behaviour _ _ (together (suc i)).1.alike
+      sym (located_same is_inside (λ g d t v fs. refl) (book_of l) c.left) ∙ ap is_inside (leads.cores_are i c e).left
+      ∙ inside_alike behaviour _ _ (together (suc i)).1.alike
       ∙ ap (λ m. is_inside (left behaviour l xs (suc m))) (omega arith) in
       ap (λ q. is_queued q || list_any (λ c. is_inside c.left) s.cores.items) leads.queue_is
       ∙ ap (λ b. is_queued (queue_after l xs) || b) (sym (or_none (list_any (λ c. is_inside c.left) s.cores.items))
@@ -117,32 +123,39 @@ module _ (behaviour : Behaviour) (l : Line) (n : ℕ) (us : List ℕ) (xs : List
 
   -- the core at place i
   module _ (i : ℕ) (c : Standing) (here : slice_get s.cores.items i ≡ Some c) where
-    env_left : c.left ≡ left_after (enveloped behaviour (roster_of l)) taking (scripts_of (by (suc i) xs))
-    env_left = (leads.cores_are i c here).left
+    env_left : located (book_on s.table.plan) c.left ≡ left_after (enveloped behaviour (roster_of l)) taking (scripts_of (by (suc i) xs))
+    env_left = ap (λ (plan : Roster). located (book_on plan) c.left) leads.plan_is ∙ (leads.cores_are i c here).left
 
-    pub same_ask : ReadsBack (enveloped_by no_tasks no_book) c.left → asked c.left ≡ ask (worker behaviour l) (left behaviour l xs (suc i))
-    same_ask back = ap asked env_left ∙ sym ((together (suc i)).1.asks (subst (ReadsBack (enveloped behaviour (roster_of l))) env_left back))
+    back_there : ReadsBack (enveloped_by no_tasks no_book) c.left
+        → ReadsBack (enveloped behaviour (roster_of l)) (left_after (enveloped behaviour (roster_of l)) taking (scripts_of (by (suc i) xs)))
+    back_there back = subst (ReadsBack (enveloped behaviour (roster_of l))) env_left (reads_located behaviour (book_of l) (book_on s.table.plan) c.left back)
 
-    pub has_ended : ReadsBack (enveloped_by no_tasks no_book) c.left → asked c.left ≡ end → HasEnded behaviour l xs (suc i)
-    has_ended back e = sym (same_ask back) ∙ e
+    pub same_ask : ReadsBack (enveloped_by no_tasks no_book) c.left → asks_of s.table.plan c ≡ ask (worker behaviour l) (left behaviour l xs (suc i))
+    same_ask back = ap asked env_left ∙ sym ((together (suc i)).1.asks (back_there back))
 
-    pub not_ended : ReadsBack (enveloped_by no_tasks no_book) c.left → (asked c.left ≡ end → ⊥) → HasEnded behaviour l xs (suc i) → ⊥
-    not_ended back going e = going (same_ask back ∙ e)
+    pub has_ended : ReadsBack (enveloped_by no_tasks no_book) c.left → next c ≡ End → HasEnded behaviour l xs (suc i)
+    has_ended back e = sym (same_ask back) ∙ is_end (book_on s.table.plan) c e
+
+    pub not_ended : ReadsBack (enveloped_by no_tasks no_book) c.left → (next c ≡ End → ⊥) → HasEnded behaviour l xs (suc i) → ⊥
+    not_ended back going e = going (shown_end (book_on s.table.plan) c (same_ask back ∙ e))
 
     pub worker_back : ReadsBack (enveloped_by no_tasks no_book) c.left → ReadsBack (worker behaviour l) (left behaviour l xs (suc i))
-    worker_back back = (together (suc i)).1.reads_back (subst (ReadsBack (enveloped behaviour (roster_of l))) env_left back)
+    worker_back back = (together (suc i)).1.reads_back (back_there back)
 
-    module _ (more : Bool) (more_so : asked c.left ≡ rest → more ≡ holds_more behaviour l n xs) where
-      pub answered_so : (r : Answer) → AnswersNow s.table.plan s.queue (held s.table) more (asked c.left) r → Answers behaviour l n xs (asked c.left) r
+    module _ (more : Bool) (more_so : next c ≡ Rest → more ≡ holds_more behaviour l n xs) where
+      pub answered_so : (r : Answer) → AnswersNow s.table.plan s.queue (held s.table) more (asks_of s.table.plan c) r
+          → Answers behaviour l n xs (asks_of s.table.plan c) r
       answered_so r h =
-          let h1 = subst (λ plan. AnswersNow plan s.queue (held s.table) more (asked c.left) r) leads.plan_is h in
-          let h2 = subst (λ q. AnswersNow (roster_of l) q (held s.table) more (asked c.left) r) leads.queue_is h1 in
-          let h3 = subst (λ t. AnswersNow (roster_of l) (queue_after l xs) t more (asked c.left) r) leads.table_is h2 in
-          answers_run behaviour l n xs more (asked c.left) r more_so h3
+          let h1 = subst (λ plan. AnswersNow plan s.queue (held s.table) more (asks_of s.table.plan c) r) leads.plan_is h in
+          let h2 = subst (λ q. AnswersNow (roster_of l) q (held s.table) more (asks_of s.table.plan c) r) leads.queue_is h1 in
+          let h3 = subst (λ t. AnswersNow (roster_of l) (queue_after l xs) t more (asks_of s.table.plan c) r) leads.table_is h2 in
+          answers_run behaviour l n xs more (asks_of s.table.plan c) r (λ e. more_so (shown_rest (book_on s.table.plan) c e)) h3
 
-      pub turned_so : (r : Answer) → ReadsBack (enveloped_by no_tasks no_book) c.left → AnswersNow s.table.plan s.queue (held s.table) more (asked c.left) r
-          → Turned behaviour l n [] (us ++ suc i ∷ []) (xs ++ (suc i, (asked c.left, r)) ∷ [])
-      turned_so r back h = turned_step behaviour l n us xs (suc i) (asked c.left) r leads.by_turns.turned (worker_back back) (same_ask back) (answered_so r h)
+      pub turned_so : (r : Answer) → ReadsBack (enveloped_by no_tasks no_book) c.left
+          → AnswersNow s.table.plan s.queue (held s.table) more (asks_of s.table.plan c) r
+          → Turned behaviour l n [] (us ++ suc i ∷ []) (xs ++ (suc i, (asks_of s.table.plan c, r)) ∷ [])
+      turned_so r back h =
+          turned_step behaviour l n us xs (suc i) (asks_of s.table.plan c) r leads.by_turns.turned (worker_back back) (same_ask back) (answered_so r h)
 
       -- the cores are as they were, but for the one
       abbrev pub IsPut : List Standing → Standing → List Standing → Type 0
@@ -151,33 +164,42 @@ module _ (behaviour : Behaviour) (l : Line) (n : ℕ) (us : List ℕ) (xs : List
 
       pub stepped : (s' : Stage) (c' : Standing) → IsWorker n (suc i) → (step : Stepped behaviour more c s.queue s.table c' s'.queue s'.table)
           → IsPut s.cores.items c' s'.cores.items
-          → LeadsTo behaviour l n (us ++ suc i ∷ []) (xs ++ (suc i, (asked c.left, step.reply)) ∷ []) s'
+          → LeadsTo behaviour l n (us ++ suc i ∷ []) (xs ++ (suc i, (asks_of s.table.plan c, replied step.reply)) ∷ []) s'
       stepped s' c' own step put =
           let plan = leads.by_turns.plan in
           let p = suc i in
-          let a = asked c.left in
-          let r = step.reply in
+          let a = asks_of s.table.plan c in
+          let r = replied step.reply in
           let x : Step = (p, (a, r)) in
           let ys = xs ++ x ∷ [] in
           let X = enveloped behaviour (roster_of l) in
           let was = leads.cores_are i c here in
-          let asks_core : of_scripts a ≡ true = asks_of_scripts X c.left in
+          let asks_core : of_scripts a ≡ true = asks_of_scripts X (located (book_on s.table.plan) c.left) in
           let suits : Suits a r = suits_now (roster_of l) s.queue (held s.table) more a r asks_core
           (subst (λ z. AnswersNow z s.queue (held s.table) more a r) leads.plan_is step.answers) in
           let asks : a ≡ ask X (left_after X taking (scripts_of (by p xs))) = ap asked env_left in
-          let back : ReadsBack X (left_after X taking (scripts_of (by p xs))) = subst (ReadsBack X) env_left step.reads_back in
+          let back : ReadsBack X (left_after X taking (scripts_of (by p xs))) = back_there step.reads_back in
           let mine : IsCoreRun X taking (scripts_of (by p ys)) =
           subst (IsCoreRun X taking) (sym (ap scripts_of (by_more p xs (a, r)) ∙ scripts_more (by p xs) a r asks_core))
           (core_more X taking (scripts_of (by p xs)) (a, r) (leads.runs p) asks suits back) in
-          let core_is : c' ≡ after_reply behaviour (book_of l) c r =
-          step.core ∙ ap (λ z. after_reply behaviour (book_on z) c r) leads.plan_is in
-          let left_new : c'.left ≡ left_after X taking (scripts_of (by p ys)) =
-          ap (λ d. d.left) core_is
-          ∙ same_answer c.left r
-          ∙ ap (λ z. answered X z r) env_left
+          let book = book_of l in
+          let members = members_in (roster_of l) in
+          let core_is : c' ≡ after_reply behaviour book c step.reply =
+          step.core ∙ ap (λ z. after_reply behaviour (book_on z) c step.reply) leads.plan_is in
+          let sound : Sound book (located book c.left) =
+          subst (Sound book) (sym was.left) (run_sound behaviour book (λ g. refl) taking (scripts_of (by p xs)) tt) in
+          let found : FoundOf book step.reply (next c) = subst (λ z. FoundOf (book_on z) step.reply (next c)) leads.plan_is step.found in
+          let suits_here : Suits (asked (located book c.left)) r = subst (λ z. Suits (asked (located (book_on z) c.left)) r) leads.plan_is suits in
+          let left_new : located book c'.left ≡ left_after X taking (scripts_of (by p ys)) =
+          ap (λ d. located book d.left) core_is
+          ∙ told_located behaviour book members c.left c.task step.reply sound found
+          ∙ ap (λ z. answered X z r) was.left
           ∙ sym (ap (left_after X taking) (ap scripts_of (by_more p xs (a, r)) ∙ scripts_more (by p xs) a r asks_core)
           ∙ left_more X taking (scripts_of (by p xs)) (a, r)) in
-          let hold_old : standing.held c' ≡ held_by (standing.held c) a r = ap standing.held core_is ∙ book_step behaviour (book_of l) c.left c.kept r suits in
+          let here_too : held_by (standing.held c) (asked (located book c.left)) r ≡ held_by (standing.held c) a r =
+          ap (λ z. held_by (standing.held c) (asked (located (book_on z) c.left)) r) (sym leads.plan_is) in
+          let hold_old : standing.held c' ≡ held_by (standing.held c) a r =
+          ap standing.held core_is ∙ book_told behaviour book members c.left c.kept c.task step.reply sound suits_here found ∙ here_too in
           let hold_new : held_by (held_after None (by p xs)) a r ≡ held_after None (by p ys) =
           sym (ap (held_after None) (by_more p xs (a, r)) ∙ held_append None (by p xs) ((a, r) ∷ [])) in
           let new : IsCoreAt behaviour l (by p ys) c' = record {
@@ -185,14 +207,17 @@ module _ (behaviour : Behaviour) (l : Line) (n : ℕ) (us : List ℕ) (xs : List
             is_in = ap (λ d. d.is_out) core_is;
             holds = hold_old ∙ ap (λ h. held_by h a r) was.holds ∙ hold_new;
             has_one = λ inside. subst IsSome (sym hold_old)
-                (has_open behaviour (roster_of l) c.left c.kept r suits was.has_one (ap is_inside (sym (ap (λ d. d.left) core_is ∙ same_answer c.left r))
-                ∙ inside));
+                (subst IsSome here_too
+                (has_told behaviour (roster_of l) c.left c.kept c.task step.reply sound suits_here found was.has_one
+                (ap is_inside (sym (ap (λ d. d.left) core_is)) ∙ inside)));
             task = λ inside.
                 ap (λ d. d.task) core_is
-                ∙ task_step behaviour (book_of l) c.left c.kept c.task r suits (λ j. was.task j ∙ ap (task_in (book_of l)) (sym was.holds))
+                ∙ task_told behaviour book members c.left c.kept c.task step.reply sound suits_here found
+                (λ j. was.task j ∙ ap (task_in book) (sym was.holds))
                 (ap is_inside (sym (ap (λ d. d.left) core_is)) ∙ inside)
-                ∙ ap (λ h. task_in (book_of l) (held_by h a r)) was.holds
-                ∙ ap (task_in (book_of l)) hold_new;
+                ∙ ap (task_in book) here_too
+                ∙ ap (λ h. task_in book (held_by h a r)) was.holds
+                ∙ ap (task_in book) hold_new;
           } in
           record {
             by_turns = record {
@@ -209,9 +234,6 @@ module _ (behaviour : Behaviour) (l : Line) (n : ℕ) (us : List ℕ) (xs : List
             cores_are = λ j d e. core_now j d a r c' new (put.1 j d e);
           }
         where
-          same_answer : (z : Left) (r : Answer) → answered (enveloped_by behaviour (book_of l)) z r ≡ answered (enveloped behaviour (roster_of l)) z r
-          same_answer z r = refl
-
           runs_now : (q : ℕ) (a : Asked) (r : Answer)
               → IsCoreRun (enveloped behaviour (roster_of l)) taking (scripts_of (by (suc i) (xs ++ (suc i, (a, r)) ∷ [])))
               → IsCoreRun (enveloped behaviour (roster_of l)) taking (scripts_of (by q (xs ++ (suc i, (a, r)) ∷ [])))

@@ -1,5 +1,5 @@
 -- A worker's turn: what the queue, the table and the worker's core were tells what may be asked, and what is there after it.
-use Rattle.std.proofs.Common.{◌≡◌, ◌≢◌, ◌<◌, ◌-◌, ◌⊎◌, inl, inr, ℕ, zero, suc, Bool, true, false, List, [], ◌∷◌, ◌++◌, length, Some, refl, sym, ap, ◌∙◌, subst, arith}
+use Rattle.std.proofs.Common.{◌≡◌, ◌≢◌, ◌<◌, ◌-◌, ◌⊎◌, inl, inr, ℕ, zero, suc, Bool, true, false, List, [], ◌∷◌, ◌++◌, length, Option, Some, refl, sym, ap, ◌∙◌, subst, arith}
 use Rattle.std.specs.Prelude.{◌||◌, IsSome, get_or, slice_get, slice_set}
 use Rattle.std.proofs.lemmas.Option.{slice_get_read}
 use Rattle.std.specs.List.{list_any}
@@ -8,20 +8,26 @@ use Rattle.canvas_semantics.specs.Line.{Line}
 use Rattle.canvas_history.specs.Table.{Results, store, part, read}
 use Rattle.canvas_backend.specs.Plain.{held}
 use Rattle.canvas_history.specs.Roster.{Roster, roster_of}
-use Rattle.canvas_runs.specs.Core.{to_table, rest, end, ReadsBack, is_inside}
+use Rattle.canvas_runs.specs.Core.{to_table, taking, doing, reading, ReadsBack, is_inside}
 use Rattle.canvas_turns.specs.TurnLaws.{Answerable}
 use Rattle.canvas_turns.specs.Turns.{Step, IsWorker, HasEnded, results_after, results_next, is_queued}
 use Rattle.canvas_turns.proofs.TurnLaw.{next_answerable, held_range}
 use Rattle.canvas_turns.proofs.Spending.{again_skip}
 use Rattle.canvas_turns.proofs.Turning.{results_more, turned_skip}
+use Rattle.canvas_effects.specs.Job as job
+use Rattle.canvas_history.specs.Lists.{by}
+use Rattle.canvas_runs.specs.Book.{book_of, book_on}
+use Rattle.canvas_runs.specs.Calls.{scripts_of}
 use Rattle.canvas_core.specs.Asks.{Asked}
 use Rattle.canvas_core.specs.Books.{no_book}
 use Rattle.canvas_core.specs.EnvelopeWorker.{enveloped_by, no_tasks}
 use Rattle.canvas_core.specs.CoreState as standing
-use Rattle.canvas_core.specs.CoreState.{Standing, asked}
+use Rattle.canvas_core.specs.CoreState.{Standing, Left, located, next, next_in}
+use Rattle.canvas_core.specs.declared.ask.Ask.TheVariants.{Rest, End}
+use Rattle.canvas_core.proofs.Cores.Sound.{Sound, run_sound}
 use Rattle.canvas_by_turns.specs.Traced.{sent_by}
 use Rattle.canvas_by_turns.specs.steps.Noting.{Noted}
-use Rattle.canvas_by_turns.specs.steps.Stages.{MayAsk, AreInRange, Stepped, IsTried, Tried, store_answer, counted_on, Redelivers, LeadsTo, Given, Reached, HasReached, IsTurn, IsHalfway, IsStopped}
+use Rattle.canvas_by_turns.specs.steps.Stages.{asks_of, IsThere, MayAsk, AreInRange, Stepped, IsTried, Tried, store_answer, counted_on, Redelivers, LeadsTo, Given, Reached, HasReached, IsTurn, IsHalfway, IsStopped}
 use Rattle.canvas_by_turns.specs.declared.stage.Stage.{Stage}
 use Rattle.canvas_by_turns.proofs.StageAgain.{one_turn, stood}
 use Rattle.canvas_by_turns.proofs.StageSteps.{each_more, has_ended, not_ended, same_ask, more_is, turned_so}
@@ -54,6 +60,14 @@ may_of plan xs (to_table (store t o)) h = h.0
 may_of plan xs (to_table (part g t)) h = (h.0, h.1, (h.2, h.3))
 may_of plan xs (to_table (read t)) h = h.0
 may_of plan xs a h = tt
+
+member_there : (plan : Roster) (s : Left) (x : Option ℕ) → Sound (book_on plan) (located (book_on plan) s) → IsThere plan (next_in s x)
+member_there plan (reading g c t fs) x h = subst (λ o. IsSome o) (sym h.2) refl
+member_there plan (doing [] b) x h = tt
+member_there plan (doing (job.store t o ∷ js) b) x h = tt
+member_there plan (doing (job.publish e ∷ js) b) x h = tt
+member_there plan (doing (job.part g t c ∷ js) b) x h = tt
+member_there plan s x h = tt
 
 same_core : (cores : List Standing) (i : ℕ) (c d : Standing) → slice_get cores i ≡ Some c → slice_get cores i ≡ Some d → c ≡ d
 same_core cores i c d e f = let both : Some c ≡ Some d = sym e ∙ f in cc
@@ -104,7 +118,7 @@ module _ (behaviour : Behaviour) (fits : AnswersInRange behaviour) (l : Line) (p
       own_place : IsWorker n (suc (p - 1))
       own_place = subst (IsWorker n) (sym same_number) own
 
-      pub skipped : ReadsBack (enveloped_by no_tasks no_book) core.left → asked core.left ≡ end
+      pub skipped : ReadsBack (enveloped_by no_tasks no_book) core.left → next core ≡ End
           → HasEnded behaviour l xs p × Reached behaviour l n most es (us ++ p ∷ []) xs s
       skipped back e =
           let leads = reached.leads in
@@ -134,7 +148,7 @@ module _ (behaviour : Behaviour) (fits : AnswersInRange behaviour) (l : Line) (p
             },
           )
 
-      pub stopped : ReadsBack (enveloped_by no_tasks no_book) core.left → (asked core.left ≡ end → ⊥) → s.steps ≡ 0 → IsStopped behaviour l n most es us s
+      pub stopped : ReadsBack (enveloped_by no_tasks no_book) core.left → (next core ≡ End → ⊥) → s.steps ≡ 0 → IsStopped behaviour l n most es us s
       stopped back going none = record {
         steps = xs;
         reached = reached;
@@ -144,30 +158,38 @@ module _ (behaviour : Behaviour) (fits : AnswersInRange behaviour) (l : Line) (p
         has_more = λ e. not_ended behaviour l n us xs s reached.leads (p - 1) core here back going (subst (HasEnded behaviour l xs) (sym same_number) e);
       }
 
-      may_here : ReadsBack (enveloped_by no_tasks no_book) core.left → MayAsk (roster_of l) (results_after xs) (asked core.left)
+      may_here : ReadsBack (enveloped_by no_tasks no_book) core.left → MayAsk (roster_of l) (results_after xs) (asks_of s.table.plan core)
       may_here back =
-          may_of (roster_of l) xs (asked core.left)
+          may_of (roster_of l) xs (asks_of s.table.plan core)
           (subst (Answerable (roster_of l) xs) (sym (same_ask behaviour l n us xs s reached.leads (p - 1) core here back))
           (next_answerable behaviour l n us xs reached.leads.by_turns fits (suc (p - 1)) own_place))
 
-      pub may_ask : ReadsBack (enveloped_by no_tasks no_book) core.left → MayAsk s.table.plan (held s.table) (asked core.left)
+      pub may_ask : ReadsBack (enveloped_by no_tasks no_book) core.left → MayAsk s.table.plan (held s.table) (asks_of s.table.plan core)
       may_ask back =
-          subst (λ plan. MayAsk plan (held s.table) (asked core.left)) (sym reached.leads.plan_is)
-          (subst (λ t. MayAsk (roster_of l) t (asked core.left)) (sym reached.leads.table_is) (may_here back))
+          subst (λ plan. MayAsk plan (held s.table) (asks_of s.table.plan core)) (sym reached.leads.plan_is)
+          (subst (λ t. MayAsk (roster_of l) t (asks_of s.table.plan core)) (sym reached.leads.table_is) (may_here back))
+
+      -- a member that is read is there
+      pub is_there : IsThere s.table.plan (next core)
+      is_there =
+          let at = reached.leads.cores_are (p - 1) core here in
+          subst (λ plan. IsThere plan (next core)) (sym reached.leads.plan_is)
+          (member_there (roster_of l) core.left core.task (subst (Sound (book_of l)) (sym at.left)
+          (run_sound behaviour (book_of l) (λ g. refl) taking (scripts_of (by (suc (p - 1)) xs)) tt)))
 
       pub held_in_range : AreInRange (held s.table)
       held_in_range t o e = (held_range behaviour l n us xs reached.leads.by_turns fits t o (ap (λ (r : Results). r.outcomes t) (sym reached.leads.table_is)
           ∙ e)).1
 
-      module _ (t : Stage) (gone : Redelivers core s t) (more : Bool) (told : asked core.left ≡ rest
+      module _ (t : Stage) (gone : Redelivers core s t) (more : Bool) (told : next core ≡ Rest
           → more ≡ (is_queued t.queue || list_any (λ c. is_inside c.left) t.cores.items)) where
         here_then : slice_get t.cores.items (p - 1) ≡ Some core
         here_then = ap (λ z. slice_get z.items (p - 1)) gone.others.1 ∙ here
 
         pub went : (s' : Stage) (core' : Standing) → Stepped behaviour more core t.queue t.table core' s'.queue s'.table
             → s'.cores.items ≡ slice_set t.cores.items (p - 1) core' → t.steps ≡ suc s'.steps
-            → s'.repeats ≡ counted_on t.repeats (store_answer (held t.table) (asked core.left)) → s'.again.items ≡ t.again.items
-            → Noted t.sent (sent_by (asked core.left)) s'.sent → IsTurn behaviour true l n most es us xs p s'
+            → s'.repeats ≡ counted_on t.repeats (store_answer (held t.table) (asks_of t.table.plan core)) → s'.again.items ≡ t.again.items
+            → Noted t.sent (sent_by (asks_of t.table.plan core)) s'.sent → IsTurn behaviour true l n most es us xs p s'
         went s' core' step put fewer said kept noted =
             subst (λ q. IsTurn behaviour true l n most es us xs q s') same_number
             (one_turn behaviour l n most es us xs s reached (p - 1) core here own_place t gone more told s' core' step (
@@ -183,7 +205,7 @@ module _ (behaviour : Behaviour) (fits : AnswersInRange behaviour) (l : Line) (p
             go (ys, leads) (inl same) =
                 record { turns = us; steps = ys; by_turns = leads.by_turns; plan_is = tried.0 ∙ leads.plan_is; table_is = same ∙ leads.table_is }
             go (ys, leads) (inr r) =
-                let x : Step = (suc (p - 1), (asked core.left, r.reply)) in
+                let x : Step = (suc (p - 1), (asks_of t.table.plan core, r.reply)) in
                 record {
                   turns = us ++ suc (p - 1) ∷ [];
                   steps = ys ++ x ∷ [];
@@ -195,7 +217,7 @@ module _ (behaviour : Behaviour) (fits : AnswersInRange behaviour) (l : Line) (p
                         (λ e. told e ∙ more_is behaviour l n us ys t leads) r.reply r.reads_back r.answers;
                   };
                   plan_is = tried.0 ∙ leads.plan_is;
-                  table_is = r.table_is ∙ ap (λ z. results_next z (asked core.left)) leads.table_is ∙ sym (results_more _ ys x);
+                  table_is = r.table_is ∙ ap (λ z. results_next z (asks_of t.table.plan core)) leads.table_is ∙ sym (results_more _ ys x);
                 }
 
 pub one_fewer : (k : ℕ) → (k ≡ 0 → ⊥) → k ≡ suc (k - 1)

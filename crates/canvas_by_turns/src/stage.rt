@@ -7,19 +7,18 @@ ghost use Rattle.canvas_effects.specs.Effects.{first_messages};
 ghost use Rattle.canvas_history.specs.Table.{no_results};
 ghost use Rattle.canvas_backend.specs.Plain.{held};
 ghost use Rattle.canvas_history.specs.Roster.{roster_of};
-ghost use Rattle.canvas_runs.specs.Core.{end, rest, ReadsBack, is_inside};
+ghost use Rattle.canvas_runs.specs.Core.{ReadsBack, is_inside};
 ghost use Rattle.canvas_runs.specs.Tally.{greatest_count};
 ghost use Rattle.canvas_runs.specs.Worker.{sealed};
 ghost use Rattle.canvas_turns.specs.Turns.{Step, IsWorker, FirstsRead, is_queued};
-ghost use Rattle.canvas_core.specs.Asks.{shown};
 ghost use Rattle.canvas_core.specs.Books.{no_book};
 ghost use Rattle.canvas_core.specs.EnvelopeWorker.{enveloped_by, no_tasks};
 ghost use Rattle.canvas_core.specs.CoreState as standing;
-ghost use Rattle.canvas_core.specs.CoreState.{Standing, asked};
+ghost use Rattle.canvas_core.specs.CoreState.{Standing, next};
 ghost use Rattle.canvas_core.specs.declared.ask.Ask.TheVariants as ask;
 ghost use Rattle.canvas_by_turns.specs.Traced.{sent_by};
 ghost use Rattle.canvas_by_turns.specs.steps.Noting.{Noted};
-ghost use Rattle.canvas_by_turns.specs.steps.Stages.{rows_of, MayAsk, AreInRange, Stepped, IsTried, store_answer, counted_on, Redelivers, AreNew, Given, Reached, HasReached, IsTurn, IsHalt, IsNew};
+ghost use Rattle.canvas_by_turns.specs.steps.Stages.{rows_of, asks_of, IsThere, MayAsk, AreInRange, Stepped, IsTried, store_answer, counted_on, Redelivers, AreNew, Given, Reached, HasReached, IsTurn, IsHalt, IsNew};
 
 use crate::entries::first_for;
 use crate::firsts::first_envelopes;
@@ -35,7 +34,6 @@ use std::alloc::Global;
 
 /// Publishes what a worker hands out.
 fn publish<T: Tasks>(
-    alloc: Global,
     core: &mut Core,
     queue: &mut PlainBroker<Letter>,
     table: &PlainBackend,
@@ -44,17 +42,18 @@ fn publish<T: Tasks>(
 ) -> Result<(), Memory>
     requires inside { core.old.is_out ≡ false }
     requires reads_back { ReadsBack (enveloped_by no_tasks no_book) core.old.left }
-    requires asks { shown core.old.task (asked core.old.left) ≡ ask.Publish }
+    requires asks { next core.old ≡ ask.Publish }
     ensures ok { OnOk result ((more : Bool)
         → Stepped (T.behaviour tasks.now) more core.old queue.old table.now core.new queue.new
         table.now) }
-    ensures sent { OnOk result (Noted sent.old (sent_by (asked core.old.left)) sent.new) }
+    ensures sent { OnOk result
+        (Noted sent.old (sent_by (asks_of table.now.plan core.old)) sent.new) }
 {
     match core.envelope() {
         Some(envelope) => {
             sent.note(&envelope)?;
             match queue.publish(envelope) {
-                Ok(()) => core.answer(alloc, table.roster(), tasks, Reply::Published),
+                Ok(()) => core.answer(table, tasks, Reply::Published),
                 Err(_refused) => Err(Memory),
             }
         }
@@ -75,7 +74,6 @@ fn count_again(repeats: u64, stored: Stored) -> u64
 /// One ask of a worker, answered by the queue and the table. A worker that rests is told whether
 /// there is more. A store that answers Again is counted, and a publish noted.
 fn step<T: Tasks>(
-    alloc: Global,
     core: &mut Core,
     queue: &mut PlainBroker<Letter>,
     table: &mut PlainBackend,
@@ -85,37 +83,38 @@ fn step<T: Tasks>(
     more: bool,
 ) -> Result<(), Memory>
     requires inside { core.old.is_out ≡ false }
-    requires may { MayAsk table.old.plan (held table.old) (asked core.old.left) }
+    requires may { MayAsk table.old.plan (held table.old) (asks_of table.old.plan core.old) }
+    requires there { IsThere table.old.plan (next core.old) }
     requires in_range { AreInRange (held table.old) }
-    requires going { asked core.old.left ≡ end → ⊥ }
+    requires going { next core.old ≡ ask.End → ⊥ }
     ensures ok { OnOk result (Stepped (T.behaviour tasks.now) more core.old queue.old table.old
         core.new queue.new table.new) }
-    ensures sent { OnOk result (Noted sent.old (sent_by (asked core.old.left)) sent.new) }
+    ensures sent { OnOk result
+        (Noted sent.old (sent_by (asks_of table.old.plan core.old)) sent.new) }
     ensures again { repeats.new
-        ≡ counted_on repeats.old (store_answer (held table.old) (asked core.old.left)) }
+        ≡ counted_on repeats.old
+        (store_answer (held table.old) (asks_of table.old.plan core.old)) }
     ensures err { OnErr result
         (IsTried (T.behaviour tasks.now) more core.old queue.old table.old table.new) }
 {
     match core.next() {
-        Ask::Take => core.answer(alloc, table.roster(), tasks, Reply::Taken(queue.take())),
-        Ask::Publish => publish(alloc, core, queue, table, sent, tasks),
+        Ask::Take => core.answer(table, tasks, Reply::Taken(queue.take())),
+        Ask::Publish => publish(core, queue, table, sent, tasks),
         Ask::Store(task, outcome) => {
             let stored = table.store(task, &outcome);
             *repeats = count_again(*repeats, stored);
-            core.answer(alloc, table.roster(), tasks, Reply::Stored(stored))
+            core.answer(table, tasks, Reply::Stored(stored))
         }
         Ask::Part(group, task) => {
             let count = table.part(group, task);
-            core.answer(alloc, table.roster(), tasks, Reply::Counted(count))
+            core.answer(table, tasks, Reply::Counted(count))
         }
-        Ask::Read(task) => core.answer(
-            alloc,
-            table.roster(),
-            tasks,
-            Reply::Found(table.read(task)),
-        ),
-        Ask::Ack(_) => core.answer(alloc, table.roster(), tasks, Reply::Acked),
-        Ask::Rest => core.answer(alloc, table.roster(), tasks, Reply::Rested { more }),
+        Ask::Read(group, place) => match table.member(group, place) {
+            Some(task) => core.answer(table, tasks, Reply::Found(task, table.read(task))),
+            None => unreachable!(),
+        },
+        Ask::Ack(_) => core.answer(table, tasks, Reply::Acked),
+        Ask::Rest => core.answer(table, tasks, Reply::Rested { more }),
         Ask::End => Ok(()),
     }
 }
@@ -135,7 +134,7 @@ fn publish_all(queue: &mut PlainBroker<Letter>, envelopes: Vec<Letter>) -> Resul
 
 /// Whether a worker asks for nothing more.
 fn has_ended(core: &Core) -> bool
-    ensures end { MatchBool result (asked core.now.left ≡ end) (asked core.now.left ≡ end → ⊥) }
+    ensures end { MatchBool result (next core.now ≡ ask.End) (next core.now ≡ ask.End → ⊥) }
     ensures reads_back { core.now.is_out ≡ false
         → ReadsBack (enveloped_by no_tasks no_book) core.now.left }
 {
@@ -250,7 +249,7 @@ impl Stage {
     fn tells_more(&self, index: usize) -> bool
         requires { index < length self.now.cores.items }
         ensures { (core : Standing) → slice_get self.now.cores.items index ≡ Some core
-            → asked core.left ≡ rest
+            → next core ≡ ask.Rest
             → result
             ≡ (is_queued self.now.queue
             || list_any (λ c. is_inside c.left) self.now.cores.items) }
@@ -337,7 +336,6 @@ impl Stage {
         }
         let more = self.tells_more(index);
         match step(
-            alloc,
             &mut self.cores[index],
             &mut self.queue,
             &mut self.table,

@@ -77,10 +77,8 @@ fn outcomes_found(backend: &Backend, seat: &mut BackendSeat, group: GroupNo) -> 
 {
     let mut found = 0u32;
     for index in 0..100u32 {
-        if let Some(task) = backend.roster().member(group, index) {
-            if backend.roster().knows(task)
-                && backend.read(seat, task) == Some(outcome_of_member(task))
-            {
+        if let Some(task) = backend.member(group, index) {
+            if backend.knows(task) && backend.read(seat, task) == Some(outcome_of_member(task)) {
                 found = found.wrapping_add(1);
             }
         }
@@ -103,7 +101,7 @@ fn stores_share(
     let mut found = 0u32;
     for index in 0..100u32 {
         if index % 16 == number {
-            if let Some(task) = backend.roster().member(group, index) {
+            if let Some(task) = backend.member(group, index) {
                 let outcome = outcome_of_member(task);
                 if stores_and_returns(backend, seat, group, task, &outcome) == Some(99) {
                     completed = completed.wrapping_add(1);

@@ -11,7 +11,7 @@ use Rattle.canvas_history.specs.declared.stored.Stored.{Stored}
 use Rattle.canvas_history.specs.declared.stored.Stored.TheVariants.{First, Again}
 use Rattle.canvas_history.specs.Table.{Results, store, part, read, no_results, first_or, reply_of}
 use Rattle.canvas_backend.specs.Plain.{Shelf, held}
-use Rattle.canvas_history.specs.Roster.{Roster, roster_of, is_chord, is_member}
+use Rattle.canvas_history.specs.Roster.{Roster, roster_of, members, is_chord, is_member}
 use Rattle.canvas_history.specs.Queue as queue
 use Rattle.canvas_runs.specs.Book.{book_of, book_on}
 use Rattle.canvas_runs.specs.Core.{to_queue, to_table, rest, from_queue, from_table, rested, taking, left_after, ReadsBack, IsCoreRun, is_inside, ack, acked}
@@ -22,12 +22,15 @@ use Rattle.canvas_turns.specs.Spending.{Entry, TurnedAgain, wanted, spent, again
 use Rattle.canvas_turns.specs.Turns.{Step, HasEnded, IsWorker, AllEnded, Begins, round, rounds, queue_after, queue_next, results_after, results_next, redeliveries_in}
 use Rattle.canvas_turns.specs.TurnLaws.{ByTurns}
 use Rattle.canvas_envelope.specs.Content.{Content}
-use Rattle.canvas_core.specs.Asks.{Asked, Answer}
+use Rattle.canvas_core.specs.Asks.{Asked, Answer, FoundOf, replied}
 use Rattle.canvas_core.specs.Books.{no_book}
 use Rattle.canvas_core.specs.EnvelopeWorker.{enveloped, enveloped_by, no_tasks}
 use Rattle.canvas_core.specs.CorePast.{task_in}
 use Rattle.canvas_core.specs.CoreState as standing
-use Rattle.canvas_core.specs.CoreState.{Standing, asked, after_reply, begun, point_at}
+use Rattle.canvas_core.specs.CoreState.{Standing, located, asked, next, after_reply, begun, point_at}
+use Rattle.canvas_core.specs.declared.ask.Ask.{Ask}
+use Rattle.canvas_core.specs.declared.ask.Ask.TheVariants.{Read}
+use Rattle.canvas_core.specs.declared.ask.Reply.{Reply}
 use Rattle.canvas_core.specs.declared.cause.Cause.{Cause}
 use Rattle.canvas_core.specs.declared.cause.Cause.TheVariants.{Memory, Stopped}
 use Rattle.canvas_by_turns.specs.Traced.{sent_after}
@@ -39,6 +42,15 @@ abbrev pub rows_of : ℕ → Results → List State
 rows_of tasks results = map results.outcomes (numbers_from 1 tasks)
 
 -- ---- one ask
+
+-- what a core asks, where a member that it reads has the task that the plan says
+abbrev pub asks_of : Roster → Standing → Asked
+asks_of plan c = asked (located (book_on plan) c.left)
+
+-- a member that is read is there
+abbrev pub IsThere : Roster → Ask → Type 0
+IsThere plan (Read g i) = IsSome (slice_get (members plan g) i)
+IsThere plan a = Unit {0}
 
 -- what the queue and the table answer where they hold this; a worker that rests is told whether
 -- there is more
@@ -65,21 +77,23 @@ AreInRange results = (t : ℕ) (o : Outcome) → results.outcomes t ≡ Some o �
 -- one answered ask of a worker: what it, the queue and the table were, and what they are
 pub record Stepped (behaviour : Behaviour) (more : Bool) (c : Standing) (queue : List Envelope)
     (table : Shelf) (c' : Standing) (queue' : List Envelope) (table' : Shelf) : Type 0 where
-  pub reply : Answer
-  pub answers : AnswersNow table.plan queue (held table) more (asked c.left) reply
+  pub reply : Reply
+  pub answers : AnswersNow table.plan queue (held table) more (asks_of table.plan c)
+      (replied reply)
+  pub found : FoundOf (book_on table.plan) reply (next c)
   pub reads_back : ReadsBack (enveloped_by no_tasks no_book) c.left
   pub core : c' ≡ after_reply behaviour (book_on table.plan) c reply
-  pub queue_is : queue' ≡ queue_next queue (asked c.left)
-  pub table_is : held table' ≡ results_next (held table) (asked c.left)
+  pub queue_is : queue' ≡ queue_next queue (asks_of table.plan c)
+  pub table_is : held table' ≡ results_next (held table) (asks_of table.plan c)
   pub plan_is : table'.plan ≡ table.plan
 
 -- an ask that was not answered to its end: the table is as it was, or as the ask leaves it
 pub record Tried (behaviour : Behaviour) (more : Bool) (c : Standing) (queue : List Envelope)
     (table table' : Shelf) : Type 0 where
   pub reply : Answer
-  pub answers : AnswersNow table.plan queue (held table) more (asked c.left) reply
+  pub answers : AnswersNow table.plan queue (held table) more (asks_of table.plan c) reply
   pub reads_back : ReadsBack (enveloped_by no_tasks no_book) c.left
-  pub table_is : held table' ≡ results_next (held table) (asked c.left)
+  pub table_is : held table' ≡ results_next (held table) (asks_of table.plan c)
 
 abbrev pub IsTried : (behaviour : Behaviour) → Bool → Standing → List Envelope → Shelf → Shelf
     → Type 0
@@ -117,7 +131,8 @@ pub record Redelivers (core : Standing) (s s' : Stage) : Type 0 where
 -- a core has asked this and was answered so
 pub record IsCoreAt (behaviour : Behaviour) (l : Line) (ys : List (Asked × Answer)) (c : Standing) :
     Type 0 where
-  pub left : c.left ≡ left_after (enveloped behaviour (roster_of l)) taking (scripts_of ys)
+  pub left : located (book_of l) c.left
+      ≡ left_after (enveloped behaviour (roster_of l)) taking (scripts_of ys)
   pub is_in : c.is_out ≡ false
   -- inside a script it holds an envelope, and names the task of that one's message
   pub holds : standing.held c ≡ held_after None ys

@@ -2,7 +2,10 @@
 //! comes to its answer.
 
 ghost use Rattle.std.specs.Prelude.{◌≡◌, IfSome};
-ghost use Rattle.canvas_core.specs.Asks.{FoundInRange};
+ghost use Rattle.canvas_task.specs.Apply.{IsInRange};
+ghost use Rattle.canvas_core.specs.Asks.{FoundInRange, FoundOf};
+ghost use Rattle.canvas_core.specs.Book.{book_on};
+ghost use Rattle.canvas_core.specs.CoreState.{next};
 
 use crate::envelopes;
 use crate::runs::states::first_envelopes;
@@ -182,7 +185,7 @@ fn keeps_plain(backend: &mut PlainBackend) -> bool {
     let Some(task) = TaskNo::new(1) else {
         return false;
     };
-    backend.roster().knows(task)
+    backend.knows(task)
         && backend.store(task, &Outcome::Success(8)) == Stored::First
         && backend.store(task, &Outcome::Success(9)) == Stored::Again
         && backend.read(task) == Some(Outcome::Success(8))
@@ -200,7 +203,7 @@ fn keeps(backend: &Backend, seat: &mut BackendSeat, other: &mut BackendSeat, tas
     requires seat { seat.old.of ≡ backend.now.id }
     requires other { other.old.of ≡ backend.now.id }
 {
-    backend.roster().knows(task)
+    backend.knows(task)
         && backend.store(seat, task, &Outcome::Success(8)) == Stored::First
         && backend.store(other, task, &Outcome::Success(9)) == Stored::Again
         && backend.read(other, task) == Some(Outcome::Success(8))
@@ -232,18 +235,14 @@ fn has_failed(core: &mut Core) -> bool {
 }
 
 /// Whether a core goes on with a reply. Where memory is refused it has failed.
-fn goes_on(
-    alloc: Global,
-    backend: &PlainBackend,
-    core: &mut Core,
-    reply: Reply,
-) -> Result<bool, Memory>
-    requires { FoundInRange reply }
+fn goes_on(backend: &PlainBackend, core: &mut Core, reply: Reply) -> Result<bool, Memory>
+    requires in_range { FoundInRange reply }
+    requires found { FoundOf (book_on backend.now.plan) reply (next core.old) }
 {
     if !core.next().suits(&reply) {
         return Ok(false);
     }
-    match core.answer(alloc, backend.roster(), &BuiltinTasks, reply) {
+    match core.answer(backend, &BuiltinTasks, reply) {
         Ok(()) => Ok(true),
         Err(Memory) => {
             if has_failed(core) {
@@ -255,43 +254,58 @@ fn goes_on(
     }
 }
 
+/// The reply that finds an outcome of the member that a core asks for.
+fn finds(backend: &PlainBackend, core: &Core, outcome: Outcome) -> Option<Reply>
+    requires { IsInRange outcome }
+    ensures in_range { IfSome result FoundInRange }
+    ensures found { IfSome result (λ r. FoundOf (book_on backend.now.plan) r (next core.now)) }
+{
+    match core.next() {
+        Ask::Read(group, place) => match backend.member(group, place) {
+            Some(task) => Some(Reply::Found(task, Some(outcome))),
+            None => None,
+        },
+        _ => None,
+    }
+}
+
 /// The replies to a core whose part completes a header of three, behind the take of its message.
-fn reply_of(step: u32) -> Option<Reply>
-    ensures { IfSome result (λ r. FoundInRange r) }
+fn reply_of(backend: &PlainBackend, core: &Core, step: u32) -> Option<Reply>
+    ensures in_range { IfSome result FoundInRange }
+    ensures found { IfSome result (λ r. FoundOf (book_on backend.now.plan) r (next core.now)) }
 {
     match step {
         0 | 5 => Some(Reply::Stored(Stored::First)),
         1 => Some(Reply::Counted(2)),
-        2 => Some(Reply::Found(Some(Outcome::Success(8)))),
-        3 => Some(Reply::Found(Some(Outcome::Failure(Fault::Plain(Kind::ZeroDivision))))),
-        4 => Some(Reply::Found(Some(Outcome::Success(16)))),
+        2 => finds(backend, core, Outcome::Success(8)),
+        3 => finds(
+            backend,
+            core,
+            Outcome::Failure(Fault::Plain(Kind::ZeroDivision)),
+        ),
+        4 => finds(backend, core, Outcome::Success(16)),
         6 => Some(Reply::Published),
         _ => Some(Reply::Acked),
     }
 }
 
 /// Whether a core goes on with the reply of this number.
-fn steps_on(
-    alloc: Global,
-    backend: &PlainBackend,
-    core: &mut Core,
-    step: u32,
-) -> Result<bool, Memory> {
-    match reply_of(step) {
-        Some(reply) => goes_on(alloc, backend, core, reply),
+fn steps_on(backend: &PlainBackend, core: &mut Core, step: u32) -> Result<bool, Memory> {
+    match reply_of(backend, core, step) {
+        Some(reply) => goes_on(backend, core, reply),
         None => Ok(false),
     }
 }
 
 /// Whether a core that is inside that message comes to its end, with one envelope to publish and
 /// its own acknowledged last.
-fn completes(alloc: Global, backend: &PlainBackend, core: &mut Core) -> Result<bool, Memory> {
+fn completes(backend: &PlainBackend, core: &mut Core) -> Result<bool, Memory> {
     let mut published = 0u32;
     for step in 0..8 {
         if core.envelope().is_some() {
             published = published.saturating_add(1);
         }
-        if !steps_on(alloc, backend, core, step)? {
+        if !steps_on(backend, core, step)? {
             return Ok(false);
         }
     }
@@ -305,14 +319,9 @@ fn last_member(alloc: Global, plan: &Plan) -> Result<Option<Letter>, Memory> {
 }
 
 /// Whether a core that takes this envelope comes to the end of its message.
-fn works(
-    alloc: Global,
-    backend: &PlainBackend,
-    core: &mut Core,
-    taken: Option<Letter>,
-) -> Result<bool, Memory> {
-    if goes_on(alloc, backend, core, Reply::Taken(taken))? {
-        completes(alloc, backend, core)
+fn works(backend: &PlainBackend, core: &mut Core, taken: Option<Letter>) -> Result<bool, Memory> {
+    if goes_on(backend, core, Reply::Taken(taken))? {
+        completes(backend, core)
     } else {
         Ok(false)
     }
@@ -326,7 +335,7 @@ fn works_last(
     plan: &Plan,
 ) -> Result<bool, Memory> {
     match last_member(alloc, plan) {
-        Ok(taken) => works(alloc, backend, core, taken),
+        Ok(taken) => works(backend, core, taken),
         Err(Memory) => Err(Memory),
     }
 }

@@ -3,10 +3,10 @@ use Rattle.canvas_backend.specs.Plain.{Shelf, held}
 use Rattle.canvas_runs.specs.Core.{ReadsBack}
 use Rattle.canvas_core.specs.Books.{no_book}
 use Rattle.canvas_core.specs.EnvelopeWorker.{enveloped_by, no_tasks}
-use Rattle.canvas_core.specs.CoreState.{Standing, asked}
-use Rattle.canvas_by_turns.specs.steps.Stages.{MayAsk, AreInRange}
+use Rattle.canvas_core.specs.CoreState.{Standing, next}
+use Rattle.canvas_by_turns.specs.steps.Stages.{asks_of, IsThere, MayAsk, AreInRange}
 use Rattle.canvas_by_turns.proofs.StageTurns.{here_first, others, place_then, core_then, core_now, unchanged}
-use Rattle.canvas_by_turns.proofs.StageTurns.{not_out, has_open, skipped, stopped, may_ask, held_in_range, went, halfway, one_fewer}
+use Rattle.canvas_by_turns.proofs.StageTurns.{not_out, has_open, skipped, stopped, may_ask, is_there, held_in_range, went, halfway, one_fewer}
 use Rattle.canvas_by_turns.proofs.stage.Stage.turn.Goals as goal
 
 pub returns-then-has_ended-clause-ok : goal.returns-then-has_ended-clause-ok
@@ -72,10 +72,25 @@ step-requires-clause-may g c =
     let back = subst (λ (d : Standing). ReadsBack (enveloped_by no_tasks no_book) d.left) same
     (c.if-has_ended.ensures.reads_back (not_out (g.T.Tasks.behaviour c.args.tasks.now)
     (g.met.T.Tasks.in_range c.args.tasks.now) c.args.plan.now c.args.worker c.args.self.now c.requires first here)) in
-    subst (λ (table : Shelf). MayAsk table.plan (held table) (asked core.left)) (sym (c.in-Ok.ensures.ok first here).others.0)
+    subst (λ (table : Shelf). MayAsk table.plan (held table) (asks_of table.plan core)) (sym (c.in-Ok.ensures.ok first here).others.0)
     (may_ask (g.T.Tasks.behaviour c.args.tasks.now)
     (g.met.T.Tasks.in_range c.args.tasks.now) c.args.plan.now c.args.worker c.args.self.now c.requires core now
     turn.0 turn.1 turn.2 turn.3 turn.5.0 turn.5.1 back)
+
+pub step-requires-clause-there : goal.step-requires-clause-there
+step-requires-clause-there g c =
+    let first = c.index.result.now in
+    let core = c.index_mut.result.now in
+    let turn = c.requires in
+    let here = here_first (g.T.Tasks.behaviour c.args.tasks.now)
+    (g.met.T.Tasks.in_range c.args.tasks.now) c.args.plan.now c.args.worker c.args.self.now c.requires c.index.result.now c.index.ensures in
+    let now = core_now (g.T.Tasks.behaviour c.args.tasks.now)
+    (g.met.T.Tasks.in_range c.args.tasks.now) c.args.plan.now c.args.worker c.args.self.now c.requires
+    c.index.result.now c.index.ensures c.deliver_again.new.self c.in-Ok.ensures.ok c.index_mut.result.now c.index_mut.ensures.value in
+    subst (λ (table : Shelf). IsThere table.plan (next core)) (sym (c.in-Ok.ensures.ok first here).others.0)
+    (is_there (g.T.Tasks.behaviour c.args.tasks.now)
+    (g.met.T.Tasks.in_range c.args.tasks.now) c.args.plan.now c.args.worker c.args.self.now c.requires core now
+    turn.0 turn.1 turn.2 turn.3 turn.5.0 turn.5.1)
 
 pub step-requires-clause-in_range : goal.step-requires-clause-in_range
 step-requires-clause-in_range g c =
@@ -96,7 +111,7 @@ step-requires-clause-going g c =
     let same = unchanged (g.T.Tasks.behaviour c.args.tasks.now)
     (g.met.T.Tasks.in_range c.args.tasks.now) c.args.plan.now c.args.worker c.args.self.now c.requires
     c.index.result.now c.index.ensures c.deliver_again.new.self c.in-Ok.ensures.ok c.index_mut.result.now c.index_mut.ensures.value in
-    λ e. c.if-has_ended.ensures.end (ap (λ (d : Standing). asked d.left) same ∙ e)
+    λ e. c.if-has_ended.ensures.end (ap (λ (d : Standing). next d) same ∙ e)
 
 pub overflow_sub-self : goal.overflow_sub-self
 overflow_sub-self g c =
