@@ -1,11 +1,9 @@
 -- What a backend lets a seat do, for a backend of a plan.
-use Rattle.std.proofs.Common.{◌≡◌, ℕ, [], ◌∷◌, length, slice_get, Option, refl, sym, subst}
-use Rattle.std.specs.Prelude.{IsSome}
+use Rattle.std.proofs.Common.{◌≡◌, sym, subst}
 use Rattle.canvas_task.specs.Apply.{Behaviour}
 use Rattle.canvas_semantics.specs.Line.{Line}
 use Rattle.canvas_rewrite.specs.Planned.{IsPlan}
-use Rattle.canvas_history.specs.Roster.{Roster, roster_of, members}
-use Rattle.canvas_effects.specs.Job.{store, publish, part}
+use Rattle.canvas_history.specs.Roster.{Roster, roster_of}
 use Rattle.canvas_runs.specs.Book.{book_on}
 use Rattle.canvas_runs.specs.Calls.{backend_call}
 use Rattle.canvas_runs.specs.Core.{owning, doing, reading, answered, Suits}
@@ -13,8 +11,7 @@ use Rattle.canvas_runs.specs.Following.{Seat, Serves}
 use Rattle.canvas_core.specs.Asks.{Answer}
 use Rattle.canvas_core.specs.EnvelopeWorker.{enveloped}
 use Rattle.canvas_core.specs.SeatRights.{Can, LetsAsk}
-use Rattle.canvas_core.specs.CoreState.{Left, located, asked, next_in}
-use Rattle.canvas_core.specs.declared.ask.Ask.TheVariants.{Read}
+use Rattle.canvas_core.specs.CoreState.{Left, asked}
 use Rattle.canvas_core.proofs.Cores.Sound.{Sound}
 use Rattle.canvas_core.proofs.Rights.Seats.{can_ask, can_go_on}
 
@@ -37,17 +34,3 @@ can_sound plan s (owning m) h = h
 can_sound plan s (doing js b) h = h.0
 can_sound plan s (reading g c t fs) h = h
 can_sound plan s left h = tt
-
--- there is a member of the place that is asked for
-pub has_member : (plan : Roster) (s : Seat) (left : Left) (x : Option ℕ) (g i : ℕ) → Can plan s (located (book_on plan) left) → next_in left x ≡ Read g i
-    → IsSome (slice_get (members plan g) i)
-has_member plan s (reading h c t fs) x g i can e =
-    let group : h ≡ g = cc in
-    let place : length fs ≡ i = cc in
-    subst (λ k. IsSome (slice_get (members plan k) i)) group
-    (subst (λ n. IsSome (slice_get (members plan h) n)) place (subst (λ o. IsSome o) (sym can.2) refl))
-has_member plan s (doing [] b) x g i can e = absurd cc
-has_member plan s (doing (store t o ∷ js) b) x g i can e = absurd cc
-has_member plan s (doing (publish m ∷ js) b) x g i can e = absurd cc
-has_member plan s (doing (part h t c ∷ js) b) x g i can e = absurd cc
-has_member plan s left x g i can e = absurd cc
