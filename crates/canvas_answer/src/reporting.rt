@@ -1,5 +1,5 @@
 //! Reports as texts or as JSON, and results that decide the status.
-ghost use Rattle.std.specs.Prelude.{◌≡◌, [], IfOk, true, false, string_bytes};
+ghost use Rattle.std.specs.Prelude.{◌≡◌, [], IfOk, string_bytes};
 ghost use Rattle.canvas_report.specs.Failing.{any_failed};
 ghost use Rattle.canvas_semantics.specs.Evaluation.{with_states};
 ghost use Rattle.canvas_semantics.specs.Line.{ends_of, tree_of};
@@ -8,7 +8,6 @@ ghost use Rattle.canvas_semantics.specs.States.{rows_from, states};
 ghost use Rattle.canvas_task.specs.Apply.{Behaviour};
 ghost use Rattle.canvas_task.specs.Text.{Text};
 ghost use Rattle.canvas_answer.specs.Answers.{AnswersPart, AnswersAll};
-ghost use Rattle.canvas_answer.specs.declared.reporting.Form.TheVariants.{Plain};
 ghost use Rattle.canvas_answer.specs.Told.{IsReport, IsToldText, IsUntoldText, report_status};
 
 use crate::answer::Answer;
@@ -47,13 +46,6 @@ pub struct Manner {
 pub const FAILED: u8 = 3;
 
 impl Manner {
-    /// Whether a report is printed as ever, and its result doesn't count.
-    pub fn is_plain(&self) -> bool
-        ensures { result ≡ true → (self.now.form ≡ Plain) × (self.now.fails ≡ false) }
-    {
-        self.form == Form::Plain && !self.fails
-    }
-
     /// The report of a whole run.
     fn whole_text<T: Tasks>(
         &self,

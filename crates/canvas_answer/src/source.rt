@@ -198,11 +198,6 @@ fn blamed_of(
 }
 
 impl<'a, T> Source<'a, T> {
-    /// Whether a run is shown as its report has it.
-    pub fn is_plain(&self) -> bool {
-        self.errors.is_empty() && !self.is_renamed
-    }
-
     /// The rows of a whole run, with the exceptions that stubs raise.
     pub(crate) fn named_rows(
         &self,

@@ -1,9 +1,6 @@
 //! `canvas run` and `canvas turns`.
 ghost use Rattle.std.specs.Prelude.{◌≡◌, [], IfOk, None, false};
-ghost use Rattle.canvas_answer.specs.Answers.{AnswersPart};
 ghost use Rattle.canvas_answer.specs.Plans.{IsTextPlan};
-ghost use Rattle.canvas_answer.specs.declared.refusal.Refusal.{Refusal};
-ghost use Rattle.canvas_answer.specs.declared.reporting.Form.TheVariants.{Plain};
 ghost use Rattle.canvas_semantics.specs.Line.{tree_of};
 ghost use Rattle.canvas_semantics.specs.States.{states};
 ghost use Rattle.canvas_task.specs.Text.{Text};
@@ -17,9 +14,7 @@ use canvas_answer::prepared::Plans;
 use canvas_answer::refusal::Refusal;
 use canvas_answer::reporting::Manner;
 use canvas_answer::source::Source;
-use canvas_engine::{
-    OpenGate, Report, RunFault, Stop, TextFault, When, run, run_text_again, run_turns_again,
-};
+use canvas_engine::{OpenGate, Report, RunFault, Stop, When, run, run_turns_again};
 use canvas_rewrite::Plan;
 use canvas_task::{TaskNo, Tasks};
 use std::alloc::Global;
@@ -101,21 +96,7 @@ impl ByTurns<'_> {
         answer.with_remark(self.counts.then_some(Remark::Repeats(repeats)))
     }
 
-    /// The report, as it is printed where nothing else is asked for.
-    fn plain<T: Tasks>(&self, alloc: Global, source: &Source<'_, T>) -> Result<Answer, Refusal>
-        ensures { IfOk result
-            (IsRunOf (T.behaviour source.now.tasks.now) source.now.text.now Plain false) }
-    {
-        let (text, tasks) = (source.text, source.tasks);
-        match run_text_again(alloc, text, tasks, self.workers, self.turns, self.again) {
-            Ok((report, repeats)) => {
-                Ok(self.counted(Answer::whole(report.into_bytes()), repeats))
-            }
-            Err(fault) => early_text(alloc, fault),
-        }
-    }
-
-    /// The report in another manner.
+    /// The report.
     fn shown<T: Tasks>(
         &self,
         alloc: Global,
@@ -168,13 +149,10 @@ impl ByTurns<'_> {
         names: Option<&str>,
         source: &Source<'_, T>,
     ) -> Result<Answer, Refusal>
-        ensures { source.now.is_renamed ≡ false → source.now.text.now ≡ source.now.shown.now
-            → source.now.errors.now ≡ [] → IfOk result (IsRunOf (T.behaviour source.now.tasks.now)
-            source.now.shown.now self.now.manner.form self.now.manner.fails) }
+        ensures { source.now.is_renamed ≡ false → source.now.errors.now ≡ [] → IfOk result
+            (IsRunOf (T.behaviour source.now.tasks.now) source.now.shown.now self.now.manner.form
+            self.now.manner.fails) }
     {
-        if names.is_none() && self.manner.is_plain() && source.is_plain() {
-            return self.plain(alloc, source);
-        }
         let plans = lasting(Plans::of(alloc, source)?);
         self.shown_named(alloc, names, &plans, source)
     }
@@ -189,9 +167,8 @@ pub(crate) fn answer_turns<T: Tasks>(
     manner: Manner,
     source: &Source<'_, T>,
 ) -> Result<Answer, Refusal>
-    ensures { source.now.is_renamed ≡ false → source.now.text.now ≡ source.now.shown.now
-        → source.now.errors.now ≡ [] → IfOk result (IsRunOf (T.behaviour source.now.tasks.now)
-        source.now.shown.now manner.form manner.fails) }
+    ensures { source.now.is_renamed ≡ false → source.now.errors.now ≡ [] → IfOk result
+        (IsRunOf (T.behaviour source.now.tasks.now) source.now.shown.now manner.form manner.fails) }
 {
     let once = ByTurns {
         workers,
@@ -211,17 +188,5 @@ pub(crate) fn answer_turns<T: Tasks>(
             by.answer(alloc, None, source)
         }
         Again::Named(list) => once.answer(alloc, Some(list), source),
-    }
-}
-
-/// Why a text has no whole report, and what its run stored, where there is memory for it.
-fn early_text(alloc: Global, fault: TextFault) -> Result<Answer, Refusal>
-    ensures { IfOk result
-        (λ a. (text : Text) × (refusal : Refusal) × AnswersPart text refusal a) }
-{
-    match fault {
-        TextFault::Sig(fault) => Err(Refusal::from(fault)),
-        TextFault::Run { fault, stored } => Ok(Answer::in_part(alloc, stored, refused(&fault))),
-        TextFault::Memory => Err(Refusal::Memory),
     }
 }

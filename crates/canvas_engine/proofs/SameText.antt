@@ -1,6 +1,5 @@
 -- What a plan says of the canvas that it was made from.
-use Rattle.std.proofs.Common.{◌≡◌, ℕ, List, Option, Some, None, Result, Ok, Err, IfOk, IfErr, IfSome, String, Global, string_bytes, sym, ap, ◌∙◌, subst}
-use Rattle.std.specs.Result.{result_ok}
+use Rattle.std.proofs.Common.{◌≡◌, ℕ, List, Result, Ok, Err, IfOk, IfErr, String, Global, string_bytes, sym, ap, ◌∙◌, subst}
 use Rattle.canvas_task.specs.Apply.{Behaviour}
 use Rattle.canvas_task.specs.Text.{Text}
 use Rattle.canvas_semantics.specs.NormalLine.{normal}
@@ -11,18 +10,15 @@ use Rattle.canvas_semantics.specs.Report.{report, report_of}
 use Rattle.canvas_semantics.specs.SameMeaning.{IsSame}
 use Rattle.canvas_semantics.specs.States.{states, rows_from}
 use Rattle.canvas_semantics.proofs.RowNumbers.{states_in, states_listed}
-use Rattle.canvas_semantics.proofs.SameReport.{same_report, same_report_of}
+use Rattle.canvas_semantics.proofs.SameReport.{same_report}
 use Rattle.canvas_turns.specs.Spending.{Entry}
 use Rattle.canvas_by_turns.specs.Correct.{AreWorkers, IsAsked, IsWholeAgain}
 use Rattle.canvas_history.specs.Callers.{told}
 use Rattle.canvas_engine.specs.Headline.{Headline, OnlyWanted}
-use Rattle.canvas_engine.specs.Texts.{IsPlanOfText, IsStored, IsTextAgain, IsTextFault, IsTextRun}
+use Rattle.canvas_engine.specs.Texts.{IsPlanOfText, IsTextAgain, IsTextFault, IsTextRun}
 use Rattle.canvas_engine.specs.steps.PlanTexts.{IsPlanFault}
 use Rattle.canvas_by_turns.specs.declared.fault.RunFault.{RunFault}
-use Rattle.canvas_by_turns.specs.declared.fault.RunFault.TheVariants.{Halted}
 use Rattle.canvas_engine.specs.declared.threads.records.Records.{Records}
-use Rattle.canvas_report.specs.declared.report.Report.{Report}
-use Rattle.canvas_core.specs.declared.cause.Cause.{Cause}
 use Rattle.canvas_engine.specs.declared.text.TextFault.{TextFault}
 use Rattle.canvas_engine.specs.declared.text.TextFault.TheVariants as a_fault
 
@@ -34,12 +30,6 @@ same_states behaviour c all h e = ap (states behaviour) e ∙ states_listed beha
 pub same_text : (behaviour : Behaviour) → (c : Tree) (all : Line) → IsSame (normal c) c → tree_of all ≡ numbered (normal c)
     → report_of (tree_of all) (rows_from 1 (states behaviour (tree_of all))) ≡ report behaviour c
 same_text behaviour c all h e = ap (λ t. report_of t (rows_from 1 (states behaviour t))) e ∙ same_report behaviour c h
-
--- what a fault's rows are written as, where they are
-pub stored_report : {E : Type 0} (t : Tree) (f : RunFault) (cause : Cause) (rows : Report) (r : Result (String Global) E) (o : Option (String Global))
-    → f ≡ Halted cause (Some rows) → o ≡ result_ok r → IfOk r (λ text. string_bytes text ≡ report_of t (rows_from 1 rows.rows)) → IfSome o (IsStored t f)
-stored_report t f cause rows (Ok text) o is made k = rw made (cause, rows, is, k)
-stored_report t f cause rows (Err e) o is made k = rw made tt
 
 -- ---- what a text answers, by what its plan answers
 
@@ -73,16 +63,10 @@ module _ (behaviour : Behaviour) (bytes : Text) (c : Tree) (all : Line) (plan : 
   }
   ran_again n turns es (Err f) k = tt
 
-  ran_stored : (f : RunFault) (stored : Option (String Global)) → IfSome stored (IsStored (tree_of all) f) → IfSome stored (IsStored (numbered c) f)
-  ran_stored f None k = tt
-  ran_stored f (Some text) k =
-      let rows = rows_from 1 k.1.rows in
-      (k.0, k.1, k.2, k.3 ∙ ap (λ t. report_of t rows) plan.tree ∙ same_report_of c rows plan.same)
-
   pub ran_fault : {X : Type 0} (Says : List State → RunFault → Type 0) (r : Result X TextFault)
-      → IfErr r (IsPlanFault (tree_of all) (Says (states behaviour (tree_of all)))) → IfErr r (IsTextFault behaviour bytes Says)
+      → IfErr r (IsPlanFault (Says (states behaviour (tree_of all)))) → IfErr r (IsTextFault behaviour bytes Says)
   ran_fault Says (Ok text) k = tt
   ran_fault Says (Err (a_fault.Sig f)) k = absurd k
-  ran_fault Says (Err (a_fault.Run f stored)) k = let P : List State → Type 0 = λ ss. Says ss f in
-      (c, plan.text, subst P (same_states behaviour c all plan.same plan.tree) k.0, ran_stored f stored k.1)
+  ran_fault Says (Err (a_fault.Run f)) k = let P : List State → Type 0 = λ ss. Says ss f in
+      (c, plan.text, subst P (same_states behaviour c all plan.same plan.tree) k)
   ran_fault Says (Err a_fault.Memory) k = tt

@@ -1,7 +1,6 @@
 -- The report of a text: of the canvas that it reads as (JSON, RFC 8259; signatures as Celery writes
 -- them); or why there is none.
-use Rattle.std.specs.Prelude.{◌≡◌, ℕ, List, Some, Ok, Err, IfSome, String, string_bytes}
-use Rattle.std.specs.Global.{Global}
+use Rattle.std.specs.Prelude.{◌≡◌, ℕ, List, Ok, Err}
 use Rattle.canvas_task.specs.Apply.{Behaviour}
 use Rattle.canvas_history.specs.Callers.{told}
 use Rattle.canvas_values.specs.CanvasText.{text_reading}
@@ -10,19 +9,16 @@ use Rattle.canvas_semantics.specs.NormalLine.{normal}
 use Rattle.canvas_semantics.specs.Tree.{Tree, numbered}
 use Rattle.canvas_semantics.specs.Evaluation.{State}
 use Rattle.canvas_semantics.specs.Line.{Line, tree_of}
-use Rattle.canvas_semantics.specs.Report.{report, report_of}
+use Rattle.canvas_semantics.specs.Report.{report}
 use Rattle.canvas_semantics.specs.SameMeaning.{IsSame}
-use Rattle.canvas_semantics.specs.States.{rows_from, states}
+use Rattle.canvas_semantics.specs.States.{states}
 use Rattle.canvas_turns.specs.Spending.{Entry}
 use Rattle.canvas_by_turns.specs.Correct.{AreWorkers, IsAsked, IsWholeAgain}
 use Rattle.canvas_engine.specs.Headline.{Headline, OnlyWanted}
 use Rattle.canvas_by_turns.specs.declared.fault.RunFault.{RunFault}
-use Rattle.canvas_by_turns.specs.declared.fault.RunFault.TheVariants.{Halted}
 use Rattle.canvas_engine.specs.declared.threads.records.Records.{Records}
-use Rattle.canvas_report.specs.declared.report.Report.{Report}
 use Rattle.canvas_engine.specs.declared.text.TextFault.{TextFault}
 use Rattle.canvas_engine.specs.declared.text.TextFault.TheVariants.{Sig, Run, Memory}
-use Rattle.canvas_core.specs.declared.cause.Cause.{Cause}
 
 -- the line is the numbered normal line of the canvas that the text reads as
 pub record IsPlanOfText (bytes : Text) (c : Tree) (all : Line) : Type 0 where
@@ -30,18 +26,13 @@ pub record IsPlanOfText (bytes : Text) (c : Tree) (all : Line) : Type 0 where
   pub same : IsSame (normal c) c
   pub tree : tree_of all ≡ numbered (normal c)
 
--- the text is the report, over the tree, of the rows that the fault has
-abbrev pub IsStored : Tree → RunFault → String Global → Type 0
-IsStored t f s = (cause : Cause) × (r : Report) × (f ≡ Halted cause (Some r))
-    × (string_bytes s ≡ report_of t (rows_from 1 r.rows))
-
--- Why a text has no report: its first refusal; else, of the run of the canvas that it reads as,
--- with the report of the rows that there are, unless memory was refused to it; or memory that was
--- refused before the run or after it. `Says` is what a fault of a run with these states says.
+-- Why a text has no report: its first refusal; else the fault of the run of the canvas that it
+-- reads as; or memory that was refused before the run or after it. `Says` is what a fault of a run
+-- with these states says.
 abbrev pub IsTextFault : Behaviour → Text → (List State → RunFault → Type 0) → TextFault → Type 0
 IsTextFault behaviour bytes Says (Sig e) = text_reading bytes ≡ Err e
-IsTextFault behaviour bytes Says (Run f stored) = (c : Tree) × (text_reading bytes ≡ Ok c)
-    × Says (states behaviour (numbered c)) f × IfSome stored (IsStored (numbered c) f)
+IsTextFault behaviour bytes Says (Run f) =
+    (c : Tree) × (text_reading bytes ≡ Ok c) × Says (states behaviour (numbered c)) f
 IsTextFault behaviour bytes Says Memory = Unit {0}
 
 -- The text is the report of the canvas that the bytes read as, and the records are those of a run

@@ -1,5 +1,5 @@
 //! From the text of a canvas to the text of its report.
-ghost use Rattle.std.specs.Prelude.{◌≡◌, List, Ok, IfOk, IfErr, IfSome, string_bytes};
+ghost use Rattle.std.specs.Prelude.{◌≡◌, List, Ok, IfOk, IfErr, string_bytes};
 ghost use Rattle.canvas_history.specs.Callers.{told};
 ghost use Rattle.canvas_values.specs.CanvasText.{text_reading};
 ghost use Rattle.canvas_semantics.specs.Tree.{Tree};
@@ -10,7 +10,7 @@ ghost use Rattle.canvas_semantics.specs.States.{rows_from, states};
 ghost use Rattle.canvas_by_turns.specs.Correct.{AreWorkers, IsAsked, IsWholeAgain, IsRunFault};
 ghost use Rattle.canvas_engine.specs.Evidence.{IsThreadFault};
 ghost use Rattle.canvas_engine.specs.Headline.{Headline, OnlyWanted};
-ghost use Rattle.canvas_engine.specs.Texts.{IsPlanOfText, IsStored, IsTextAgain, IsTextFault, IsTextRun};
+ghost use Rattle.canvas_engine.specs.Texts.{IsPlanOfText, IsTextAgain, IsTextFault, IsTextRun};
 ghost use Rattle.canvas_engine.specs.declared.threads.records.Records.{Records};
 ghost use Rattle.canvas_engine.specs.steps.PlanTexts.{IsPlanFault, IsReadFault};
 
@@ -31,13 +31,10 @@ pub enum TextFault {
     /// The text is refused.
     #[error("{0}")]
     Sig(SigFault),
-    /// Its run has no whole report. `stored` is the text of the rows that `fault` has: it is None
-    /// where there are none, or no memory for their text.
-    #[error("{fault}")]
-    Run {
-        fault: RunFault,
-        stored: Option<String>,
-    },
+    /// Its run has no whole report. Whoever wants the text of the rows that a halted one has asks
+    /// `report_text` for it.
+    #[error("{0}")]
+    Run(RunFault),
     /// A growth was refused before the run, or after it.
     #[error("memory refused")]
     Memory,
@@ -70,19 +67,6 @@ fn read_plan(alloc: Global, bytes: &[u8]) -> Result<Plan, TextFault>
     }
 }
 
-/// The report of the rows that a fault has, where there is memory for it.
-fn stored_text(alloc: Global, plan: &Plan, fault: &RunFault) -> Option<String>
-    ensures { IfSome result (IsStored (tree_of plan.now) fault.now) }
-{
-    match fault {
-        RunFault::Halted {
-            rows: Some(report),
-            ..
-        } => report_text(alloc, plan, report).ok(),
-        _ => None,
-    }
-}
-
 /// Runs a plan on one thread, and writes its report. With it comes how many stores answered Again.
 fn plan_text<T: Tasks>(
     alloc: Global,
@@ -95,15 +79,12 @@ fn plan_text<T: Tasks>(
     ensures ok { IfOk result (λ r. IsAsked workers turns.now × (rows : List State)
         × (string_bytes r.0 ≡ report_of (tree_of plan.now) (rows_from 1 rows))
         × IsWholeAgain (T.behaviour tasks.now) plan.now workers turns.now again.now rows r.1) }
-    ensures err { IfErr result (IsPlanFault (tree_of plan.now)
+    ensures err { IfErr result (IsPlanFault
         (IsRunFault workers turns.now (states (T.behaviour tasks.now) (tree_of plan.now)))) }
 {
     match run_turns_again(alloc, plan, tasks, workers, turns, again) {
         Ok((report, repeats)) => Ok((report_text(alloc, plan, &report)?, repeats)),
-        Err(fault) => Err(TextFault::Run {
-            stored: stored_text(alloc, plan, &fault),
-            fault,
-        }),
+        Err(fault) => Err(TextFault::Run(fault)),
     }
 }
 
@@ -167,15 +148,12 @@ where
         × Headline (T.behaviour tasks.now) plan.now workers
         (states (T.behaviour tasks.now) (tree_of plan.now)) r.1
         × OnlyWanted (G.may_want gate.now) (told r.1.pass)) }
-    ensures err { IfErr result (IsPlanFault (tree_of plan.now)
+    ensures err { IfErr result (IsPlanFault
         (IsThreadFault workers (states (T.behaviour tasks.now) (tree_of plan.now)))) }
 {
     match run(rt, alloc, plan, tasks, workers, gate, stop) {
         Ok((report, records)) => Ok((report_text(alloc, plan, &report)?, records)),
-        Err(fault) => Err(TextFault::Run {
-            stored: stored_text(alloc, plan, &fault),
-            fault,
-        }),
+        Err(fault) => Err(TextFault::Run(fault)),
     }
 }
 

@@ -1,20 +1,18 @@
 -- Why a text has no plan, and why the run of a plan has no report.
-use Rattle.std.specs.Prelude.{◌≡◌, Err, IfSome}
+use Rattle.std.specs.Prelude.{◌≡◌, Err}
 use Rattle.canvas_task.specs.Text.{Text}
 use Rattle.canvas_values.specs.CanvasText.{text_reading}
-use Rattle.canvas_semantics.specs.Tree.{Tree}
-use Rattle.canvas_engine.specs.Texts.{IsStored}
 use Rattle.canvas_by_turns.specs.declared.fault.RunFault.{RunFault}
 use Rattle.canvas_engine.specs.declared.text.TextFault.{TextFault}
 use Rattle.canvas_engine.specs.declared.text.TextFault.TheVariants.{Sig, Run, Memory}
 
 abbrev pub IsReadFault : Text → TextFault → Type 0
 IsReadFault bytes (Sig e) = text_reading bytes ≡ Err e
-IsReadFault bytes (Run f stored) = ⊥
+IsReadFault bytes (Run f) = ⊥
 IsReadFault bytes Memory = Unit {0}
 
--- of a plan that has this tree, the faults of whose run say this
-abbrev pub IsPlanFault : Tree → (RunFault → Type 0) → TextFault → Type 0
-IsPlanFault t Says (Sig e) = ⊥
-IsPlanFault t Says (Run f stored) = Says f × IfSome stored (IsStored t f)
-IsPlanFault t Says Memory = Unit {0}
+-- of a plan, the faults of whose run say this
+abbrev pub IsPlanFault : (RunFault → Type 0) → TextFault → Type 0
+IsPlanFault Says (Sig e) = ⊥
+IsPlanFault Says (Run f) = Says f
+IsPlanFault Says Memory = Unit {0}

@@ -157,27 +157,19 @@ fn by_hand<R: Wait + RandomSource + AllocGlobal>(rt: &R, plan: &Plan) -> Result<
     }
 }
 
-/// Whether a text has a report. Where its run was refused memory, so that the text of its rows
-/// was not, that is there if it has rows.
+/// Whether a text has a report.
 fn reported(ran: &Result<String, TextFault>) -> Result<bool, Memory> {
     match ran {
         Ok(_) => Ok(true),
         Err(TextFault::Memory) => Err(Memory),
         Err(
-            TextFault::Run {
-                fault: RunFault::Halted {
+            TextFault::Run(
+                RunFault::Halted {
                     cause: Cause::Memory,
-                    rows,
+                    ..
                 },
-                stored,
-            },
-        ) => {
-            if rows.is_some() == stored.is_some() {
-                Err(Memory)
-            } else {
-                Ok(false)
-            }
-        }
+            ),
+        ) => Err(Memory),
         Err(_) => Ok(false),
     }
 }

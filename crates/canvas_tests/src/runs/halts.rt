@@ -13,18 +13,17 @@ use std::sync::Wait;
 use std::sync::atomic::{AtomicU32, Ordering};
 use std::thread::Threads;
 
-/// How many rows of a stopped run aren't pending, where their report is there too. None of a run
-/// that ended otherwise. That each is the state of its task is in the contract.
+/// How many rows of a stopped run aren't pending. None of a run that ended otherwise. That each is
+/// the state of its task is in the contract.
 fn stored_rows(ran: &Result<String, TextFault>) -> Option<usize> {
     match ran {
         Err(
-            TextFault::Run {
-                fault: RunFault::Halted {
+            TextFault::Run(
+                RunFault::Halted {
                     cause: Cause::Stopped,
                     rows: Some(report),
                 },
-                stored: Some(_),
-            },
+            ),
         ) => Some(report.rows.get().iter().filter(|row| row.is_some()).count()),
         _ => None,
     }
@@ -175,7 +174,7 @@ fn has_no_rows(fault: &RunFault) -> bool {
 /// Whether a run has no rows, since memory was refused to its executor.
 fn is_lost(ran: &Result<String, TextFault>) -> bool {
     match ran {
-        Err(TextFault::Run { fault, stored }) => stored.is_none() && has_no_rows(fault),
+        Err(TextFault::Run(fault)) => has_no_rows(fault),
         _ => false,
     }
 }
