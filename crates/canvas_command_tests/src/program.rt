@@ -1,6 +1,7 @@
 //! The program, over the words of a line.
 
-use canvas_command::command_with_builtin;
+use canvas_command::command;
+use canvas_task::{BuiltinTasks, Tasks};
 use std::alloc::{AllocError, Global};
 use std::io::Read;
 use std::random::RandomSource;
@@ -27,7 +28,33 @@ pub(crate) fn words(alloc: Global, line: &str) -> Result<Vec<String>, AllocError
     Ok(words)
 }
 
-/// Whether the program answers words and an input with a status and texts.
+/// Whether the program with these tasks answers words and an input with a status and texts.
+pub(crate) fn answers_with<S, T, R: Read>(
+    rt: &S,
+    tasks: &T,
+    line: &str,
+    input: &mut R,
+    status: u8,
+    out: &str,
+    err: &str,
+) -> bool
+where
+    S: Files + Threads + Wait + RandomSource + AllocGlobal + Sync,
+    T: Tasks + Sync,
+{
+    let mut written: Vec<u8> = Vec::new(rt.alloc());
+    let mut told: Vec<u8> = Vec::new(rt.alloc());
+    match words(rt.alloc(), line) {
+        Ok(words) => {
+            command(rt, tasks, &words, input, &mut written, &mut told) == status
+                && written.as_slice() == out.as_bytes()
+                && told.as_slice() == err.as_bytes()
+        }
+        Err(_) => false,
+    }
+}
+
+/// The same with the built-in tasks.
 pub(crate) fn answers_to<S, R: Read>(
     rt: &S,
     line: &str,
@@ -39,14 +66,5 @@ pub(crate) fn answers_to<S, R: Read>(
 where
     S: Files + Threads + Wait + RandomSource + AllocGlobal + Sync,
 {
-    let mut written: Vec<u8> = Vec::new(rt.alloc());
-    let mut told: Vec<u8> = Vec::new(rt.alloc());
-    match words(rt.alloc(), line) {
-        Ok(words) => {
-            command_with_builtin(rt, &words, input).print(&mut written, &mut told) == status
-                && written.as_slice() == out.as_bytes()
-                && told.as_slice() == err.as_bytes()
-        }
-        Err(_) => false,
-    }
+    answers_with(rt, &BuiltinTasks, line, input, status, out, err)
 }
