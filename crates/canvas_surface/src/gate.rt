@@ -2,7 +2,7 @@
 //! one thread fail it.
 
 use crate::canvases::{TEN, TEN_REPORT, plan_of};
-use canvas_engine::{run, run_text_threads};
+use canvas_engine::{Tally, run, run_text_threads};
 use canvas_rewrite::Plan;
 use canvas_task::{Add, AddFault, Div, Ident, LogError, Mul, Registry, TaskNo, Xsum, registry_of};
 use canvas_worker::{Gate, Stop};
@@ -57,6 +57,14 @@ impl Gate for Meeting {
     }
 }
 
+fn first_of(tallies: &[Tally]) -> u64 {
+    let mut first = 0u64;
+    for tally in tallies {
+        first = first.saturating_add(tally.first);
+    }
+    first
+}
+
 /// How many stores of a plan's run were the first of their task, if its workers met.
 fn first_stores<R>(rt: &R, plan: &Plan, six: &Registry, workers: u32) -> Option<u64>
 where
@@ -64,9 +72,7 @@ where
 {
     let gate = Meeting::of(workers);
     match run(rt, rt.alloc(), plan, six, workers, &gate, &Stop::new()) {
-        Ok((_, records)) if gate.was_held() => {
-            Some(records.workers.get().iter().map(|tally| tally.first).sum())
-        }
+        Ok((_, records)) if gate.was_held() => Some(first_of(records.workers.get())),
         _ => None,
     }
 }

@@ -5,7 +5,7 @@ ghost use Rattle.std.specs.Prelude.{◌≡◌};
 ghost use Rattle.canvas_history.specs.Callers.{told};
 ghost use Rattle.canvas_history.specs.Queue.{HasTaken};
 
-use canvas_broker::{Broker, BrokerPass, PlainBroker, Refused};
+use canvas_broker::{Batch, Broker, BrokerPass, PlainBroker, Refused};
 use canvas_message::Envelope;
 use canvas_task::{ListOf, Memory};
 use canvas_worker::steps_of_workers;
@@ -165,27 +165,34 @@ fn queues(rt: HostRuntime) {
     assert!(rt; matches!(wrong, Ok(None)), "{wrong:?}");
 }
 
-/// Whether a batch of A, B and C gives a prefix of them, and takes the others, then nothing.
-fn is_in_order<R: Wait>(rt: &R, broker: &Broker, pass: &mut BrokerPass) -> Option<usize>
+/// Whether this envelope is next: 1 if the batch gives it, and 0 if the queue does.
+fn comes<R: Wait>(
+    rt: &R,
+    broker: &Broker,
+    pass: &mut BrokerPass,
+    batch: &mut Batch,
+    byte: u8,
+) -> Option<usize>
+    requires { pass.old.of ≡ broker.now }
+    ensures { pass.new.of ≡ broker.now }
+{
+    match batch.next() {
+        Some(envelope) => gives(Some(envelope), byte).then_some(1),
+        None => gives(broker.take(rt, pass), byte).then_some(0),
+    }
+}
+
+/// How many of A, B and C a batch gives, if it gives the first of them in order, and the queue the
+/// others, then nothing.
+fn in_order<R: Wait>(rt: &R, broker: &Broker, pass: &mut BrokerPass) -> Option<usize>
     requires { pass.old.of ≡ broker.now }
 {
     let mut batch = broker.take_batch(rt, pass);
-    let mut taken = 0usize;
-    for byte in [b'A', b'B', b'C'] {
-        match batch.next() {
-            Some(envelope) if envelope.body.get().as_slice() == [byte].as_slice() => {
-                taken = taken.saturating_add(1);
-            }
-            Some(_) => return None,
-            None => {
-                if !gives(broker.take(rt, pass), byte) {
-                    return None;
-                }
-            }
-        }
-    }
+    let first = comes(rt, broker, pass, &mut batch, b'A')?;
+    let second = comes(rt, broker, pass, &mut batch, b'B')?;
+    let third = comes(rt, broker, pass, &mut batch, b'C')?;
     if batch.next().is_none() && broker.take(rt, pass).is_none() {
-        Some(taken)
+        Some(first.saturating_add(second).saturating_add(third))
     } else {
         None
     }
@@ -198,7 +205,7 @@ fn by_batch<R: Wait>(rt: &R, alloc: Global) -> Option<usize> {
         && publishes(rt, alloc, &broker, &mut pass, b'B')
         && publishes(rt, alloc, &broker, &mut pass, b'C')
     {
-        is_in_order(rt, &broker, &mut pass)
+        in_order(rt, &broker, &mut pass)
     } else {
         None
     }

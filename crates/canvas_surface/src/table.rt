@@ -111,9 +111,9 @@ fn keeps_plain(backend: &mut PlainBackend) -> bool
     if !backend.knows(two) || !backend.knows(four) {
         return false;
     }
-    backend.store(two, &Outcome::Success(5)) == Stored::Again
-        && backend.read(two) == Some(ZERO_DIVISION)
-        && backend.read(four).is_none()
+    let stored = backend.store(two, &Outcome::Success(5));
+    let (kept, none) = (backend.read(two), backend.read(four));
+    stored == Stored::Again && kept == Some(ZERO_DIVISION) && none.is_none()
 }
 
 /// The parts of tasks 2, 1 and 3 are the first, the second and the third.
