@@ -64,15 +64,24 @@ where
         && err.as_slice() == wanted.err.as_bytes()
 }
 
+fn is_answered<S>(rt: &S, six: &Registry, wanted: &Wanted) -> bool
+where
+    S: Files + Threads + Wait + RandomSource + AllocGlobal + Sync,
+{
+    match words(rt.alloc(), wanted.line) {
+        Ok(words) => answers(rt, six, &words, wanted),
+        Err(_) => false,
+    }
+}
+
 /// The first line that the program answers otherwise, if there is one.
 fn first_wrong<S>(rt: &S, six: &Registry) -> Option<&'static str>
 where
     S: Files + Threads + Wait + RandomSource + AllocGlobal + Sync,
 {
     for wanted in &WANTED {
-        match words(rt.alloc(), wanted.line) {
-            Ok(words) if answers(rt, six, &words, wanted) => {}
-            _ => return Some(wanted.line),
+        if !is_answered(rt, six, wanted) {
+            return Some(wanted.line);
         }
     }
     None

@@ -1,11 +1,13 @@
 //! Runs on threads: faults, sums of the workers' counts, a stop, and reports.
 
 use crate::canvases::{CHORD, CHORD_REPORT, EMPTY_GROUP, hundred_planned, plan_of};
-use canvas_engine::{Cause, Report, RunFault, Tally, report_text, run, run_text_threads};
+use canvas_engine::{
+    Cause, Report, RunFault, Tally, TextFault, report_text, run, run_text_threads,
+};
 use canvas_rewrite::Plan;
 use canvas_task::{Add, AddFault, Div, Ident, LogError, Mul, Registry, TaskNo, Xsum, registry_of};
 use canvas_worker::{Gate, OpenGate, Stop};
-use std::alloc::AllocGlobal;
+use std::alloc::{AllocGlobal, Global};
 use std::random::RandomSource;
 use std::sync::Wait;
 use std::sync::atomic::{AtomicBool, Ordering};
@@ -135,6 +137,13 @@ where
         && sums(rt, empty, six, 2, &OpenGate) == Some((0, 0, 0, 0))
 }
 
+fn has_report(ran: &Result<String, TextFault>) -> bool {
+    match ran {
+        Ok(report) => report.as_str() == CHORD_REPORT,
+        Err(_) => false,
+    }
+}
+
 /// Whether the report of a text's run is the same for 1, 2 and 16 workers.
 fn is_reported<R>(rt: &R, six: &Registry) -> bool
 where
@@ -142,15 +151,16 @@ where
 {
     let (alloc, bytes) = (rt.alloc(), CHORD.as_bytes());
     for &workers in &[1, 2, 16] {
-        match run_text_threads(rt, alloc, bytes, six, workers, &OpenGate, &Stop::new()) {
-            Ok(report) if report.as_str() == CHORD_REPORT => {}
-            _ => return false,
+        let stop = Stop::new();
+        let ran = run_text_threads(rt, alloc, bytes, six, workers, &OpenGate, &stop);
+        if !has_report(&ran) {
+            return false;
         }
     }
     true
 }
 
-fn is_printed(alloc: std::alloc::Global, plan: &Plan, report: &Report) -> bool {
+fn is_printed(alloc: Global, plan: &Plan, report: &Report) -> bool {
     match report_text(alloc, plan, report) {
         Ok(text) => text.as_str() == CHORD_REPORT,
         Err(_) => false,
@@ -168,25 +178,43 @@ where
     }
 }
 
+/// Whether a hundred tasks and their sum come to what they should.
+fn hundred_is_right<R>(rt: &R, six: &Registry) -> bool
+where
+    R: Threads + Wait + RandomSource + AllocGlobal + Sync,
+{
+    match hundred_planned(rt.alloc()) {
+        Some(hundred) => hundred_counts(rt, &hundred, six),
+        None => false,
+    }
+}
+
+/// The same of a chord, and of a group without members.
+fn small_are_right<R>(rt: &R, six: &Registry) -> bool
+where
+    R: Threads + Wait + RandomSource + AllocGlobal + Sync,
+{
+    match (plan_of(rt.alloc(), CHORD), plan_of(rt.alloc(), EMPTY_GROUP)) {
+        (Some(chord), Some(empty)) => {
+            small_counts(rt, &chord, &empty, six) && prints(rt, &chord, six)
+        }
+        _ => false,
+    }
+}
+
 /// What is wrong with runs on threads, if anything is.
 fn first_wrong<R>(rt: &R, six: &Registry) -> Option<&'static str>
 where
     R: Threads + Wait + RandomSource + AllocGlobal + Sync,
 {
-    let alloc = rt.alloc();
-    match hundred_planned(alloc) {
-        Some(hundred) if hundred_counts(rt, &hundred, six) => {}
-        _ => return Some("a hundred"),
-    }
-    match (plan_of(alloc, CHORD), plan_of(alloc, EMPTY_GROUP)) {
-        (Some(chord), Some(empty)) if small_counts(rt, &chord, &empty, six) => {
-            if prints(rt, &chord, six) && is_reported(rt, six) {
-                None
-            } else {
-                Some("reports")
-            }
-        }
-        _ => Some("small ones"),
+    if !hundred_is_right(rt, six) {
+        Some("a hundred")
+    } else if !small_are_right(rt, six) {
+        Some("small ones")
+    } else if !is_reported(rt, six) {
+        Some("reports")
+    } else {
+        None
     }
 }
 

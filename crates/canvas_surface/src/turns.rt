@@ -6,7 +6,9 @@ use canvas_engine::{
     Cause, Report, RunFault, When, read_turns, run_turns, run_turns_again, run_turns_within,
 };
 use canvas_rewrite::Plan;
-use canvas_task::{Add, AddFault, Div, Ident, LogError, Mul, Outcome, Registry, Xsum, registry_of};
+use canvas_task::{
+    Add, AddFault, Div, Ident, LogError, Mul, Outcome, Registry, TaskNo, Xsum, registry_of,
+};
 use std::alloc::Global;
 
 /// How a run ended.
@@ -124,7 +126,33 @@ fn steps_are_right(alloc: Global, chain: &Plan, chord: &Plan, six: &Registry) ->
 
 // ---- messages that are delivered again
 
-/// How many stores of a run answer Again, where it has these rows at its end.
+fn entries_of(alloc: Global, again: &[(u32, When)]) -> Option<Vec<(TaskNo, When)>> {
+    let mut entries = Vec::new(alloc);
+    for (number, when) in again {
+        entries.push((TaskNo::new(*number)?, *when)).ok()?;
+    }
+    Some(entries)
+}
+
+fn ends_with(report: &Report, last: Option<Outcome>) -> bool {
+    report.rows.get().last() == Some(&last)
+}
+
+/// How many stores of a run answer Again, if its last row is this one.
+fn counted(
+    alloc: Global,
+    plan: &Plan,
+    six: &Registry,
+    entries: &[(TaskNo, When)],
+    last: Option<Outcome>,
+) -> Option<u64> {
+    match run_turns_again(alloc, plan, six, 1, &[], entries) {
+        Ok((report, count)) => ends_with(&report, last).then_some(count),
+        Err(_) => None,
+    }
+}
+
+/// The same of entries by their tasks' numbers.
 fn stores_again(
     alloc: Global,
     plan: &Plan,
@@ -132,15 +160,9 @@ fn stores_again(
     again: &[(u32, When)],
     last: Option<Outcome>,
 ) -> Option<u64> {
-    let mut entries = Vec::new(alloc);
-    for (number, when) in again {
-        entries
-            .push((canvas_task::TaskNo::new(*number)?, *when))
-            .ok()?;
-    }
-    match run_turns_again(alloc, plan, six, 1, &[], &entries) {
-        Ok((report, count)) if report.rows.get().last() == Some(&last) => Some(count),
-        _ => None,
+    match entries_of(alloc, again) {
+        Some(entries) => counted(alloc, plan, six, &entries, last),
+        None => None,
     }
 }
 
