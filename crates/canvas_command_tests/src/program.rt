@@ -54,7 +54,7 @@ where
     }
 }
 
-/// The same with the built-in tasks.
+/// Whether the program answers a line so if it has the built-in tasks.
 pub(crate) fn answers_to<S, R: Read>(
     rt: &S,
     line: &str,

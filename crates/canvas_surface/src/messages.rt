@@ -143,7 +143,7 @@ fn is_written(alloc: Global, message: &Message, texts: &Texts) -> bool {
     }
 }
 
-/// The same of the message with these fields.
+/// Whether the message with these fields is written so.
 fn are_fields_of(alloc: Global, fields: Result<Draft, Memory>, texts: &Texts) -> bool {
     match fields {
         Ok(draft) => match Message::of(draft) {

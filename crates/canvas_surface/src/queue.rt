@@ -67,7 +67,7 @@ fn publishes<R: Wait>(
     }
 }
 
-/// The same through one pass.
+/// Whether one pass takes A, then B, then nothing, if it publishes A and B.
 fn by_one_pass<R: Wait>(rt: &R, alloc: Global, broker: &Broker, pass: &mut BrokerPass) -> bool
     requires { pass.old.of ≡ broker.now }
     ensures { pass.new.of ≡ broker.now }
@@ -198,7 +198,7 @@ fn in_order<R: Wait>(rt: &R, broker: &Broker, pass: &mut BrokerPass) -> Option<u
     }
 }
 
-/// The same of a queue of its own.
+/// How many of A, B and C a batch of a new queue gives, if all three come in order.
 fn by_batch<R: Wait>(rt: &R, alloc: Global) -> Option<usize> {
     let (broker, mut pass) = Broker::new(alloc).ok()?;
     if publishes(rt, alloc, &broker, &mut pass, b'A')

@@ -22,7 +22,7 @@ fn read_as(alloc: Global, value: &Value) -> Result<Arg, u8> {
     }
 }
 
-/// The same of a text; None if it is no JSON.
+/// What the value of a text reads as; None if the text isn't JSON.
 fn text_read_as(alloc: Global, text: &str) -> Option<Result<Arg, u8>> {
     match Value::from_str(alloc, text) {
         Ok(value) => Some(read_as(alloc, &value)),
@@ -94,7 +94,7 @@ fn code_of(checked: &Result<Canvas, SigFault>) -> u8 {
     }
 }
 
-/// The same of a call of a name with a number.
+/// The number of the refusal of a call of this name with one number; 0 if it is a canvas.
 fn call_code(alloc: Global, name: &str, number: i64) -> Option<u8> {
     match Node::call(alloc, name, &[number]) {
         Ok(node) => Some(code_of(&Canvas::of(alloc, node))),

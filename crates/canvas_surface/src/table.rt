@@ -26,7 +26,7 @@ fn knows_plain(backend: &PlainBackend) -> bool {
         && !backend.is_member(group(1), task(4))
 }
 
-/// The same of one that threads may share.
+/// What a table that threads share says of the plan of that chord.
 fn knows(backend: &Backend) -> bool {
     backend.knows(task(5))
         && !backend.knows(task(6))

@@ -70,7 +70,7 @@ const NOT_REGISTERED: &str = concat!(
     "result NotRegistered\n"
 );
 
-/// The same with a task of that name.
+/// The report of that chain if a task has the first one's name.
 const REGISTERED: &str = concat!(
     "00000000-0000-8000-8000-000000000001 tests.sub SUCCESS 7\n",
     "00000000-0000-8000-8000-000000000002 tasks.mul SUCCESS 14\n",

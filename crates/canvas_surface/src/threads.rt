@@ -189,7 +189,7 @@ where
     }
 }
 
-/// The same of a chord, and of a group without members.
+/// Whether a chord and a group without members come to what they should.
 fn small_are_right<R>(rt: &R, six: &Registry) -> bool
 where
     R: Threads + Wait + RandomSource + AllocGlobal + Sync,

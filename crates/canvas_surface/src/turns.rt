@@ -62,7 +62,7 @@ fn are_pending_or(rows: &[Option<Outcome>], whole: &[Option<Outcome>]) -> bool {
     true
 }
 
-/// What a run of so many steps comes to.
+/// The end of a run of a given number of steps.
 #[derive(Clone, Copy, PartialEq, Eq)]
 enum Steps {
     Ended,
@@ -152,7 +152,7 @@ fn counted(
     }
 }
 
-/// The same of entries by their tasks' numbers.
+/// How many stores answer Again if these tasks are redelivered, and the last row is this one.
 fn stores_again(
     alloc: Global,
     plan: &Plan,

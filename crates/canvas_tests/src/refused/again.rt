@@ -47,7 +47,7 @@ fn comes_again<R: Wait>(
     }
 }
 
-/// The same of the envelope that the queue gives.
+/// Whether the envelope that the queue gives comes a second time after its redelivery.
 fn comes_twice<R: Wait>(rt: &R, broker: &Broker, pass: &mut BrokerPass) -> Result<bool, Memory>
     requires { pass.old.of ≡ broker.now }
 {
