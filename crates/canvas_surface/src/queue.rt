@@ -118,7 +118,7 @@ fn comes_again<R: Wait>(
     }
 }
 
-/// Publishes A, takes A, delivers a copy again, takes A once more, and then nothing.
+/// Whether a pass takes an envelope, redelivers a copy, and takes it once more, then nothing.
 fn again_by_one_pass<R: Wait>(rt: &R, broker: &Broker, pass: &mut BrokerPass) -> bool
     requires { pass.old.of ≡ broker.now }
 {
