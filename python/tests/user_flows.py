@@ -1,0 +1,221 @@
+"""Canvases as users of Celery compose them, by name. Each call makes a new signature."""
+
+import json
+
+from celery import Signature, chain, chord, group
+
+import flows
+from user_tasks import (
+    add, alarm, app, best, charge, count, create_user, deploy, encode, evaluate, fan, fetch, find,
+    five, four, import_contact, import_contacts, invoice, last, log_bill, mail, make_bill, mean,
+    mul, notify_complete, one, page_somebody, probe, publish, refund, reserve, rollback,
+    send_welcome_email, ship, six, split, step_alarm, step_old_alarm, still, thank, three, train,
+    two, upload, xsum)
+
+#: The flows whose tasks are known by name alone are those of `flows`.
+FLOWS = dict(flows.FLOWS)
+
+
+def flow(make):
+    FLOWS[make.__name__] = make
+    return make
+
+
+# ---- orders
+
+def paid():
+    item = {"sku": "A-17"}
+    return chord([charge.s(card="4242", amount="19.00"),
+                  ship.s(item, express=True).on_error(refund.s())], invoice.s(copies=2))
+
+
+@flow
+def shipped():
+    """An order as the README has it."""
+    return find.s(4711) | paid() | thank.s("en")
+
+
+@flow
+def shipped_at_once():
+    """The same order with the chord first, after which comes more."""
+    parts = [one.s(), two.s().on_error(step_old_alarm.s())]
+    return chord(parts, three.s()) | last.s()
+
+
+@flow
+def alarm_on_both_parts():
+    """A header in which each member has an alarm, and a body of two."""
+    parts = [one.s(1).on_error(step_old_alarm.s()), two.s(2).on_error(step_old_alarm.s())]
+    return chord(parts, three.s() | last.s())
+
+
+@flow
+def reserved_with_an_input():
+    """A task of keywords alone that gets an input: a call that doesn't fit."""
+    return one.s(1) | reserve.s(order=1, items=[]) | last.s()
+
+
+# ---- films
+
+@flow
+def film():
+    """Two sizes and a still, each uploaded, and then the film is published."""
+    sizes = [encode.s(size=it).set(priority=3) | upload.s() for it in (480, 1080)]
+    picture = still.s("in.mov", at=1.25) | upload.s(bucket="stills")
+    published = publish.s(title="t").on_error(rollback.s())
+    return (fetch.s("https://x/in.mov") | probe.s() | chord([*sizes, picture], published)
+            | mail.s("a@example.org").set(countdown=1))
+
+
+# ---- models
+
+@flow
+def training():
+    """Chords in the header of a chord after a task, and a group at the end."""
+    folds = [chord([train.s(fold, params={"rate": rate}) | evaluate.s() for rate in (0.1, 0.01)],
+                   mean.s(name=f"fold {fold}")) for fold in (0, 1)]
+    return split.s("data", folds=2) | chord(folds, best.s()) | group(deploy.s("eu"),
+                                                                    deploy.s("us"))
+
+
+# ---- bills
+
+@flow
+def alarm_with_a_default():
+    """An error callback of one parameter and one with a default."""
+    return make_bill.s(1).on_error(page_somebody.s()) | last.s()
+
+
+@flow
+def alarm_on_each_bill():
+    """A group of chains that have an alarm, and a sum."""
+    bills = [(make_bill.s(it) | log_bill.s()).on_error(alarm.s()) for it in (1, 2)]
+    return group(bills) | last.s()
+
+
+# ---- shapes
+
+@flow
+def group_as_body():
+    """A chord whose body is a group, and something after it."""
+    return chord([one.s(1), two.s(2)], group(three.s(), four.s())) | last.s()
+
+
+@flow
+def sent_by_another_service():
+    """A chain read from JSON, with an alarm on the whole."""
+    text = json.dumps(chain(app.signature("step.one", args=[{"id": 1}]),
+                            app.signature("step.two", kwargs={"deep": [1, None]}),
+                            app.signature("step.last")))
+    return Signature.from_dict(json.loads(text)).on_error(app.signature("step.alarm"))
+
+
+@flow
+def chains_as_callbacks():
+    """A chain as a link and as an error callback."""
+    first = one.s(1)
+    first.link(two.s() | three.s())
+    first.link_error(four.si() | five.si())
+    return first | last.s()
+
+
+@flow
+def alarm_on_a_chord_in_a_chain():
+    """An alarm on a chord with something before it and after it."""
+    return one.s(1) | chord([two.s(), three.s()], four.s()).on_error(step_alarm.s()) | last.s()
+
+
+@flow
+def replaced():
+    """A task that replaces itself by a chord."""
+    return one.s(1) | fan.si(2) | last.s()
+
+
+@flow
+def group_of_one():
+    """What a list of one gives."""
+    return one.s(1) | group([two.s()]) | last.s()
+
+
+@flow
+def empty_group():
+    """What an empty list gives."""
+    return one.s(1) | group([]) | last.s()
+
+
+@flow
+def chord_with_options():
+    """A chord with options and keywords of its own."""
+    return chord([one.s(1), two.s(2)], three.s(x={"y": 1}), interval=1, max_retries=5,
+                 kwargs={"z": 1})
+
+
+@flow
+def composed_of_parts():
+    """Parts that are composed elsewhere."""
+    head = one.s(1) | two.s()
+    middle = group(three.s(), four.s()) | five.s()
+    return (head | middle | six.s()) | (group(one.s(), two.s()) | last.s())
+
+
+@flow
+def alarm_on_a_body():
+    """An alarm on a chord's body, at the end."""
+    return chord([one.s(1), two.s(2)], three.s().on_error(step_alarm.s()))
+
+
+@flow
+def alarm_on_a_body_and_more():
+    """The same with something after the chord."""
+    return chord([one.s(1), two.s(2)], three.s().on_error(step_alarm.s())) | last.s()
+
+
+@flow
+def alarm_after_a_group():
+    """A group, a task with an alarm, and one more task."""
+    return group(one.s(1), two.s(2)) | three.s().on_error(step_alarm.s()) | last.s()
+
+
+@flow
+def old_alarm_after_a_group():
+    """The same with an alarm that takes one parameter."""
+    return group(one.s(1), two.s(2)) | three.s().on_error(step_old_alarm.s()) | last.s()
+
+
+@flow
+def mapped_in_chunks():
+    """Chunks of calls as a group, and a task for all."""
+    return add.chunks([(it, 1) for it in range(6)], 2).group() | last.s()
+
+
+@flow
+def chunks_alone():
+    """Chunks as they are."""
+    return add.chunks([(it, 1) for it in range(6)], 2)
+
+
+# ---- the user guide's
+
+@flow
+def guide_chain():
+    return chain(add.s(4, 4), mul.s(8), mul.s(10))
+
+
+@flow
+def guide_chord():
+    return chord((import_contact.s({"name": it}) for it in "abc"), notify_complete.si("import"))
+
+
+@flow
+def guide_new_user():
+    return create_user.s("artv", first="Art") | group(import_contacts.s(), send_welcome_email.s())
+
+
+@flow
+def guide_map():
+    return xsum.map([list(range(10)), list(range(100))])
+
+
+@flow
+def guide_group_in_a_chain():
+    return chain(add.s(4, 4), group(mul.s(it) for it in range(3)), xsum.s(), add.s(1))
