@@ -252,7 +252,7 @@ class Many(unittest.TestCase):
 
     def test_more_than_one_call_takes(self):
         canvases = [task("a", 0, number) for number in range(50)]
-        with mock.patch("bevtragi.MOST", 7):
+        with mock.patch("bevtragi.asking.MOST", 7):
             found = what_if_each(canvases, {"a": 6})
         self.assertEqual([it.result for it in found], [6] * 50)
 
@@ -412,7 +412,7 @@ class Programs(unittest.TestCase):
                             "status 1: error: unexpected argument '--json' found")):
             with self.fake(text), self.assertRaisesRegex(CanvasError, said):
                 what_if(task("a"))
-        with self.fake("sleep 5"), mock.patch("bevtragi.SECONDS", 0.2):
+        with self.fake("sleep 5"), mock.patch("bevtragi.calling.SECONDS", 0.2):
             with self.assertRaisesRegex(CanvasError, "took more than 0.2 seconds"):
                 what_if(task("a"))
         with self.fake("head -n 1", 0o644), self.assertRaisesRegex(CanvasError, "can't be called"):
@@ -426,7 +426,7 @@ class Programs(unittest.TestCase):
             with mock.patch.dict(os.environ, {"CANVAS": path}):
                 with self.assertRaisesRegex(CanvasError, said):
                     what_if(task("a"))
-        with self.fake(""), mock.patch("bevtragi.VERSION", "0.2.0"):
+        with self.fake(""), mock.patch("bevtragi.calling.VERSION", "0.2.0"):
             with self.assertRaisesRegex(CanvasError, "0.1.0, and this package calls 0.2.0"):
                 what_if(task("a"))
 
