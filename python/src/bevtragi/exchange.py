@@ -6,9 +6,9 @@ import os
 import tempfile
 from typing import Any
 
-from .asking import Canvas, text_of, values
 from .calling import ask
 from .reports import Report
+from .texts import Canvas, text_of, values
 
 __all__ = ["collect", "export"]
 

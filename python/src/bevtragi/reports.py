@@ -2,7 +2,6 @@
 
 from __future__ import annotations
 
-import json
 import shutil
 import subprocess
 from itertools import zip_longest
@@ -10,28 +9,9 @@ from typing import Any, Dict, NamedTuple
 
 from .calling import ask
 from .errors import CanvasError
+from .outcomes import shown
 
-__all__ = ["Failure", "Failures", "Picture", "Report", "Row", "pytest_assertrepr_compare", "shown"]
-
-
-class Failure(NamedTuple):
-    """The name of an exception; and of a ChordError which task failed, and with what."""
-    kind: str
-    task: int | None = None
-    raised: str | None = None
-
-    def __str__(self) -> str:
-        return self.kind + (f": Dependency #{self.task} raised {self.raised}" if self.task else "")
-
-    @staticmethod
-    def of(value: dict[str, Any]) -> Any:
-        """The failure that an object of the program stands for, or the object."""
-        if value.keys() != {"exc_message", "exc_type"}:
-            return value
-        said = " ".join(map(str, value["exc_message"])).split(" ", 3)
-        if value["exc_type"] == "ChordError" and said[0] == "Dependency":
-            return Failure("ChordError", int(said[1][-8:], 16), said[3])
-        return Failure(value["exc_type"])
+__all__ = ["Failures", "Picture", "Report", "Row", "pytest_assertrepr_compare"]
 
 
 class Row(NamedTuple):
@@ -144,12 +124,3 @@ class Picture(str):
         return self.svg() if shutil.which("dot") else None
 
     __repr__ = str.__str__
-
-
-def shown(result: Any) -> str:
-    """A result as the program prints it."""
-    if isinstance(result, list):
-        return "[" + ", ".join(map(_shown, result)) + "]"
-    if isinstance(result, Failure):
-        return str(result)
-    return "-" if result is None else json.dumps(result, separators=(",", ":"))
