@@ -70,7 +70,7 @@ class Flows(unittest.TestCase):
         self.assertEqual(report["shop.ship"].result, Failure("ConnectionError"))
         self.assertEqual(report[5].result, Failure("ChordError", 3, "ConnectionError"))
         self.assertEqual((report[5].ran, report[5].due_to, report[3].due_to), (False, 3, None))
-        self.assertEqual(str(report), "\n".join([
+        self.assertEqual(report.text(), "\n".join([
             "#1 shop.find SUCCESS 0",
             "#2 shop.charge SUCCESS 0",
             "#3 shop.ship FAILURE ConnectionError",
@@ -88,7 +88,7 @@ class Flows(unittest.TestCase):
                 stubs = ["--task", "*=7", "--task", f"{row.name}=raise:TypeError"]
                 wanted = said_by(["run", "-", "--explain", *stubs], text)
                 found = what_if(flow(name), {"*": 7, row.name: TypeError})
-                self.assertEqual(str(found) + "\n", wanted)
+                self.assertEqual(found.text() + "\n", wanted)
 
     def test_one_of_several_namesakes(self):
         report = what_if(flow("nightly"), {2: TimeoutError})
@@ -129,7 +129,8 @@ class Flows(unittest.TestCase):
         for number, report in found.items():
             alone = what_if(flow("order"), {report[number].name: ConnectionError})
             self.assertEqual(report, alone)
-        self.assertEqual(str(found).splitlines()[2:4], [
+        lines = [line.partition("; Celery ")[0] for line in str(found).splitlines()]
+        self.assertEqual(lines[2:4], [
             "#3 shop.ship fails: result ChordError: Dependency #3 raised ConnectionError"
             "; also called: #4 shop.refund; not called: #5 shop.invoice, #6 shop.thank",
             "#4 shop.refund fails: result 0"])

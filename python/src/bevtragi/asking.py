@@ -6,6 +6,9 @@ import json
 from typing import Any, Iterable, Mapping, Sequence, Union
 
 from .calling import ask
+from .celery_run import Judge
+from .checking import Figures, figures
+from .comparing import Question
 from .errors import CanvasError, Refused
 from .reports import Failures, Picture, Report
 from .texts import Answers, Canvas, check_names, text_of, values, words_of
@@ -33,14 +36,24 @@ def run(canvas: Canvas, tasks: Answers = {}, workers: int = 1, turns: Sequence[i
 
 
 def what_if(canvas: Canvas, tasks: Answers = {}, workers: int = 1,
-            turns: Sequence[int] | None = None, again: Again = False) -> Report:
+            turns: Sequence[int] | None = None, again: Again = False, app: Any = None) -> Report:
     """run() of a canvas that is adapted first, so that arguments may be anything, where each task
     answers 0 that `tasks` doesn't name. Raises BadCall and Refused.
 
+    app  your Celery application: the report's `warnings` then name tasks that it doesn't know, and
+         calls that its tasks don't take; and `on_celery` has tasks with its parameters
+
     Each task behind a failure fails, too. Celery leaves some of these PENDING for ever: a group or
     chord that a failed task stands before, with what waits for it, and what waits for a failed
-    chord in a header. docs/CELERY.md lists all that differs."""
-    return _run(text_of(canvas), tasks, words_of(tasks, True), workers, turns, again)
+    chord in a header. docs/CELERY.md lists all that differs. If Celery is installed, print() of the
+    report says where its code does otherwise."""
+    return _what_if(Judge(text_of(canvas), app), tasks, workers, turns, again)
+
+
+def _what_if(judge: Judge, tasks: Answers = {}, workers: int = 1,
+             turns: Sequence[int] | None = None, again: Again = False) -> Report:
+    report = _run(judge.text, tasks, words_of(tasks, True), workers, turns, again)
+    return report.asked_of(Question(judge, tasks), judge.warnings)
 
 
 def _run(text: bytes, tasks: Answers, asked: list[str], workers: int = 1,
@@ -74,16 +87,25 @@ def what_if_each(canvases: Iterable[Canvas], tasks: Answers = {}) -> list[Report
         said = values(["run", "-", "--each", "--null", *asked], given)[0]
         if len(said) != len(some):
             raise CanvasError(f"`canvas run` gave {len(said)} lines for {len(some)} canvases")
-        found += [Refused(**it) if "code" in it else Report(it["rows"], it["canvas"], (asked, text))
+        found += [Refused(**it) if "code" in it else _each(it, asked, text, tasks)
                   for it, text in zip(said, some)]
     check_names(tasks, _names(*(it for it in found if isinstance(it, Report))))
     return found
 
 
-def every_failure(canvas: Canvas, tasks: Answers = {}, error: Any = Exception) -> Failures:
-    """The what_if() of each task failing alone, by its number; print() it. Raises as what_if()."""
-    well = what_if(canvas, tasks)
-    found = Failures((it.number, what_if(canvas, {**tasks, it.number: error})) for it in well.rows)
+def _each(said: Any, asked: list[str], text: bytes, tasks: Answers) -> Report:
+    judge = Judge(text)
+    report = Report(said["rows"], said["canvas"], (asked, text))
+    return report.asked_of(Question(judge, tasks), judge.warnings)
+
+
+def every_failure(canvas: Canvas, tasks: Answers = {}, error: Any = Exception, app: Any = None
+                  ) -> Failures:
+    """The what_if() of each task failing alone, by its number; print() it. If Celery is installed,
+    each line also says where its code does otherwise. Raises as what_if()."""
+    judge = Judge(text_of(canvas), app)
+    well = _what_if(judge, tasks)
+    found = Failures((it.number, _what_if(judge, {**tasks, it.number: error})) for it in well.rows)
     found.well = well
     return found
 
@@ -93,10 +115,10 @@ def adapt(canvas: Canvas) -> dict[str, Any]:
     return dict(json.loads(ask(["adapt", "-"], text_of(canvas))[0]))
 
 
-def check(canvas: Canvas, tasks: Answers = {}) -> dict[str, int]:
-    """The figures of a canvas by name, as tasks, nesting and messages. Raises Refused."""
-    figures = values(["check", "-", *words_of(tasks)], text_of(canvas))[0][0]
-    return {name.replace("_", " "): count for name, count in figures.items()}
+def check(canvas: Canvas, tasks: Answers = {}, app: Any = None) -> Figures:
+    """The Figures of a canvas, adapted first; with `app` its warnings are also of names that your
+    application doesn't know, and of calls that its tasks don't take. Raises Refused."""
+    return figures(text_of(canvas), tasks, app)
 
 
 def graph(canvas: Canvas) -> Picture:

@@ -6,17 +6,25 @@ Celery is imported when the first canvas is judged, and not by `import bevtragi`
 from __future__ import annotations
 
 import functools
+import operator
 import threading
 from typing import Any, Callable, Dict, Iterator, List, Mapping, Union
 
 from .celery_store import NothingComes
-from .errors import BadCall, CanvasError
+from .checking import warnings_of
+from .errors import CanvasError
 from .marking import Marked
-from .texts import Canvas, check_names, text_of, tree_of, values, words_of
+from .outcomes import Warning, is_exception
+from .texts import Answers, Canvas, check_names, text_of, tree_of, values, words_of
 
-__all__ = ["CeleryRun", "Judge", "celery_version", "on_celery"]
+__all__ = ["CeleryRun", "Judge", "celery_answers", "celery_version", "on_celery", "said"]
 
 CeleryAnswers = Mapping[Union[str, int], Any]
+
+#: What the program's own tasks do.
+BEHAVIOURS: Dict[str, Callable[..., Any]] = {
+    "add": operator.add, "mul": operator.mul, "div": operator.floordiv, "xsum": sum,
+    "ident": lambda value: value, "log_error": lambda uuid: 0}
 
 #: One canvas is judged at a time, whichever thread asks: Celery's signals and logs are shared.
 _lock = threading.RLock()
@@ -80,14 +88,46 @@ class Judge:
 
     def __init__(self, flow: Canvas, app: Any = None) -> None:
         self.flow = flow
-        self.marked = Marked(tree_of(flow))
         self.app = getattr(app, "_get_current_object", lambda: app)()
+
+    @functools.cached_property
+    def marked(self) -> Marked:
+        """The canvas, with marks."""
+        return Marked(tree_of(self.flow))
+
+    @property
+    def text(self) -> bytes:
+        """The canvas as JSON."""
+        return text_of(self.flow)
+
+    def warnings(self) -> list[Warning]:
+        """What may surprise in the canvas. Raises Refused."""
+        return warnings_of(self.text, self.app)
+
+    @functools.cached_property
+    def version(self) -> str:
+        """Celery's version. Raises CanvasError if there is none."""
+        return celery_version()
+
+    @property
+    def can_be_asked(self) -> bool:
+        """Whether Celery is installed."""
+        try:
+            return bool(self.version)
+        except CanvasError:
+            return False
 
     @functools.cached_property
     def places(self) -> list[str]:
         """The mark of each row of what_if(). Raises Refused where what_if() does."""
         *rows, _end = values(["run", "-", *words_of({}, True)], text_of(self.marked.tree))[0]
         return [row["name"] for row in rows]
+
+    def both(self, answers: CeleryAnswers) -> Iterator[CeleryRun]:
+        """What Celery does where tasks that fail are in their turn, and where they end last."""
+        yield self.run(answers)
+        if any(is_exception(it) for it in answers.values()):
+            yield self.run(answers, failing_last=True)
 
     def run(self, answers: CeleryAnswers, failing_last: bool = False) -> CeleryRun:
         """What Celery does where tasks answer so."""
@@ -100,7 +140,8 @@ class Judge:
         def answer_of(mark: str) -> Any:
             return by_mark.get(mark, answers.get(names[mark], answers.get("*", 0)))
         celery_version()
-        from .celery_app import Session, app_for
+        from .celery_app import app_for
+        from .celery_session import Session
         with _lock:
             session = Session(app_for(self.app), names, answer_of, failing_last)
             return _judged(session, self.marked.copy(), self.flow)
@@ -143,6 +184,16 @@ def on_celery(flow: Canvas, answers: CeleryAnswers | None = None, app: Any = Non
     since no task is called. Raises CanvasError if Celery isn't installed, and BadCall for a name
     that no task has."""
     return Judge(flow, app).run(answers or {}, failing_last)
+
+
+def celery_answers(tasks: Answers) -> dict[str | int, Any]:
+    """The answers of what_if(), for Celery."""
+    found: Dict[Union[str, int], Any] = {}
+    for key, answer in tasks.items():
+        word = answer if isinstance(answer, str) else ""
+        found[key] = type(word[6:], (Exception,), {}) if word.startswith("raise:") else \
+            BEHAVIOURS.get(word, answer)
+    return found
 
 
 def celery_version() -> str:

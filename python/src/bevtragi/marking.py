@@ -53,7 +53,7 @@ def plain(value: Any) -> Any:
 
 class Marked:
     """A copy of a canvas in which each task has a mark. `names` are by mark, and `in_maps` are the
-    marks of the tasks that a map, starmap or chunks calls.
+    marks of the tasks that a map, starmap or chunks calls, and of its callbacks.
 
     Celery doesn't add an error callback that a task has already, written alike. So a callback that
     a canvas around the task has, too, gets the same mark."""
@@ -85,6 +85,8 @@ class Marked:
             found = callbacks_of(sig, key)
             if found:
                 copy["options"][key] = [self._callback(it, around, inner) for it in found]
+                if kind == "map":
+                    self.in_maps.update(it.get("task") for it in copy["options"][key])
         return copy
 
     def _copy_members(self, kind: str | None, old: Tree, new: Tree, around: dict[str, Tree]

@@ -1,11 +1,11 @@
-"""How a task ends: a value, or a failure."""
+"""How a task ends, a value or a failure; and what may surprise."""
 
 from __future__ import annotations
 
 import json
 from typing import Any, NamedTuple
 
-__all__ = ["Failure", "shown"]
+__all__ = ["Failure", "Warning", "is_exception", "shown"]
 
 
 class Failure(NamedTuple):
@@ -28,6 +28,20 @@ class Failure(NamedTuple):
         return Failure(value["exc_type"])
 
 
+class Warning(NamedTuple):
+    """What may surprise: its kind, as "failure-before-group"; the task and the JSON pointer of the
+    first signature that has it, and how many have it."""
+    kind: str
+    task: str
+    pointer: str
+    note: str
+    count: int = 1
+
+    def __str__(self) -> str:
+        more = f", the first of {self.count}" if self.count > 1 else ""
+        return f"{self.task} at {self.pointer or 'the top'}{more}: {self.note} ({self.kind})"
+
+
 def shown(result: Any) -> str:
     """A result as the program prints it."""
     if isinstance(result, list):
@@ -35,3 +49,8 @@ def shown(result: Any) -> str:
     if isinstance(result, Failure):
         return str(result)
     return "-" if result is None else json.dumps(result, separators=(",", ":"))
+
+
+def is_exception(answer: Any) -> bool:
+    """Whether an answer is an exception, or a class of them."""
+    return issubclass(answer if isinstance(answer, type) else type(answer), Exception)

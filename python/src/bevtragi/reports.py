@@ -2,14 +2,19 @@
 
 from __future__ import annotations
 
+import functools
 import shutil
 import subprocess
 from itertools import zip_longest
-from typing import Any, Dict, NamedTuple
+from typing import TYPE_CHECKING, Any, Callable, Dict, NamedTuple
 
 from .calling import ask
 from .errors import CanvasError
-from .outcomes import shown
+from .outcomes import Warning, shown
+
+if TYPE_CHECKING:
+    from .celery_run import CeleryRun
+    from .comparing import Question
 
 __all__ = ["Failures", "Picture", "Report", "Row", "pytest_assertrepr_compare"]
 
@@ -34,7 +39,12 @@ class Report:
     """The rows of the tasks in the order of the file, and the status and result of the canvas: of
     its last task, or a list where it ends in a group. The other lists name tasks: those of each
     status, those that are called (`ran`) and the others; `again` is how often a result was stored
-    once more. Reports are equal where each task and the canvas end the same."""
+    once more. Reports are equal where each task and the canvas end the same.
+
+    Of what_if(), and where Celery is installed, a last line says what it does otherwise."""
+    _question: Question | None = None
+    _warned: Callable[[], list[Warning]] | None = None
+
     def __init__(self, rows: list[dict[str, Any]], end: dict[str, Any],
                  asked: tuple[list[str], bytes] | None = None, again: int = 0) -> None:
         self.rows = [Row(number, it["name"], it["status"], it["result"], it.get("ran"),
@@ -53,6 +63,31 @@ class Report:
         if name in ("ran", "never_run", "_asked"):
             raise CanvasError("that isn't known of a run on Celery's workers: ask what_if()")
         raise AttributeError(name)
+
+    def asked_of(self, question: Question, warned: Callable[[], list[Warning]]) -> Report:
+        """The report, with its question to Celery, and who finds out the warnings."""
+        self._question, self._warned = question, warned
+        return self
+
+    @functools.cached_property
+    def on_celery(self) -> CeleryRun:
+        """What the code of the installed Celery does with the canvas and these answers, with the
+        tasks in their turn. CanvasError if there is no Celery, or of other reports than what_if()'s.
+        """
+        if self._question is None:
+            raise CanvasError("that is known of what_if() and every_failure() only")
+        return self._question.run()
+
+    @functools.cached_property
+    def note(self) -> str:
+        """What the installed Celery does otherwise, in a line; empty if nothing is known of it."""
+        return self._question.note(self) if self._question else ""
+
+    @functools.cached_property
+    def warnings(self) -> list[Warning]:
+        """What may surprise in the canvas, as of check(). Empty of other reports than what_if()'s.
+        """
+        return self._warned() if self._warned else []
 
     def graph(self) -> Picture:
         """The picture of this run. CanvasError, as of `ran`, of one on Celery's workers."""
@@ -83,6 +118,10 @@ class Report:
         return not self.differences(other) if isinstance(other, Report) else NotImplemented
 
     def __repr__(self) -> str:
+        return "\n".join([self.text(), *([self.note] if self.note else [])])
+
+    def text(self) -> str:
+        """The rows and the result, as the program prints them."""
         return "\n".join([*map(str, self.rows), f"result {shown(self.result)}"])
 
 
@@ -95,7 +134,8 @@ def pytest_assertrepr_compare(op: str, left: Any, right: Any) -> list[str] | Non
 
 class Failures(Dict[int, Report]):
     """By each task's number the Report of the run in which it alone fails, shown in a line: the
-    result, what is called that isn't where all goes `well`, and what isn't any more."""
+    result, what is called that isn't where all goes `well`, and what isn't any more; and where
+    Celery is installed, what it does otherwise."""
     well: Report
 
     def __repr__(self) -> str:
@@ -107,7 +147,7 @@ class Failures(Dict[int, Report]):
             found = [f"#{row.number} {row.name}" for row, well in zip(report.rows, self.well.rows)
                      if (row.ran, well.ran) == (ran, not ran)]
             said += f"; {word}: {', '.join(found)}" if found else ""
-        return said
+        return f"{said}; {report.note}" if report.note else said
 
 
 class Picture(str):
