@@ -47,7 +47,12 @@ def what_if(canvas: Canvas, tasks: Answers = {}, workers: int = 1,
     chord that a failed task stands before, with what waits for it, and what waits for a failed
     chord in a header. docs/CELERY.md lists all that differs. If Celery is installed, print() of the
     report says where its code does otherwise."""
-    return _what_if(Judge(text_of(canvas), app), tasks, workers, turns, again)
+    return _what_if(_judge(canvas, app), tasks, workers, turns, again)
+
+
+def _judge(canvas: Canvas, app: Any = None) -> Judge:
+    """The judge of a canvas as it is now."""
+    return Judge(text_of(canvas), app, type(canvas))
 
 
 def _what_if(judge: Judge, tasks: Answers = {}, workers: int = 1,
@@ -103,7 +108,7 @@ def every_failure(canvas: Canvas, tasks: Answers = {}, error: Any = Exception, a
                   ) -> Failures:
     """The what_if() of each task failing alone, by its number; print() it. If Celery is installed,
     each line also says where its code does otherwise. Raises as what_if()."""
-    judge = Judge(text_of(canvas), app)
+    judge = _judge(canvas, app)
     well = _what_if(judge, tasks)
     found = Failures((it.number, _what_if(judge, {**tasks, it.number: error})) for it in well.rows)
     found.well = well

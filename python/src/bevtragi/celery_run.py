@@ -84,10 +84,11 @@ class CeleryRun:
 
 
 class Judge:
-    """A canvas that Celery is asked about, once or several times."""
+    """A canvas that Celery is asked about, once or several times. `kind` is the class of signature
+    that it was before it became a text, since Celery starts some classes their own way."""
 
-    def __init__(self, flow: Canvas, app: Any = None) -> None:
-        self.flow = flow
+    def __init__(self, flow: Canvas, app: Any = None, kind: type | None = None) -> None:
+        self.flow, self.kind = flow, kind or type(flow)
         self.app = getattr(app, "_get_current_object", lambda: app)()
 
     @functools.cached_property
@@ -144,14 +145,14 @@ class Judge:
         from .celery_session import Session
         with _lock:
             session = Session(app_for(self.app), names, answer_of, failing_last)
-            return _judged(session, self.marked.copy(), self.flow)
+            return _judged(session, self.marked.copy(), self.kind)
 
 
-def _judged(session: Any, tree: Any, flow: Canvas) -> CeleryRun:
+def _judged(session: Any, tree: Any, kind: type) -> CeleryRun:
     """The run of a canvas from its start to the caller's `get()`."""
     with session.as_current():
         try:
-            started = session.started(tree, flow)
+            started = session.started(tree, kind)
         except Exception as error:
             session.work()
             return CeleryRun(session, raised=error)

@@ -60,10 +60,11 @@ class Session:
         finally:
             self.app.session = before
 
-    def started(self, tree: Any, flow: Any) -> Any:
-        """What `apply_async()` of a canvas gives, which has the class of `flow` where that is a
-        signature. Raises what it raises."""
-        kind = type(flow) if isinstance(flow, Signature) else Signature
+    def started(self, tree: Any, kind: type) -> Any:
+        """What `apply_async()` of a canvas gives, which is of that class of signatures, if it is
+        one. Raises what it raises."""
+        if not issubclass(kind, Signature):
+            kind = Signature
         return kind.from_dict(tree, app=self.app).apply_async()
 
     def answer(self, mark: str, args: Any, kwargs: Any) -> Any:

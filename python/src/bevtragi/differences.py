@@ -8,7 +8,7 @@ from .asking import every_failure
 from .binding import misfits
 from .celery_run import celery_version
 from .reports import Failures
-from .texts import Canvas, text_of, tree_of
+from .texts import Canvas, tree_of
 
 __all__ = ["differences"]
 
@@ -24,7 +24,7 @@ def differences(flow: Canvas, app: Any = None) -> list[str]:
     The calls of a map are one message on Celery, so they aren't compared. Raises CanvasError if
     Celery isn't installed, and Refused as what_if() does."""
     celery_version()
-    failures = every_failure(text_of(flow), app=app)
+    failures = every_failure(flow, app=app)
     unfit = misfits(tree_of(flow), app) if app is not None else []
     return [*(f"{it}" for it in unfit), *_sentences(failures)]
 

@@ -9,7 +9,7 @@ from __future__ import annotations
 import json
 from typing import Any, Dict, Set
 
-__all__ = ["Marked", "callbacks_of", "kind_of", "members_of", "plain"]
+__all__ = ["Marked", "callbacks_of", "complete", "kind_of", "members_of", "plain"]
 
 CANVASES = ("chain", "group", "chord")
 MAPS = ("celery.map", "celery.starmap", "celery.chunks")
@@ -51,6 +51,15 @@ def plain(value: Any) -> Any:
     return [plain(it) for it in value] if isinstance(value, (list, tuple)) else value
 
 
+def complete(sig: Tree) -> None:
+    """Gives a signature the members that Celery looks for, if its JSON leaves them out."""
+    for key, empty in (("args", []), ("kwargs", {}), ("options", {})):
+        if not sig.get(key):
+            sig[key] = empty
+    sig.setdefault("subtask_type", None)
+    sig.setdefault("immutable", False)
+
+
 class Marked:
     """A copy of a canvas in which each task has a mark. `names` are by mark, and `in_maps` are the
     marks of the tasks that a map, starmap or chunks calls, and of its callbacks.
@@ -78,15 +87,17 @@ class Marked:
         if not isinstance(sig, dict):
             return plain(sig)
         kind, copy, inner = kind_of(sig), plain(sig), dict(around)
+        complete(copy)
         if kind is None:
             copy["task"] = self._mark(sig.get("task"))
-        self._copy_members(kind, sig.get("kwargs") or {}, copy.get("kwargs"), inner)
         for key in ("link", "link_error"):
             found = callbacks_of(sig, key)
             if found:
                 copy["options"][key] = [self._callback(it, around, inner) for it in found]
                 if kind == "map":
                     self.in_maps.update(it.get("task") for it in copy["options"][key])
+        # after the callbacks, which the members may have too
+        self._copy_members(kind, sig.get("kwargs") or {}, copy["kwargs"], inner)
         return copy
 
     def _copy_members(self, kind: str | None, old: Tree, new: Tree, around: dict[str, Tree]

@@ -45,7 +45,7 @@ class Warning(NamedTuple):
 def shown(result: Any) -> str:
     """A result as the program prints it."""
     if isinstance(result, list):
-        return "[" + ", ".join(map(_shown, result)) + "]"
+        return "[" + ", ".join(map(shown, result)) + "]"
     if isinstance(result, Failure):
         return str(result)
     return "-" if result is None else json.dumps(result, separators=(",", ":"))
