@@ -70,7 +70,7 @@ class Flows(unittest.TestCase):
         self.assertEqual(report["shop.ship"].result, Failure("ConnectionError"))
         self.assertEqual(report[5].result, Failure("ChordError", 3, "ConnectionError"))
         self.assertEqual((report[5].ran, report[5].due_to, report[3].due_to), (False, 3, None))
-        self.assertEqual(str(report), "\n".join([
+        self.assertEqual(report.text(), "\n".join([
             "#1 shop.find SUCCESS 0",
             "#2 shop.charge SUCCESS 0",
             "#3 shop.ship FAILURE ConnectionError",
@@ -88,7 +88,7 @@ class Flows(unittest.TestCase):
                 stubs = ["--task", "*=7", "--task", f"{row.name}=raise:TypeError"]
                 wanted = said_by(["run", "-", "--explain", *stubs], text)
                 found = what_if(flow(name), {"*": 7, row.name: TypeError})
-                self.assertEqual(str(found) + "\n", wanted)
+                self.assertEqual(found.text() + "\n", wanted)
 
     def test_one_of_several_namesakes(self):
         report = what_if(flow("nightly"), {2: TimeoutError})
@@ -129,7 +129,8 @@ class Flows(unittest.TestCase):
         for number, report in found.items():
             alone = what_if(flow("order"), {report[number].name: ConnectionError})
             self.assertEqual(report, alone)
-        self.assertEqual(str(found).splitlines()[2:4], [
+        lines = [line.partition("; Celery ")[0] for line in str(found).splitlines()]
+        self.assertEqual(lines[2:4], [
             "#3 shop.ship fails: result ChordError: Dependency #3 raised ConnectionError"
             "; also called: #4 shop.refund; not called: #5 shop.invoice, #6 shop.thank",
             "#4 shop.refund fails: result 0"])
@@ -252,7 +253,7 @@ class Many(unittest.TestCase):
 
     def test_more_than_one_call_takes(self):
         canvases = [task("a", 0, number) for number in range(50)]
-        with mock.patch("bevtragi.MOST", 7):
+        with mock.patch("bevtragi.asking.MOST", 7):
             found = what_if_each(canvases, {"a": 6})
         self.assertEqual([it.result for it in found], [6] * 50)
 
@@ -412,7 +413,7 @@ class Programs(unittest.TestCase):
                             "status 1: error: unexpected argument '--json' found")):
             with self.fake(text), self.assertRaisesRegex(CanvasError, said):
                 what_if(task("a"))
-        with self.fake("sleep 5"), mock.patch("bevtragi.SECONDS", 0.2):
+        with self.fake("sleep 5"), mock.patch("bevtragi.calling.SECONDS", 0.2):
             with self.assertRaisesRegex(CanvasError, "took more than 0.2 seconds"):
                 what_if(task("a"))
         with self.fake("head -n 1", 0o644), self.assertRaisesRegex(CanvasError, "can't be called"):
@@ -426,7 +427,7 @@ class Programs(unittest.TestCase):
             with mock.patch.dict(os.environ, {"CANVAS": path}):
                 with self.assertRaisesRegex(CanvasError, said):
                     what_if(task("a"))
-        with self.fake(""), mock.patch("bevtragi.VERSION", "0.2.0"):
+        with self.fake(""), mock.patch("bevtragi.calling.VERSION", "0.2.0"):
             with self.assertRaisesRegex(CanvasError, "0.1.0, and this package calls 0.2.0"):
                 what_if(task("a"))
 

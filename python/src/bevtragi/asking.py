@@ -1,0 +1,137 @@
+"""Asking the program what becomes of a canvas."""
+
+from __future__ import annotations
+
+import json
+from typing import Any, Iterable, Mapping, Sequence, Union
+
+from .calling import ask
+from .celery_run import Judge
+from .checking import Figures, figures
+from .comparing import Question
+from .errors import CanvasError, Refused
+from .reports import Failures, Picture, Report
+from .texts import Answers, Canvas, check_names, text_of, values, words_of
+
+__all__ = ["adapt", "check", "every_failure", "graph", "messages", "run", "what_if",
+           "what_if_each"]
+
+#: The canvases of a call at most, and the bytes of each.
+MOST, MOST_BYTES = 60, 1_048_577
+
+Again = Union[bool, Mapping[Union[str, int], Union[str, Sequence[str]]]]
+
+
+def run(canvas: Canvas, tasks: Answers = {}, workers: int = 1, turns: Sequence[int] | None = None,
+        again: Again = False) -> Report:
+    """The Report of a canvas's run, in which a task without an answer fails with NotRegistered.
+
+    workers  how many there are, from 1 to 16: on threads, or taking turns with turns or again
+    turns    which worker goes on at each turn, as [2, 1, 1]
+    again    what is delivered again, as {"shop.ship": "late"}: "early", before its result is
+             stored, or "late", before it is acknowledged. True stands for everything, both ways
+
+    Raises BadCall; and Refused, also for arguments of kinds of which adapt() makes texts."""
+    return _run(text_of(canvas), tasks, words_of(tasks), workers, turns, again)
+
+
+def what_if(canvas: Canvas, tasks: Answers = {}, workers: int = 1,
+            turns: Sequence[int] | None = None, again: Again = False, app: Any = None) -> Report:
+    """run() of a canvas that is adapted first, so that arguments may be anything, where each task
+    answers 0 that `tasks` doesn't name. Raises BadCall and Refused.
+
+    app  your Celery application: the report's `warnings` then name tasks that it doesn't know, and
+         calls that its tasks don't take; and `on_celery` has tasks with its parameters
+
+    Each task behind a failure fails, too. Celery leaves some of these PENDING for ever: a group or
+    chord that a failed task stands before, with what waits for it, and what waits for a failed
+    chord in a header. docs/CELERY.md lists all that differs. If Celery is installed, print() of the
+    report says where its code does otherwise."""
+    return _what_if(_judge(canvas, app), tasks, workers, turns, again)
+
+
+def _judge(canvas: Canvas, app: Any = None) -> Judge:
+    """The judge of a canvas as it is now."""
+    return Judge(text_of(canvas), app, type(canvas))
+
+
+def _what_if(judge: Judge, tasks: Answers = {}, workers: int = 1,
+             turns: Sequence[int] | None = None, again: Again = False) -> Report:
+    report = _run(judge.text, tasks, words_of(tasks, True), workers, turns, again)
+    return report.asked_of(Question(judge, tasks), judge.warnings)
+
+
+def _run(text: bytes, tasks: Answers, asked: list[str], workers: int = 1,
+         turns: Sequence[int] | None = None, again: Again = False) -> Report:
+    words = ["run", "-", "--workers", str(workers), *asked]
+    points = ["all"] * (again is True)
+    if isinstance(again, Mapping):
+        check_names(again, _names(_run(text, {}, asked)))
+        points = [f"{key}:{it}" for key, at in again.items()
+                  for it in ([at] if isinstance(at, str) else at)]
+    if turns is not None or again:
+        words[0] = "turns"
+        words += ["--turns", ",".join(map(str, turns or ())), "--again", ",".join(points)]
+    (*rows, end), beside = values(words, text)
+    report = Report(rows, end, (asked, text), int(beside.split()[1]) if "Again" in beside else 0)
+    check_names(tasks, _names(report))
+    return report
+
+
+def _names(*reports: Report) -> list[str]:
+    return [row.name for report in reports for row in report.rows]
+
+
+def what_if_each(canvases: Iterable[Canvas], tasks: Answers = {}) -> list[Report | Refused]:
+    """what_if() of each canvas, in order, by few calls of the program; or the Refused of one.
+    Raises BadCall, also for a name that no canvas has."""
+    found: list[Report | Refused] = []
+    texts, asked = [text_of(it)[:MOST_BYTES] for it in canvases], words_of(tasks, True)
+    for some in (texts[start:start + MOST] for start in range(0, len(texts), MOST)):
+        given = b"".join(text + b"\0" for text in some)
+        said = values(["run", "-", "--each", "--null", *asked], given)[0]
+        if len(said) != len(some):
+            raise CanvasError(f"`canvas run` gave {len(said)} lines for {len(some)} canvases")
+        found += [Refused(**it) if "code" in it else _each(it, asked, text, tasks)
+                  for it, text in zip(said, some)]
+    check_names(tasks, _names(*(it for it in found if isinstance(it, Report))))
+    return found
+
+
+def _each(said: Any, asked: list[str], text: bytes, tasks: Answers) -> Report:
+    judge = Judge(text)
+    report = Report(said["rows"], said["canvas"], (asked, text))
+    return report.asked_of(Question(judge, tasks), judge.warnings)
+
+
+def every_failure(canvas: Canvas, tasks: Answers = {}, error: Any = Exception, app: Any = None
+                  ) -> Failures:
+    """The what_if() of each task failing alone, by its number; print() it. If Celery is installed,
+    each line also says where its code does otherwise. Raises as what_if()."""
+    judge = _judge(canvas, app)
+    well = _what_if(judge, tasks)
+    found = Failures((it.number, _what_if(judge, {**tasks, it.number: error})) for it in well.rows)
+    found.well = well
+    return found
+
+
+def adapt(canvas: Canvas) -> dict[str, Any]:
+    """A canvas that can be run, made of any that Celery writes. Raises Refused where none can."""
+    return dict(json.loads(ask(["adapt", "-"], text_of(canvas))[0]))
+
+
+def check(canvas: Canvas, tasks: Answers = {}, app: Any = None) -> Figures:
+    """The Figures of a canvas, adapted first; with `app` its warnings are also of names that your
+    application doesn't know, and of calls that its tasks don't take. Raises Refused."""
+    return figures(text_of(canvas), tasks, app)
+
+
+def graph(canvas: Canvas) -> Picture:
+    """The Picture of a canvas, adapted first; Report.graph() is that of a run. Raises Refused."""
+    return Picture(ask(["graph", "-", "--adapt"], text_of(canvas))[0])
+
+
+def messages(canvas: Canvas, tasks: Answers = {}) -> list[dict[str, Any]]:
+    """The headers, properties and body of each message that a run publishes. Raises Refused."""
+    said = values(["messages", "-", *words_of(tasks)], text_of(canvas))[0]
+    return [{name: json.loads(text) for name, text in it.items()} for it in said]

@@ -1,0 +1,94 @@
+"""Finding and calling the program."""
+
+from __future__ import annotations
+
+import functools
+import hashlib
+import json
+import os
+import shutil
+import subprocess
+from pathlib import Path
+from typing import Any, NamedTuple
+
+from . import VERSION
+from .errors import BadCall, CanvasError, Refused
+
+__all__ = ["Program", "ask", "program"]
+
+#: The seconds that a call may take.
+SECONDS = 60
+
+
+class Program(NamedTuple):
+    """A program, with the SHA-256 of its file; of a wheel's also what it was built of and with."""
+    path: str
+    version: str
+    digest: str
+    commit: str | None = None
+    toolchain: str | None = None
+
+
+def program() -> Program:
+    """The program that is called: of $CANVAS, the wheel, the build in this checkout, or the PATH.
+    Raises CanvasError where it isn't there, or isn't the right one."""
+    path = Path(_path_of_program(os.environ.get("CANVAS"), os.environ.get("PATH")))
+    digest = hashlib.sha256(path.read_bytes()).hexdigest()
+    record = Path(__file__).resolve().with_name("program.json")
+    if path.parent != record.parent or not record.exists():
+        return Program(str(path), VERSION, digest)
+    told = json.loads(record.read_text())
+    if told.pop("digest") != digest:
+        raise CanvasError(f"{path} isn't the program that was put into this package")
+    return Program(str(path), VERSION, digest, **told)
+
+
+@functools.lru_cache(maxsize=None)
+def _path_of_program(named: str | None, _path: str | None) -> str:
+    """The path of the program, which is of the right version, with these in the environment."""
+    here = Path(__file__).resolve()
+    top = here.parent.parent.parent.parent
+    own = [here.with_name("canvas")] + [top / "canvas"] * (top / "crates.txt").exists()
+    found = named or next((it for it in own if it.is_file()), None) or shutil.which("canvas")
+    if not found:
+        raise CanvasError("there is no program `canvas`: install the wheel, which has it; or name"
+                          " it in $CANVAS; or build it, by `./canvas run FILE` in a checkout")
+    path = Path(found).resolve()
+    top = path.parent
+    if (top / "crates.txt").exists():
+        words = ["check", str(top / "examples" / "chord.json")]
+        if _ended(str(path), words, env={**os.environ, "CANVAS_NO_BUILD": "1"}).returncode != 0:
+            raise CanvasError(f"there is no build of the sources in {top}: run `./canvas` there")
+        path = top / "crates" / "canvas_cli" / "out" / "canvas_cli"
+    said = _ended(str(path), ["--version"]).stdout.decode(errors="replace").strip()
+    if said != f"canvas {VERSION}":
+        raise CanvasError(f"{path} is another program: it says {said[:60] or 'nothing'}, and this"
+                          f" package calls {VERSION}")
+    return str(path)
+
+
+def _ended(path: str, words: list[str], given: bytes = b"",
+          env: dict[str, str] | None = None) -> subprocess.CompletedProcess[bytes]:
+    try:
+        return subprocess.run([path, *words], input=given, capture_output=True, env=env,
+                              timeout=SECONDS, check=False)
+    except (OSError, ValueError) as error:
+        raise CanvasError(f"{path} can't be called: {error}") from error
+    except subprocess.TimeoutExpired as error:
+        raise CanvasError(f"{path} took more than {SECONDS} seconds") from error
+
+
+def ask(words: list[str], given: bytes) -> tuple[str, str]:
+    """What the program prints, and says on standard error. Raises Refused, BadCall, CanvasError."""
+    path = _path_of_program(os.environ.get("CANVAS"), os.environ.get("PATH"))
+    call = _ended(path, [*words, "--json"], given)
+    out, said = (it.decode(errors="replace") for it in (call.stdout, call.stderr))
+    line = said.partition("\n")[0]
+    if call.returncode == 0 and (out or words[0] in ("keys", "messages")):
+        return out, said
+    if call.returncode == 1 and line.startswith("{"):
+        told = json.loads(line)
+        raise Refused(**told) if "code" in told else BadCall(f"{told['name']}: {told['note']}")
+    how = f"was killed by signal {-call.returncode}" if call.returncode < 0 else \
+        f"ended with status {call.returncode}: {line or 'it said nothing'}"
+    raise CanvasError(f"`canvas {words[0]}` {how}")

@@ -1,0 +1,224 @@
+"""The code of the installed Celery as a second judge of a canvas. Nothing of it is proved.
+
+Celery is imported when the first canvas is judged, and not by `import bevtragi`.
+"""
+
+from __future__ import annotations
+
+import functools
+import operator
+import threading
+from typing import Any, Callable, Dict, Iterator, List, Mapping, Union
+
+from .celery_store import NothingComes
+from .checking import warnings_of
+from .errors import CanvasError
+from .marking import Marked
+from .outcomes import Warning, is_exception
+from .texts import Answers, Canvas, check_names, text_of, tree_of, values, words_of
+
+__all__ = ["CeleryRun", "Judge", "celery_answers", "celery_version", "on_celery", "said"]
+
+CeleryAnswers = Mapping[Union[str, int], Any]
+
+#: What the program's own tasks do.
+BEHAVIOURS: Dict[str, Callable[..., Any]] = {
+    "add": operator.add, "mul": operator.mul, "div": operator.floordiv, "xsum": sum,
+    "ident": lambda value: value, "log_error": lambda uuid: 0}
+
+#: One canvas is judged at a time, whichever thread asks: Celery's signals and logs are shared.
+_lock = threading.RLock()
+
+
+class CeleryRun:
+    """What the installed Celery does with a canvas.
+
+    called   the names of the tasks that are called, in their order
+    states   the states of the tasks, by name: SUCCESS, FAILURE or PENDING
+    status   how the caller's `get()` ends: SUCCESS or FAILURE; PENDING if it waits forever; None if
+             there is nothing to get, since `apply_async()` raised or started no task
+    result   the value that `get()` gives, or the exception that it raises
+    raised   the exception that `apply_async()` raised, or None
+    errors   the exceptions inside of Celery, outside of any task's function
+    version  Celery's version"""
+
+    def __init__(self, session: Any, status: str | None = None, result: Any = None,
+                 raised: Exception | None = None) -> None:
+        self.version: str = celery_version()
+        self.status, self.result, self.raised = status, result, raised
+        self.marks: List[str] = session.called
+        self.called: List[str] = [session.names[it] for it in self.marks]
+        self.errors: List[BaseException] = session.errors
+        self._session = session
+
+    @property
+    def waits(self) -> bool:
+        """Whether `get()` waits forever."""
+        return self.status == "PENDING"
+
+    @functools.cached_property
+    def states(self) -> Dict[str, List[str]]:
+        names: Dict[str, str] = {}
+        for message in self._session.messages:
+            names.setdefault(message.headers["id"], message.headers["task"])
+            for number, name in _identified(message.payload[2]):
+                names.setdefault(number, name)
+        found: Dict[str, List[str]] = {}
+        for number, mark in names.items():
+            if mark in self._session.names:
+                state = self._session.state_of(number)
+                found.setdefault(self._session.names[mark], []).append(state)
+        return found
+
+    def __repr__(self) -> str:
+        end = ""
+        if self.raised is not None:
+            end = f"; apply_async() raises {said(self.raised)}"
+        elif self.waits:
+            end = "; get() waits forever"
+        elif self.status is not None:
+            is_well = self.status == "SUCCESS"
+            end = f"; get() gives {self.result!r}" if is_well else \
+                f"; get() raises {said(self.result)}"
+        return f"Celery {self.version} calls {', '.join(self.called) or 'nothing'}{end}"
+
+
+class Judge:
+    """A canvas that Celery is asked about, once or several times. `kind` is the class of signature
+    that it was before it became a text, since Celery starts some classes their own way."""
+
+    def __init__(self, flow: Canvas, app: Any = None, kind: type | None = None) -> None:
+        self.flow, self.kind = flow, kind or type(flow)
+        self.app = getattr(app, "_get_current_object", lambda: app)()
+
+    @functools.cached_property
+    def marked(self) -> Marked:
+        """The canvas, with marks."""
+        return Marked(tree_of(self.flow))
+
+    @property
+    def text(self) -> bytes:
+        """The canvas as JSON."""
+        return text_of(self.flow)
+
+    def warnings(self) -> list[Warning]:
+        """What may surprise in the canvas. Raises Refused."""
+        return warnings_of(self.text, self.app)
+
+    @functools.cached_property
+    def version(self) -> str:
+        """Celery's version. Raises CanvasError if there is none."""
+        return celery_version()
+
+    @property
+    def can_be_asked(self) -> bool:
+        """Whether Celery is installed."""
+        try:
+            return bool(self.version)
+        except CanvasError:
+            return False
+
+    @functools.cached_property
+    def places(self) -> list[str]:
+        """The mark of each row of what_if(). Raises Refused where what_if() does."""
+        *rows, _end = values(["run", "-", *words_of({}, True)], text_of(self.marked.tree))[0]
+        return [row["name"] for row in rows]
+
+    def both(self, answers: CeleryAnswers) -> Iterator[CeleryRun]:
+        """What Celery does where tasks that fail are in their turn, and where they end last."""
+        yield self.run(answers)
+        if any(is_exception(it) for it in answers.values()):
+            yield self.run(answers, failing_last=True)
+
+    def run(self, answers: CeleryAnswers, failing_last: bool = False) -> CeleryRun:
+        """What Celery does where tasks answer so."""
+        numbered = {key for key in answers if isinstance(key, int)}
+        names = self.marked.names
+        marks = self.places if numbered else [*names]
+        check_names(answers, [names[it] for it in marks])
+        by_mark = {marks[number - 1]: answers[number] for number in numbered}
+
+        def answer_of(mark: str) -> Any:
+            return by_mark.get(mark, answers.get(names[mark], answers.get("*", 0)))
+        celery_version()
+        from .celery_app import app_for
+        from .celery_session import Session
+        with _lock:
+            session = Session(app_for(self.app), names, answer_of, failing_last)
+            return _judged(session, self.marked.copy(), self.kind)
+
+
+def _judged(session: Any, tree: Any, kind: type) -> CeleryRun:
+    """The run of a canvas from its start to the caller's `get()`."""
+    with session.as_current():
+        try:
+            started = session.started(tree, kind)
+        except Exception as error:
+            session.work()
+            return CeleryRun(session, raised=error)
+        session.work()
+        if started is None:
+            return CeleryRun(session)
+        try:
+            return CeleryRun(session, "SUCCESS", started.get(disable_sync_subtasks=False))
+        except NothingComes:
+            return CeleryRun(session, "PENDING")
+        except Exception as error:
+            return CeleryRun(session, "FAILURE", error)
+
+
+def on_celery(flow: Canvas, answers: CeleryAnswers | None = None, app: Any = None,
+              failing_last: bool = False) -> CeleryRun:
+    """What the code of the installed Celery does with a canvas: no broker, no worker, and none of
+    your tasks is called.
+
+    answers  what tasks answer, by name, by number or for "*", as of what_if(): any value; an
+             exception or its class; or a function, which is called with the task's arguments.
+             Tasks without an answer answer 0
+    app      your application. Tasks then have the parameters of yours: wrong calls fail, error
+             callbacks are called as their parameters say, and only its tasks are registered
+    failing_last  the tasks that fail are done after all others that are in the queue; else
+             messages are taken first in, first out
+
+    None of your signals is sent, and neither the canvas nor the current application is changed.
+    Several threads may ask; one is answered at a time. Countdowns are ignored, and so is `replace`,
+    since no task is called. Raises CanvasError if Celery isn't installed, and BadCall for a name
+    that no task has."""
+    return Judge(flow, app).run(answers or {}, failing_last)
+
+
+def celery_answers(tasks: Answers) -> dict[str | int, Any]:
+    """The answers of what_if(), for Celery."""
+    found: Dict[Union[str, int], Any] = {}
+    for key, answer in tasks.items():
+        word = answer if isinstance(answer, str) else ""
+        found[key] = type(word[6:], (Exception,), {}) if word.startswith("raise:") else \
+            BEHAVIOURS.get(word, answer)
+    return found
+
+
+def celery_version() -> str:
+    """The version of the installed Celery. Raises CanvasError if there is none."""
+    try:
+        import celery
+    except ImportError as error:
+        raise CanvasError("Celery isn't installed here, so its code can't be asked") from error
+    return str(celery.__version__)
+
+
+def said(error: BaseException) -> str:
+    """An exception in a line."""
+    text = " ".join(str(error).split())
+    return type(error).__name__ + (f": {text if len(text) < 100 else text[:97] + '...'}" if text
+                                   else "")
+
+
+def _identified(value: Any) -> Iterator[tuple[str, str]]:
+    """The identifiers and names of the tasks in a part of a message."""
+    if isinstance(value, dict):
+        number = (value.get("options") or {}).get("task_id") if "task" in value else None
+        if number and not value.get("subtask_type"):
+            yield number, value["task"]
+    inner = value.values() if isinstance(value, dict) else value if isinstance(value, list) else ()
+    for it in inner:
+        yield from _identified(it)

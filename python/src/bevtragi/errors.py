@@ -1,0 +1,28 @@
+"""What is raised: CanvasError, and its two kinds."""
+
+from __future__ import annotations
+
+__all__ = ["BadCall", "CanvasError", "Refused"]
+
+
+class CanvasError(Exception):
+    """There is no answer: no program, another one, or one that was killed or took too long."""
+
+
+class BadCall(CanvasError, ValueError):
+    """What was handed in is no canvas, no task of it, no answer, or nothing that a run takes."""
+
+
+class Refused(CanvasError, ValueError):
+    """The canvas is outside the profile: the code and name of the refusal; the JSON pointer of the
+    first signature that has it and the task named there, or None; what is there and is wanted."""
+    def __init__(self, code: int, name: str, pointer: str | None = None, task: str | None = None,
+                 note: str = "", line: int = 0, column: int = 0) -> None:
+        super().__init__(code, name, pointer, task, note, line, column)
+        self.code, self.name, self.pointer, self.task = code, name, pointer, task
+        self.note = f"invalid JSON at line {line} column {column}: {note}" if line else note
+
+    def __str__(self) -> str:
+        task = f" in {self.task}" if self.task else ""
+        place = "" if self.pointer is None else f" at {self.pointer or 'the top'}"
+        return f"{self.code} {self.name}{task}{place}" + (f": {self.note}" if self.note else "")

@@ -1,0 +1,56 @@
+"""How a task ends, a value or a failure; and what may surprise."""
+
+from __future__ import annotations
+
+import json
+from typing import Any, NamedTuple
+
+__all__ = ["Failure", "Warning", "is_exception", "shown"]
+
+
+class Failure(NamedTuple):
+    """The name of an exception; and of a ChordError which task failed, and with what."""
+    kind: str
+    task: int | None = None
+    raised: str | None = None
+
+    def __str__(self) -> str:
+        return self.kind + (f": Dependency #{self.task} raised {self.raised}" if self.task else "")
+
+    @staticmethod
+    def of(value: dict[str, Any]) -> Any:
+        """The failure that an object of the program stands for, or the object."""
+        if value.keys() != {"exc_message", "exc_type"}:
+            return value
+        said = " ".join(map(str, value["exc_message"])).split(" ", 3)
+        if value["exc_type"] == "ChordError" and said[0] == "Dependency":
+            return Failure("ChordError", int(said[1][-8:], 16), said[3])
+        return Failure(value["exc_type"])
+
+
+class Warning(NamedTuple):
+    """What may surprise: its kind, as "failure-before-group"; the task and the JSON pointer of the
+    first signature that has it, and how many have it."""
+    kind: str
+    task: str
+    pointer: str
+    note: str
+    count: int = 1
+
+    def __str__(self) -> str:
+        more = f", the first of {self.count}" if self.count > 1 else ""
+        return f"{self.task} at {self.pointer or 'the top'}{more}: {self.note} ({self.kind})"
+
+
+def shown(result: Any) -> str:
+    """A result as the program prints it."""
+    if isinstance(result, list):
+        return "[" + ", ".join(map(shown, result)) + "]"
+    if isinstance(result, Failure):
+        return str(result)
+    return "-" if result is None else json.dumps(result, separators=(",", ":"))
+
+
+def is_exception(answer: Any) -> bool:
+    """Whether an answer is an exception, or a class of them."""
+    return issubclass(answer if isinstance(answer, type) else type(answer), Exception)

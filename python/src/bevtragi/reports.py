@@ -1,0 +1,166 @@
+"""What is answered: reports with their rows and failures, and pictures."""
+
+from __future__ import annotations
+
+import functools
+import shutil
+import subprocess
+from itertools import zip_longest
+from typing import TYPE_CHECKING, Any, Callable, Dict, NamedTuple
+
+from .calling import ask
+from .errors import CanvasError
+from .outcomes import Warning, shown
+
+if TYPE_CHECKING:
+    from .celery_run import CeleryRun
+    from .comparing import Question
+
+__all__ = ["Failures", "Picture", "Report", "Row", "pytest_assertrepr_compare"]
+
+
+class Row(NamedTuple):
+    """A task. Its result is a value, a Failure, or None while it is pending. `ran`: whether it was
+    called; `due_to`: which one made it fail without a call. Celery's workers tell neither."""
+    number: int
+    name: str
+    status: str
+    result: Any
+    ran: bool | None = None
+    due_to: int | None = None
+
+    def __str__(self) -> str:
+        why = f"not called, due to #{self.due_to}" if self.due_to else "will not run"
+        said = f"#{self.number} {self.name} {self.status} {shown(self.result)}"
+        return f"{said} ({why})" if self.ran is False else said
+
+
+class Report:
+    """The rows of the tasks in the order of the file, and the status and result of the canvas: of
+    its last task, or a list where it ends in a group. The other lists name tasks: those of each
+    status, those that are called (`ran`) and the others; `again` is how often a result was stored
+    once more. Reports are equal where each task and the canvas end the same.
+
+    Of what_if(), and where Celery is installed, a last line says what it does otherwise."""
+    _question: Question | None = None
+    _warned: Callable[[], list[Warning]] | None = None
+
+    def __init__(self, rows: list[dict[str, Any]], end: dict[str, Any],
+                 asked: tuple[list[str], bytes] | None = None, again: int = 0) -> None:
+        self.rows = [Row(number, it["name"], it["status"], it["result"], it.get("ran"),
+                         int(it["due_to"][-8:], 16) if it.get("due_to") else None)
+                     for number, it in enumerate(rows, 1)]
+        self.status, self.result, self.again = end["status"], end["result"], again
+        self.succeeded, self.failed, self.pending = (
+            [row.name for row in self.rows if row.status == status]
+            for status in ("SUCCESS", "FAILURE", "PENDING"))
+        if asked:
+            self._asked = asked
+            self.ran, self.never_run = (
+                [row.name for row in self.rows if row.ran is ran] for ran in (True, False))
+
+    def __getattr__(self, name: str) -> Any:
+        if name in ("ran", "never_run", "_asked"):
+            raise CanvasError("that isn't known of a run on Celery's workers: ask what_if()")
+        raise AttributeError(name)
+
+    def asked_of(self, question: Question, warned: Callable[[], list[Warning]]) -> Report:
+        """The report, with its question to Celery, and who finds out the warnings."""
+        self._question, self._warned = question, warned
+        return self
+
+    @functools.cached_property
+    def on_celery(self) -> CeleryRun:
+        """What the code of the installed Celery does with the canvas and these answers, with the
+        tasks in their turn. CanvasError if there is no Celery, or of other reports than what_if()'s.
+        """
+        if self._question is None:
+            raise CanvasError("that is known of what_if() and every_failure() only")
+        return self._question.run()
+
+    @functools.cached_property
+    def note(self) -> str:
+        """What the installed Celery does otherwise, in a line; empty if nothing is known of it."""
+        return self._question.note(self) if self._question else ""
+
+    @functools.cached_property
+    def warnings(self) -> list[Warning]:
+        """What may surprise in the canvas, as of check(). Empty of other reports than what_if()'s.
+        """
+        return self._warned() if self._warned else []
+
+    def graph(self) -> Picture:
+        """The picture of this run. CanvasError, as of `ran`, of one on Celery's workers."""
+        words, text = self._asked
+        return Picture(ask(["graph", "-", "--run", *words], text)[0])
+
+    def named(self, name: str) -> list[Row]:
+        """The rows of the tasks of a name."""
+        return [row for row in self.rows if row.name == name]
+
+    def __getitem__(self, key: str | int) -> Row:
+        """The row of a number, or of a name that one task alone has; else KeyError."""
+        found = [row for row in self.rows if key in (row.number, row.name)]
+        if len(found) != 1:
+            numbers = ", ".join(f"#{row.number}" for row in found) or "no task"
+            raise KeyError(f"{key} is the name of {numbers}: take a number, or named()")
+        return found[0]
+
+    def differences(self, other: Report) -> list[str]:
+        """The rows and results that differ: this report's behind `-`, the other's behind `+`."""
+        pairs: list[tuple[Any, Any]] = [it for it in zip_longest(self.rows, other.rows)
+                                        if None in it or it[0][:4] != it[1][:4]]
+        if (self.status, self.result) != (other.status, other.result):
+            pairs.append((f"result {shown(self.result)}", f"result {shown(other.result)}"))
+        return [f"{sign} {it}" for pair in pairs for sign, it in zip("-+", pair) if it is not None]
+
+    def __eq__(self, other: object) -> bool:
+        return not self.differences(other) if isinstance(other, Report) else NotImplemented
+
+    def __repr__(self) -> str:
+        return "\n".join([self.text(), *([self.note] if self.note else [])])
+
+    def text(self) -> str:
+        """The rows and the result, as the program prints them."""
+        return "\n".join([*map(str, self.rows), f"result {shown(self.result)}"])
+
+
+def pytest_assertrepr_compare(op: str, left: Any, right: Any) -> list[str] | None:
+    """What pytest shows where a comparison of two reports fails: the rows that differ."""
+    if op != "==" or not (isinstance(left, Report) and isinstance(right, Report)):
+        return None
+    return ["two reports, which differ in these rows:", *left.differences(right)]
+
+
+class Failures(Dict[int, Report]):
+    """By each task's number the Report of the run in which it alone fails, shown in a line: the
+    result, what is called that isn't where all goes `well`, and what isn't any more; and where
+    Celery is installed, what it does otherwise."""
+    well: Report
+
+    def __repr__(self) -> str:
+        return "\n".join(self._line(*it) for it in self.items())
+
+    def _line(self, number: int, report: Report) -> str:
+        said = f"#{number} {report[number].name} fails: result {shown(report.result)}"
+        for word, ran in (("also called", True), ("not called", False)):
+            found = [f"#{row.number} {row.name}" for row, well in zip(report.rows, self.well.rows)
+                     if (row.ran, well.ran) == (ran, not ran)]
+            said += f"; {word}: {', '.join(found)}" if found else ""
+        return f"{said}; {report.note}" if report.note else said
+
+
+class Picture(str):
+    """A picture in Graphviz's language. A notebook shows it where `dot` is, and else its text."""
+    def svg(self) -> str:
+        """The picture as SVG. CanvasError where there is no `dot`, or it fails."""
+        try:
+            return subprocess.run(["dot", "-Tsvg"], input=self.encode(), capture_output=True,
+                                  check=True).stdout.decode()
+        except (OSError, subprocess.CalledProcessError) as error:
+            raise CanvasError(f"Graphviz makes no picture: {error}") from error
+
+    def _repr_svg_(self) -> str | None:
+        return self.svg() if shutil.which("dot") else None
+
+    __repr__ = str.__str__

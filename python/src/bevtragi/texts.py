@@ -1,0 +1,84 @@
+"""Canvases and answers in the program's words, and its answers as values."""
+
+from __future__ import annotations
+
+import difflib
+import json
+import os
+from pathlib import Path
+from typing import Any, Dict, Iterable, Mapping, Type, Union
+
+from .calling import ask
+from .errors import BadCall, CanvasError
+from .outcomes import Failure
+
+__all__ = ["Answers", "Canvas", "check_names", "text_of", "tree_of", "values", "words_of"]
+
+#: The program's own tasks.
+OWN = ("tasks.add", "tasks.div", "tasks.ident", "tasks.log_error", "tasks.mul", "tasks.xsum")
+
+Canvas = Union[Dict[str, Any], str, bytes, "os.PathLike[str]"]
+Answers = Mapping[Union[str, int], Union[int, str, Exception, Type[Exception]]]
+
+
+def text_of(canvas: Canvas) -> bytes:
+    """A canvas as JSON. What JSON doesn't know, as a date, becomes its text."""
+    try:
+        if isinstance(canvas, os.PathLike):
+            return Path(canvas).read_bytes()
+        if isinstance(canvas, dict):
+            return json.dumps(canvas, default=str).encode()
+    except OSError as error:
+        raise BadCall(f"{canvas} can't be read: {error.strerror}") from error
+    except (TypeError, ValueError, RecursionError) as error:
+        raise BadCall(f"this canvas can't be written as JSON: {error}") from error
+    if isinstance(canvas, str) and canvas.lstrip()[:1] == "{":
+        return canvas.encode()
+    if not isinstance(canvas, bytes):
+        raise BadCall(f"{canvas!r:.60} is no canvas: that is a signature of Celery, its JSON, or"
+                      " the pathlib.Path of a file with it")
+    return canvas
+
+
+def tree_of(canvas: Canvas) -> dict[str, Any]:
+    """A canvas as a dictionary: a signature itself, or what its JSON says."""
+    if isinstance(canvas, dict):
+        return canvas
+    try:
+        tree = json.loads(text_of(canvas))
+    except (ValueError, RecursionError) as error:
+        raise BadCall(f"this canvas isn't valid JSON: {error}") from error
+    if not isinstance(tree, dict):
+        raise BadCall("this canvas isn't a signature of Celery: its JSON is no object")
+    return tree
+
+
+def words_of(tasks: Answers, is_whole: bool = False) -> list[str]:
+    """What tasks answer, in the program's words; and of all others, in a canvas that is adapted."""
+    words = ["--adapt"] * is_whole
+    others = dict.fromkeys(("*", *OWN), tasks.get("*", 0)) if is_whole else {}
+    for key, answer in {**others, **tasks}.items():
+        kind = answer if isinstance(answer, type) else type(answer)
+        if issubclass(kind, Exception):
+            answer = "raise:" + kind.__name__
+        elif not isinstance(answer, (int, str)) or kind is bool:
+            raise BadCall(f"a task can't answer {answer!r}: that is a whole number, an exception,"
+                          ' or one of "add", "div", "ident", "log_error", "mul" and "xsum"')
+        words += ["--task", f"{'#' * isinstance(key, int)}{key}={answer}"]
+    return words
+
+
+def check_names(keys: Iterable[str | int], names: list[str]) -> None:
+    """Raises BadCall for a name or number that no task has, where there are tasks."""
+    for key in (it for it in keys if names and it not in ("*", *names, *range(1, len(names) + 1))):
+        close = difflib.get_close_matches(str(key), names, 1) or sorted({*names})[:20]
+        raise BadCall(f"{key!r} is no task of the canvas: did you mean {', '.join(close)}?")
+
+
+def values(words: list[str], given: bytes) -> tuple[list[Any], str]:
+    """As ask(), of a JSON value a line."""
+    out, beside = ask(words, given)
+    try:
+        return [json.loads(it, object_hook=Failure.of) for it in out.split("\n")[:-1]], beside
+    except (ValueError, LookupError) as error:
+        raise CanvasError(f"`canvas {words[0]}` answered what can't be read: {error}") from error
