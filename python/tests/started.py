@@ -81,7 +81,9 @@ def failures(flow):
     if has_callbacks_of_its_own(tree) or len(tasks) != len(called_tasks(tree, [])):
         return
     for number, (name, args, kwargs) in enumerate(tasks, 1):
-        if names[name] > 1 and sum(it == (name, args, kwargs) for it in tasks) == 1:
+        alike = [it for it in tasks if it[0] == name and it[2] == kwargs
+                 and it[1][len(it[1]) - len(args):] == args]
+        if names[name] > 1 and len(alike) == 1:
             yield number, {"name": name, "args": args, "kwargs": kwargs}
 
 

@@ -8,6 +8,7 @@ import os
 
 import redis
 from celery import Celery, Task, group
+from kombu.utils.json import dumps
 
 REDIS = os.environ.get("CANVAS_REDIS", "redis://127.0.0.1:6379/0")
 
@@ -32,7 +33,8 @@ def is_to_fail(name, args, kwargs):
     if "args" not in told:
         return True
     own = told["args"]
-    return kwargs == told["kwargs"] and list(args)[len(args) - len(own):] == own
+    args, kwargs = json.loads(dumps([args, kwargs]))
+    return kwargs == told["kwargs"] and args[len(args) - len(own):] == own
 
 
 class Noted(Task):
