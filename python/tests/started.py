@@ -1,5 +1,5 @@
 """Starts the flows of `user_flows` by `apply_async()` on real workers, well and with tasks failing,
-and says what became of each run. `./try-celery` calls it.
+each as it is and as `cured()` gives it, and says what became of each run. `./try-celery` calls it.
 
     python3 started.py PORT [--write]    the port of a Redis of its own on 127.0.0.1
     python3 started.py PORT --of FLOW    a JSON object for each run of one flow
@@ -26,7 +26,7 @@ PYTHON = os.environ.get("PYTHON") or sys.executable
 SECONDS = 60
 #: How long nothing may change before the workers count as at rest.
 QUIET = 0.5
-QUEUES = ("celery", "bank")
+QUEUES = ("users", "bank")
 #: Redis keeps the messages of a priority in a list of its own.
 PRIORITIES = ("", "\x06\x163", "\x06\x166", "\x06\x169")
 
@@ -108,45 +108,49 @@ def rests(store):
 
 
 def got(result):
-    """What the caller gets: SUCCESS and the value, WAITS, or the name of an exception."""
+    """How the caller's `get()` ends: SUCCESS, WAITS, or the name of an exception."""
     from celery.exceptions import TimeoutError as Late
 
     try:
-        return "SUCCESS", result.get(timeout=1.0)
+        result.get(timeout=1.0)
+        return "SUCCESS"
     except Late:
-        return "WAITS", None
+        return "WAITS"
     except Exception as error:
-        return type(error).__name__, None
+        return type(error).__name__
 
 
-def started(flow, fails):
-    """What becomes of a flow that is started while this fails."""
-    from user_tasks import store
-
+def started(store, flow, fails):
+    """What becomes of a flow that is started while this fails: the tasks that are called, how
+    `get()` ends, and the states that the workers store of tasks, by name."""
     store.flushdb()
     if fails:
         store.set("fails", json.dumps(fails))
     try:
-        result, raised = flow.apply_async(), None
+        result = flow.apply_async()
     except Exception as error:
-        result, raised = None, type(error).__name__
+        return {"called": {}, "get": f"RAISED {type(error).__name__}", "states": {}}
     rests(store)
     called = Counter(it.decode() for it in store.lrange("called", 0, -1))
     states = Counter()
     for key in store.scan_iter("celery-task-meta-*"):
         meta = json.loads(store.get(key))
-        states[f"{meta.get('name') or '?'} {meta['status']}"] += 1
-    get, value = (None, None) if result is None else got(result)
-    return {"called": dict(sorted(called.items())), "get": get, "value": value, "raised": raised,
+        if meta.get("name") and not meta["name"].startswith("celery."):
+            states[f"{meta['name']} {meta['status']}"] += 1
+    return {"called": dict(sorted(called.items())), "get": got(result),
             "states": dict(sorted(states.items()))}
 
 
 def runs_of(name):
     """Each run of a flow, as a JSON object."""
+    import redis
+    from bevtragi import cured
     from user_flows import FLOWS
 
+    store = redis.Redis.from_url(os.environ["CANVAS_REDIS"])
     for label, fails in failures(FLOWS[name]()):
-        yield {"flow": name, "fails": label, **started(FLOWS[name](), fails)}
+        yield {"flow": name, "fails": label, "started": started(store, FLOWS[name](), fails),
+               "cured": started(store, cured(FLOWS[name]()), fails)}
 
 
 def runs(port):
@@ -158,9 +162,9 @@ def runs(port):
     for name in FLOWS:
         words = [PYTHON, "-B", str(HERE / "started.py"), port, "--of", name]
         try:
-            said = subprocess.run(words, stdout=subprocess.PIPE, check=True, timeout=3 * SECONDS)
+            said = subprocess.run(words, stdout=subprocess.PIPE, check=True, timeout=5 * SECONDS)
         except subprocess.TimeoutExpired:
-            said = subprocess.run(words, stdout=subprocess.PIPE, check=True, timeout=3 * SECONDS)
+            said = subprocess.run(words, stdout=subprocess.PIPE, check=True, timeout=5 * SECONDS)
         yield from map(json.loads, said.stdout.splitlines())
 
 
@@ -176,7 +180,7 @@ def start_worker():
 def main():
     port, *words = sys.argv[1:]
     os.environ["CANVAS_REDIS"] = f"redis://127.0.0.1:{port}/1"
-    sys.path.insert(0, str(HERE))
+    sys.path[:0] = [str(HERE.parent / "src"), str(HERE)]
     import celery
 
     if words[:1] == ["--of"]:

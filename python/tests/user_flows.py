@@ -1,19 +1,21 @@
-"""Canvases as users of Celery compose them, by name. Each call makes a new signature."""
+"""Canvases as users of Celery compose them, of the tasks in user_tasks.py. FLOWS has each by its
+name; each call makes a new signature."""
 
 import json
+from datetime import date
 
 from celery import Signature, chain, chord, group
 
 import flows
 from user_tasks import (
-    add, alarm, app, best, charge, count, create_user, deploy, encode, evaluate, fan, fetch, find,
-    five, four, import_contact, import_contacts, invoice, last, log_bill, mail, make_bill, mean,
-    mul, notify_complete, one, page_somebody, probe, publish, refund, reserve, rollback,
-    send_welcome_email, ship, six, split, step_alarm, step_old_alarm, still, thank, three, train,
+    add, add_two, alarm, app, best, bill_alarm, charge, clean, count, create_user, deploy, encode,
+    evaluate, fan, fetch, find, five, four, import_contact, import_contacts, invoice, last, log,
+    log_bill, mail, make_bill, mean, multiply, notify_complete, one, post, publish, refund, send,
+    send_welcome_email, ship, six, split, step_alarm, step_old_alarm, thank, three, train,
     two, upload, xsum)
 
-#: The flows whose tasks are known by name alone are those of `flows`.
-FLOWS = dict(flows.FLOWS)
+#: The flows that `flows` composes of names alone have names of their own here.
+FLOWS = {f"{name}_by_names": make for name, make in flows.FLOWS.items()}
 
 
 def flow(make):
@@ -21,18 +23,103 @@ def flow(make):
     return make
 
 
-# ---- orders
+ITEM = {"sku": "A-17", "count": 2, "price": 9.5, "gift": None}
 
-def paid():
-    item = {"sku": "A-17"}
-    return chord([charge.s(card="4242", amount="19.00"),
-                  ship.s(item, express=True).on_error(refund.s())], invoice.s(copies=2))
+
+def both():
+    """What is charged and shipped of an order, side by side."""
+    return [charge.s(card="4242", amount=19.5), ship.s(ITEM, express=True).on_error(refund.s())]
 
 
 @flow
-def shipped():
-    """An order as the README has it."""
-    return find.s(4711) | paid() | thank.s("en")
+def order():
+    return find.s(4711) | chord(both(), invoice.s(copies=2)) | thank.s("en")
+
+
+@flow
+def order_without_find():
+    order = {"number": 4711}
+    paid = [charge.s(order, card="4242"), ship.s(order, ITEM).on_error(refund.s())]
+    return chord(paid, invoice.s(copies=2)) | thank.s("en")
+
+
+@flow
+def order_of_one_invoice():
+    return find.s(4711) | chord(both(), invoice.s().on_error(alarm.s()))
+
+
+@flow
+def order_with_alarm():
+    return find.s(4711) | chord(both(), invoice.s().on_error(alarm.s())) | thank.s("en")
+
+
+@flow
+def order_with_alarms():
+    return find.s(4711) | group(both()) | (invoice.s() | thank.s("en")).on_error(alarm.s())
+
+
+@flow
+def film():
+    sizes = [encode.s(height=it, crf=21.5) | upload.s(bucket="films") for it in (480, 1080)]
+    done = publish.s(title="t").on_error(clean.s())
+    return fetch.s("https://x/in.mov") | chord(sizes, done) | mail.s("a@example.org")
+
+
+@flow
+def copies():
+    return fetch.s("https://x/in.mov") | group(upload.s(bucket="eu"), upload.s(bucket="us"))
+
+
+@flow
+def night():
+    counts = group(count.s(it, day=date(2026, 11, 26)) for it in ("DE", "FR", "IT"))
+    return counts | add.s() | send.s(to=["a@example.org"])
+
+
+@flow
+def nights():
+    each = [chord([count.s(it), count.s(it, day=None)], add.s()) for it in ("DE", "FR")]
+    return chord(each, add.s()) | send.s()
+
+
+@flow
+def shops():
+    return chord([chord([count.s(it), count.s(it)], add.s()) for it in "xy"], add.s())
+
+
+@flow
+def night_with_links():
+    counted = count.s("DE")
+    counted.link(log.s())
+    counted.link_error(refund.s())
+    counted.link_error(alarm.s())
+    return counted | send.s(to=[]) | log.si(7)
+
+
+@flow
+def night_of_a_map():
+    return count.starmap([("DE", None), ("FR", None)]) | add.s() | send.s()
+
+
+@flow
+def trap():
+    return find.s(4711).on_error(post.s()) | thank.s()
+
+
+@flow
+def wrong_call():
+    return find.s(4711) | charge.s() | thank.s()
+
+
+@flow
+def stranger():
+    unknown = app.signature("shop.unknown").on_error(refund.s())
+    return find.s(4711) | unknown | thank.s()
+
+
+@flow
+def chain_in_chain():
+    return chain(find.s(4711), chain(ship.s(), log.s()).on_error(refund.s()), thank.s())
 
 
 @flow
@@ -47,24 +134,6 @@ def alarm_on_both_parts():
     """A header in which each member has an alarm, and a body of two."""
     parts = [one.s(1).on_error(step_old_alarm.s()), two.s(2).on_error(step_old_alarm.s())]
     return chord(parts, three.s() | last.s())
-
-
-@flow
-def reserved_with_an_input():
-    """A task of keywords alone that gets an input: a call that doesn't fit."""
-    return one.s(1) | reserve.s(order=1, items=[]) | last.s()
-
-
-# ---- films
-
-@flow
-def film():
-    """Two sizes and a still, each uploaded, and then the film is published."""
-    sizes = [encode.s(size=it).set(priority=3) | upload.s() for it in (480, 1080)]
-    picture = still.s("in.mov", at=1.25) | upload.s(bucket="stills")
-    published = publish.s(title="t").on_error(rollback.s())
-    return (fetch.s("https://x/in.mov") | probe.s() | chord([*sizes, picture], published)
-            | mail.s("a@example.org").set(countdown=1))
 
 
 # ---- models
@@ -83,13 +152,13 @@ def training():
 @flow
 def alarm_with_a_default():
     """An error callback of one parameter and one with a default."""
-    return make_bill.s(1).on_error(page_somebody.s()) | last.s()
+    return make_bill.s(1).on_error(post.s()) | last.s()
 
 
 @flow
 def alarm_on_each_bill():
     """A group of chains that have an alarm, and a sum."""
-    bills = [(make_bill.s(it) | log_bill.s()).on_error(alarm.s()) for it in (1, 2)]
+    bills = [(make_bill.s(it) | log_bill.s()).on_error(bill_alarm.s()) for it in (1, 2)]
     return group(bills) | last.s()
 
 
@@ -185,20 +254,20 @@ def old_alarm_after_a_group():
 @flow
 def mapped_in_chunks():
     """Chunks of calls as a group, and a task for all."""
-    return add.chunks([(it, 1) for it in range(6)], 2).group() | last.s()
+    return add_two.chunks([(it, 1) for it in range(6)], 2).group() | last.s()
 
 
 @flow
 def chunks_alone():
     """Chunks as they are."""
-    return add.chunks([(it, 1) for it in range(6)], 2)
+    return add_two.chunks([(it, 1) for it in range(6)], 2)
 
 
 # ---- the user guide's
 
 @flow
 def guide_chain():
-    return chain(add.s(4, 4), mul.s(8), mul.s(10))
+    return chain(add_two.s(4, 4), multiply.s(8), multiply.s(10))
 
 
 @flow
@@ -218,4 +287,4 @@ def guide_map():
 
 @flow
 def guide_group_in_a_chain():
-    return chain(add.s(4, 4), group(mul.s(it) for it in range(3)), xsum.s(), add.s(1))
+    return chain(add_two.s(4, 4), group(multiply.s(it) for it in range(3)), xsum.s(), add_two.s(1))

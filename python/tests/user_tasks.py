@@ -1,33 +1,23 @@
-"""Tasks as users of Celery write them, for runs on real workers (`on_workers.py`).
-
-Each call is noted in Redis. A task raises Unwell if Redis says so, before its own code runs.
-"""
+"""Tasks as users of Celery write them: keyword-only parameters, bound tasks, classes of their own,
+and error callbacks of each kind. `started.py` runs them on real workers, with the Redis that
+$CANVAS_REDIS names. Nobody calls them in the other tests."""
 
 import json
 import os
 
-import redis
-from celery import Celery, Task, group
+from celery import Celery, Task, group, shared_task
 from kombu.utils.json import dumps
 
-REDIS = os.environ.get("CANVAS_REDIS", "redis://127.0.0.1:6379/0")
-
-app = Celery("user_tasks", broker=REDIS, backend=REDIS)
-app.conf.update(result_extended=True, broker_connection_retry_on_startup=True)
-store = redis.Redis.from_url(REDIS)
+REDIS = os.environ.get("CANVAS_REDIS", "redis://127.0.0.1:1/0")
 
 
-class Unwell(Exception):
+class OutOfStock(Exception):
     """What a task fails with."""
 
 
-def is_to_fail(name, args, kwargs):
-    """Whether a call is one that Redis names: by the task's name, and for one of several tasks of
-    that name by the arguments of its own, which come after the input."""
-    said = store.get("fails")
-    if said is None:
-        return False
-    told = json.loads(said)
+def is_to_fail(told, name, args, kwargs):
+    """Whether a call is the one that is to fail: of the task of that name; and if several tasks
+    have it, of the one with these arguments of its own, which come after the input."""
     if told["name"] != name:
         return False
     if "args" not in told:
@@ -38,206 +28,239 @@ def is_to_fail(name, args, kwargs):
 
 
 class Noted(Task):
-    """Notes each call that fits the task's parameters."""
+    """Notes each call that fits the task's parameters in Redis, and fails if Redis says so."""
+
+    abstract = True
 
     def __call__(self, *args, **kwargs):
+        if "CANVAS_REDIS" not in os.environ:
+            raise AssertionError("a task was called")
+        import redis
+        store = redis.Redis.from_url(REDIS)
         self.__header__(*args, **kwargs)
         store.rpush("called", self.name)
-        if is_to_fail(self.name, args, kwargs):
-            raise Unwell(self.name)
+        told = store.get("fails")
+        if told is not None and is_to_fail(json.loads(told), self.name, args, kwargs):
+            raise OutOfStock(self.name)
         return self.run(*args, **kwargs)
 
 
 class Tenant(Noted):
-    """A base class of a user's own, with something to do at a failure."""
+    """A class of a user's own, with something to do at a failure."""
 
+    abstract = True
     tenant = "acme"
 
     def on_failure(self, exc, task_id, args, kwargs, einfo):
-        store.incr("failures")
+        self.tenant = "none"
 
 
-def task(name, base=Noted, **options):
-    return app.task(name=name, base=base, shared=False, **options)
+app = Celery("user_tasks", broker=REDIS, backend=REDIS, task_cls=Noted)
+app.conf.update(task_default_queue="users", result_extended=True,
+                broker_connection_retry_on_startup=True)
 
 
 # ---- a shop
 
-@task("shop.find")
+@app.task(name="shop.find")
 def find(number):
-    return {"order": number}
+    return {"number": number, "sum": 19.5}
 
 
-@task("shop.charge")
-def charge(order, *, card, amount):
-    return {"paid": amount}
+@app.task(name="shop.charge", bind=True)
+def charge(self, order, *, card, amount=None):
+    return {**order, "card": card}
 
 
-@task("shop.ship")
-def ship(order, item, *, express=False):
-    return {"parcel": item}
+@app.task(name="shop.ship", base=Tenant, acks_late=True)
+def ship(order, item=None, express=False):
+    return {"parcel": item, "weight": 0.5}
 
 
-@task("shop.refund")
-def refund(failed):
+@app.task(name="shop.invoice")
+def invoice(parts, copies=1):
+    return {"parts": len(parts), "copies": copies}
+
+
+@app.task(name="shop.thank")
+def thank(invoice, lang="en"):
+    return lang
+
+
+@app.task(name="shop.refund")
+def refund(uuid):
     return None
 
 
-@task("shop.invoice")
-def invoice(parts, copies=1):
-    return {"copies": copies}
+@app.task(name="shop.alarm")
+def alarm(request, exc, traceback):
+    return None
 
 
-@task("shop.thank")
-def thank(invoice, language):
-    return "thanks"
+@app.task(name="shop.post")
+def post(uuid, channel="#ops"):
+    return None
 
 
-@task("shop.sold")
+@app.task(name="shop.sold")
 def sold(shop, half):
     return 4
 
 
-@task("shop.sum")
+@app.task(name="shop.sum")
 def sum_of_shop(counts):
     return sum(counts)
 
 
-@task("shop.reserve")
+@app.task(name="shop.reserve")
 def reserve(*, order, items):
     return {"order": order}
 
 
-# ---- a report at night
-
-@task("report.count")
-def count(region, *, day):
-    return 7
-
-
-@task("report.add")
-def add_counts(counts):
-    return sum(counts)
-
-
-@task("report.sum")
-def sum_of_report(sums):
-    return sum(sums)
-
-
-@task("report.send")
-def send_report(total, *, to):
-    return None
-
-
 # ---- films
 
-@task("film.fetch", base=Tenant)
+@app.task(name="film.fetch")
 def fetch(url):
     return "/tmp/in.mov"
 
 
-@task("film.probe", bind=True)
+@app.task(name="film.probe", bind=True)
 def probe(self, path):
     return {"path": path, "rate": 23.976}
 
 
-@task("film.encode")
-def encode(film, size, crf=23.5):
-    return "out.mp4"
+@app.task(name="film.encode", autoretry_for=(ConnectionError,), max_retries=1)
+def encode(path, height=480, crf=23.5):
+    return "film.mp4"
 
 
-@task("film.still")
+@app.task(name="film.still")
 def still(film, name, at=12.5):
     return "still.png"
 
 
-@task("film.shrink")
+@app.task(name="film.shrink")
 def shrink(picture):
     return picture
 
 
-@task("film.upload")
-def upload(path, bucket="films", acl=None):
-    return {"path": path}
+@app.task(name="film.upload")
+def upload(path, *, bucket="films", acl=None):
+    return {"url": f"s3://{bucket}/{path}"}
 
 
-@task("film.publish")
-def publish(places, title=None):
-    return {"title": title}
+@app.task(name="film.publish")
+def publish(urls, title=None):
+    return {"id": 17, "urls": urls}
 
 
-@task("film.rollback")
-def rollback(request, exc, traceback):
-    return None
-
-
-@task("film.mail")
+@app.task(name="film.mail")
 def mail(film, to):
     return True
 
 
+@app.task(name="film.clean")
+def clean(request, exc, traceback):
+    return None
+
+
+# ---- what is counted at night
+
+@app.task(name="night.count")
+def count(region, day=None):
+    return 3
+
+
+@shared_task(name="night.add")
+def add(counts):
+    return 9
+
+
+@app.task(name="night.send", ignore_result=False)
+def send(total, to=()):
+    return {"total": total}
+
+
+@app.task(name="night.log")
+def log(total):
+    return None
+
+
+@app.task(name="report.count")
+def count_for_report(region, *, day):
+    return 7
+
+
+@app.task(name="report.add")
+def add_for_report(counts):
+    return sum(counts)
+
+
+@app.task(name="report.sum")
+def sum_for_report(sums):
+    return sum(sums)
+
+
+@app.task(name="report.send")
+def send_report(total, *, to):
+    return None
+
+
 # ---- bills
 
-@task("bill.make")
+@app.task(name="bill.make")
 def make_bill(what):
     return {"bill": what}
 
 
-@task("bill.take")
+@app.task(name="bill.take")
 def take_money(bill, amount):
     return amount
 
 
-@task("bill.log")
+@app.task(name="bill.log")
 def log_bill(amount):
     return None
 
 
-@task("bill.send")
+@app.task(name="bill.send")
 def send_bill(amount, *, mail):
     return None
 
 
-@task("bill.alarm")
-def alarm(failed):
-    return None
-
-
-@task("bill.page")
-def page_somebody(failed, channel="#bills"):
-    """An error callback with a default: Celery counts two parameters."""
+@app.task(name="bill.alarm")
+def bill_alarm(failed):
     return None
 
 
 # ---- models
 
-@task("model.split")
+@app.task(name="model.split")
 def split(data, folds=2):
     return {"folds": folds}
 
 
-@task("model.train")
+@app.task(name="model.train")
 def train(data, fold, params=None):
     return {"fold": fold}
 
 
-@task("model.evaluate")
+@app.task(name="model.evaluate")
 def evaluate(model):
     return 0.93
 
 
-@task("model.mean")
+@app.task(name="model.mean")
 def mean(scores, name=None):
     return 0.93
 
 
-@task("model.best")
+@app.task(name="model.best")
 def best(scores):
     return {"best": 1}
 
 
-@task("model.deploy")
+@app.task(name="model.deploy")
 def deploy(model, region):
     return region
 
@@ -245,7 +268,7 @@ def deploy(model, region):
 # ---- steps that take anything
 
 def step(name):
-    @task(name)
+    @app.task(name=name)
     def run(*args, **kwargs):
         return {"did": name}
     return run
@@ -255,17 +278,17 @@ one, two, three, four, five, six, last = map(
     step, ("step.one", "step.two", "step.three", "step.four", "step.five", "step.six", "step.last"))
 
 
-@task("step.alarm")
+@app.task(name="step.alarm")
 def step_alarm(request, exc, traceback):
     return None
 
 
-@task("step.old_alarm")
+@app.task(name="step.old_alarm")
 def step_old_alarm(failed):
     return None
 
 
-@task("step.fan", bind=True)
+@app.task(name="step.fan", bind=True)
 def fan(self, count):
     """A task that is replaced by a chord."""
     return self.replace(group(two.si() for _ in range(count)) | three.s())
@@ -273,41 +296,41 @@ def fan(self, count):
 
 # ---- the examples of Celery's user guide
 
-@task("guide.add")
-def add(x, y):
+@app.task(name="guide.add")
+def add_two(x, y):
     return x + y
 
 
-@task("guide.mul")
-def mul(x, y):
+@app.task(name="guide.mul")
+def multiply(x, y):
     return x * y
 
 
-@task("guide.xsum")
+@app.task(name="guide.xsum")
 def xsum(numbers):
     return sum(numbers)
 
 
-@task("guide.create_user")
+@app.task(name="guide.create_user")
 def create_user(name, **about):
     return {"name": name}
 
 
-@task("guide.import_contacts")
+@app.task(name="guide.import_contacts")
 def import_contacts(user):
     return 3
 
 
-@task("guide.send_welcome_email")
+@app.task(name="guide.send_welcome_email")
 def send_welcome_email(user):
     return True
 
 
-@task("guide.import_contact")
+@app.task(name="guide.import_contact")
 def import_contact(contact):
     return 1
 
 
-@task("guide.notify_complete")
+@app.task(name="guide.notify_complete")
 def notify_complete(name):
     return None
