@@ -10,6 +10,7 @@ import operator
 import threading
 from typing import Any, Callable, Dict, Iterator, List, Mapping, Union
 
+from .binding import misfits
 from .celery_store import NothingComes
 from .checking import warnings_of
 from .errors import CanvasError
@@ -105,6 +106,10 @@ class Judge:
         """What may surprise in the canvas. Raises Refused."""
         return warnings_of(self.text, self.app)
 
+    def misfits(self) -> list[Warning]:
+        """Names that the application doesn't know, and calls that its tasks don't take."""
+        return [] if self.app is None else misfits(tree_of(self.flow), self.app)
+
     @functools.cached_property
     def version(self) -> str:
         """Celery's version. Raises CanvasError if there is none."""
@@ -177,8 +182,8 @@ def on_celery(flow: Canvas, answers: CeleryAnswers | None = None, app: Any = Non
              Tasks without an answer answer 0
     app      your application. Tasks then have the parameters of yours: wrong calls fail, error
              callbacks are called as their parameters say, and only its tasks are registered
-    failing_last  the tasks that fail are done after all others that are in the queue; else
-             messages are taken first in, first out
+    failing_last  tasks that fail are done after all others in the queue, the last of them first;
+             else messages are taken first in, first out. On workers either may happen
 
     None of your signals is sent, and neither the canvas nor the current application is changed.
     Several threads may ask; one is answered at a time. Countdowns are ignored, and so is `replace`,

@@ -95,9 +95,11 @@ class Session:
         self.backend = self.caller
 
     def _next(self) -> Message:
-        """The message that came first, of a task that doesn't fail if those are to be last."""
-        ready = (it for it in self.queue if not (self.failing_last and self._fails(it)))
-        message = next(ready, self.queue[0])
+        """The message that came first; or if tasks that fail are to be last, the first of another
+        task, and the last of those."""
+        message = self.queue[0]
+        if self.failing_last:
+            message = next((it for it in self.queue if not self._fails(it)), self.queue[-1])
         self.queue.remove(message)
         return message
 

@@ -34,7 +34,15 @@ def cured(flow: Canvas) -> Any:
         # Since 5.3 the start of a chord gives its own identifier, or none, to the chain.
         tree["options"].setdefault("task_id", str(uuid.uuid4()))
     kind = type(flow) if isinstance(flow, Signature) else Signature
-    return kind.from_dict(tree, app=getattr(flow, "_app", None))
+    return kind.from_dict(tree, app=_app_of(flow))
+
+
+def _app_of(sig: Any) -> Any:
+    """The application of the first signature that has one."""
+    if not isinstance(sig, dict):
+        return None
+    found = getattr(sig, "_app", None) or getattr(getattr(sig, "_type", None), "app", None)
+    return found or next(filter(None, map(_app_of, members_of(sig))), None)
 
 
 def _cure(sig: Tree) -> None:
