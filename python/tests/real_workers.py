@@ -35,7 +35,9 @@ import user_flows
 from bevtragi import cured
 from bevtragi.celery_run import Judge
 
-SECONDS, STILL = 20, 0.6
+SECONDS, STILL = 30, 1.5
+#: Each result stays, since one that is collected meanwhile may lock the client of redis up.
+RESULTS = []
 
 
 def is_at_rest(store):
@@ -71,6 +73,7 @@ def run_of(store, flow, fails):
         result = flow.apply_async()
     except Exception as error:
         return {"called": {}, "get": f"RAISED {type(error).__name__}"}
+    RESULTS.append(result)
     rests = is_at_rest(store)
     called = Counter(it.decode() for it in store.lrange("called", 0, -1))
     return {"called": dict(sorted(called.items())), "get": end_of(result), "rests": rests}
@@ -110,7 +113,10 @@ def main():
             record(store, worker, file)
     finally:
         os.killpg(worker.pid, signal.SIGTERM)
-        worker.wait(SECONDS)
+        try:
+            worker.wait(SECONDS)
+        except subprocess.TimeoutExpired:
+            os.killpg(worker.pid, signal.SIGKILL)
         server.terminate()
         server.wait(SECONDS)
 

@@ -96,12 +96,14 @@ class Notes(unittest.TestCase):
 
     def test_the_refund_of_a_parcel_that_was_shipped(self):
         report = what_if(user_flows.order(), {"shop.charge": OutOfStock})
-        wanted = {"5.2.6": "Celery 5.2.6 also calls shop.refund; get() raises TypeError"}
+        wanted = {"5.2.6": "Celery 5.2.6 also calls shop.refund unless the failure comes last; get()"
+                           " raises TypeError if the failure comes last"}
         self.assertEqual(report.note, wanted.get(celery.__version__, ""))
         self.assertEqual(str(report), "\n".join(filter(None, [report.text(), report.note])))
         first = self.note(user_flows.order_without_find(), "shop.charge")
-        self.assertEqual(first, f"Celery {celery.__version__} also calls shop.refund; get() raises "
-                         + OWN[celery.__version__])
+        self.assertEqual(first, f"Celery {celery.__version__} also calls shop.refund unless the"
+                         f" failure comes last; get() raises {OWN[celery.__version__]} if the"
+                         " failure comes last")
 
     def test_no_difference_is_no_note(self):
         for flow in (user_flows.order(), user_flows.film(), user_flows.night()):
@@ -147,8 +149,15 @@ class Notes(unittest.TestCase):
         canvas = chain(s("a", 4, 4), s("b", 2))
         report = what_if(canvas, {"a": "add", "b": "mul"})
         self.assertEqual((report.on_celery.result, report.result), (16, 16))
-        report = what_if(canvas, {"a": "raise:OutOfStock"})
-        self.assertEqual(type(report.on_celery.result).__name__, "OutOfStock")
+        report = what_if(canvas, {"a": "raise:OutOfPaper"})
+        self.assertEqual((report.on_celery.status, report.note), ("FAILURE", ""))
+
+    def test_a_celery_that_is_not_known(self):
+        with mock.patch.dict(sys.modules, {"bevtragi.celery_session": None}):
+            report = what_if(user_flows.order())
+            with self.assertRaisesRegex(CanvasError, "isn't as it is known here"):
+                report.on_celery
+            self.assertRegex(str(report), f"\nCelery {celery.__version__} can't be asked: Canvas")
 
     def test_a_canvas_that_is_changed_later(self):
         flow = user_flows.copies()
@@ -169,8 +178,10 @@ class Differences(unittest.TestCase):
     def test_sentences(self):
         version, own = celery.__version__, OWN[celery.__version__]
         self.assertEqual(differences(user_flows.order_without_find()), [
-            f"If #1 shop.charge fails, Celery {version} also calls shop.refund; get() raises {own}",
-            f"If #2 shop.ship fails, Celery {version}: get() raises {own}"])
+            f"If #1 shop.charge fails, Celery {version} also calls shop.refund unless the failure"
+            f" comes last; get() raises {own} if the failure comes last",
+            f"If #2 shop.ship fails, Celery {version}: get() raises {own} if the failure comes last"
+        ])
         self.assertEqual(differences(user_flows.copies()), [
             f"If #1 film.fetch fails, Celery {version}: get() waits forever"])
 
@@ -184,7 +195,7 @@ class Differences(unittest.TestCase):
                 (user_flows.trap(), "ErrorCallback", "shop.post at /kwargs/tasks/0/options/"
                  "link_error/0: Celery calls it in place with request, exception and traceback"),
                 (user_flows.wrong_call(), "WrongCall", "shop.charge at /kwargs/tasks/1: its"
-                 " parameters don't take the call: missing a required argument: 'card'"),
+                 " parameters don't take the call: missing a required "),
                 (user_flows.stranger(), "NotRegistered", "shop.unknown at /kwargs/tasks/1: the"
                  " application has no task of this name")):
             self.assertIn(said, differences(flow, app)[0])
