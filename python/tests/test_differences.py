@@ -96,8 +96,8 @@ class Notes(unittest.TestCase):
 
     def test_the_refund_of_a_parcel_that_was_shipped(self):
         report = what_if(user_flows.order(), {"shop.charge": OutOfStock})
-        wanted = {"5.2.6": "Celery 5.2.6 also calls shop.refund unless the failure comes last; get()"
-                           " raises TypeError if the failure comes last"}
+        wanted = {"5.2.6": "Celery 5.2.6 also calls shop.refund unless the failure comes last;"
+                           " get() raises TypeError if the failure comes last"}
         self.assertEqual(report.note, wanted.get(celery.__version__, ""))
         self.assertEqual(str(report), "\n".join(filter(None, [report.text(), report.note])))
         first = self.note(user_flows.order_without_find(), "shop.charge")

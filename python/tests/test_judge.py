@@ -3,6 +3,7 @@
 import importlib
 import json
 import logging
+import os
 import sys
 import threading
 import time
@@ -356,12 +357,9 @@ class NothingElse(unittest.TestCase):
             for fails in (None, "shop.find", "shop.charge", "shop.ship") * (runs // 4):
                 on_celery(flow, {fails: OutOfStock} if fails else {}, user_tasks.app)
             each = (time.process_time() - start) / runs
-        # a loaded machine takes longer for a fixed piece of work, too: a fifth of a millisecond
-        start = time.process_time()
-        for _ in range(runs):
-            json.dumps([*range(2000)])
-        slowness = (time.process_time() - start) / runs / 0.0002
-        self.assertLess(each, 0.02 * max(1, slowness))
+        # side by side with others a processor takes longer
+        is_loaded = os.getloadavg()[0] > (os.cpu_count() or 1) / 2
+        self.assertLess(each, 0.06 if is_loaded else 0.02)
 
 
 def self_answers():

@@ -21,7 +21,8 @@ def cured(flow: Canvas) -> Any:
       a chain it has none, so a member of the header fails instead, and its error callbacks run. In
       this signature each such chain has an identifier.
     - Celery calls the error callbacks of the body itself if a member of the header fails, and not
-      those of the tasks in it. Error callbacks that each task of the chain has are the chain's here.
+      those of the tasks in it. Error callbacks that each task of the chain has are also the
+      chain's here.
 
     What is left is what `differences(cured(flow))` names: as a `get()` that waits forever, or an
     error callback that only the first task of a body has. A start by `export()` has none of these.

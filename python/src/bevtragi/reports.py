@@ -71,8 +71,7 @@ class Report:
     @functools.cached_property
     def on_celery(self) -> CeleryRun:
         """What the code of the installed Celery does with the canvas and these answers, with the
-        tasks in their turn. CanvasError if there is no Celery, or of other reports than what_if()'s.
-        """
+        tasks in their turn. CanvasError if there is no Celery, or of reports of other calls."""
         if self._question is None:
             raise CanvasError("that is known of what_if() and every_failure() only")
         return self._question.run()
