@@ -107,17 +107,33 @@ def rests(store):
     raise TimeoutError("the workers don't come to rest")
 
 
+class Stuck(BaseException):
+    """`get(timeout=1)` doesn't come back."""
+
+
 def got(result):
-    """How the caller's `get()` ends: SUCCESS, WAITS, or the name of an exception."""
+    """How the caller's `get()` ends: SUCCESS, WAITS, or the name of an exception. The client of
+    Celery 5.5.2 was seen to wait in it forever, in a lock of its own, and not the next time."""
     from celery.exceptions import TimeoutError as Late
 
-    try:
-        result.get(timeout=1.0)
-        return "SUCCESS"
-    except Late:
-        return "WAITS"
-    except Exception as error:
-        return type(error).__name__
+    def stop(*_):
+        raise Stuck
+
+    signal.signal(signal.SIGALRM, stop)
+    for _ in range(3):
+        signal.alarm(20)
+        try:
+            result.get(timeout=1.0)
+            return "SUCCESS"
+        except Late:
+            return "WAITS"
+        except Stuck:
+            continue
+        except Exception as error:
+            return type(error).__name__
+        finally:
+            signal.alarm(0)
+    raise TimeoutError("get() doesn't come back")
 
 
 def started(store, flow, fails):
@@ -154,17 +170,12 @@ def runs_of(name):
 
 
 def runs(port):
-    """Each run of each flow. A process of its own starts each flow, as a user's program would, and
-    a second one does if it doesn't end: the client of Celery 5.5.2 was seen to wait forever in
-    `get(timeout=1)` on a loaded machine, and not the next time."""
+    """Each run of each flow. A process of its own starts each flow, as a user's program would."""
     from user_flows import FLOWS
 
     for name in FLOWS:
         words = [PYTHON, "-B", str(HERE / "started.py"), port, "--of", name]
-        try:
-            said = subprocess.run(words, stdout=subprocess.PIPE, check=True, timeout=5 * SECONDS)
-        except subprocess.TimeoutExpired:
-            said = subprocess.run(words, stdout=subprocess.PIPE, check=True, timeout=5 * SECONDS)
+        said = subprocess.run(words, stdout=subprocess.PIPE, check=True, timeout=20 * SECONDS)
         yield from map(json.loads, said.stdout.splitlines())
 
 

@@ -58,7 +58,7 @@ def _judge(canvas: Canvas, app: Any = None) -> Judge:
 def _what_if(judge: Judge, tasks: Answers = {}, workers: int = 1,
              turns: Sequence[int] | None = None, again: Again = False) -> Report:
     report = _run(judge.text, tasks, words_of(tasks, True), workers, turns, again)
-    return report.asked_of(Question(judge, tasks), judge.warnings)
+    return report.asked_of(Question(judge, tasks))
 
 
 def _run(text: bytes, tasks: Answers, asked: list[str], workers: int = 1,
@@ -101,7 +101,7 @@ def what_if_each(canvases: Iterable[Canvas], tasks: Answers = {}) -> list[Report
 def _each(said: Any, asked: list[str], text: bytes, tasks: Answers) -> Report:
     judge = Judge(text)
     report = Report(said["rows"], said["canvas"], (asked, text))
-    return report.asked_of(Question(judge, tasks), judge.warnings)
+    return report.asked_of(Question(judge, tasks))
 
 
 def every_failure(canvas: Canvas, tasks: Answers = {}, error: Any = Exception, app: Any = None

@@ -156,7 +156,7 @@ class App(Celery):
         known = self.user.tasks if self.user is not None else None
         for mark, name in names.items():
             task = None if known is None else dict.get(known, name)
-            if mark not in self._tasks or self.own.get(mark) is not task:
+            if mark not in self._tasks or self.own[mark] is not task:
                 dict.pop(self._tasks, mark, None)
                 if task is not None or known is None:
                     self._register(mark, task)

@@ -10,9 +10,10 @@ import operator
 import threading
 from typing import Any, Callable, Dict, Iterator, List, Mapping, Union
 
+from .binding import misfits
 from .celery_store import NothingComes
 from .checking import warnings_of
-from .errors import CanvasError
+from .errors import BadCall, CanvasError
 from .marking import Marked
 from .outcomes import Warning, is_exception
 from .texts import Answers, Canvas, check_names, text_of, tree_of, values, words_of
@@ -105,6 +106,10 @@ class Judge:
         """What may surprise in the canvas. Raises Refused."""
         return warnings_of(self.text, self.app)
 
+    def misfits(self) -> list[Warning]:
+        """Names that the application doesn't know, and calls that its tasks don't take."""
+        return [] if self.app is None else misfits(tree_of(self.flow), self.app)
+
     @functools.cached_property
     def version(self) -> str:
         """Celery's version. Raises CanvasError if there is none."""
@@ -125,13 +130,15 @@ class Judge:
         return [row["name"] for row in rows]
 
     def both(self, answers: CeleryAnswers) -> Iterator[CeleryRun]:
-        """What Celery does where tasks that fail are in their turn, and where they end last."""
-        yield self.run(answers)
+        """What Celery does if tasks that fail end first, and if they end last."""
         if any(is_exception(it) for it in answers.values()):
-            yield self.run(answers, failing_last=True)
+            yield self.run(answers, "first")
+        yield self.run(answers, "last")
 
-    def run(self, answers: CeleryAnswers, failing_last: bool = False) -> CeleryRun:
+    def run(self, answers: CeleryAnswers, failures: str | None = None) -> CeleryRun:
         """What Celery does where tasks answer so."""
+        if failures not in (None, "first", "last"):
+            raise BadCall(f"failures are first, last or, by None, in their turn: not {failures!r}")
         numbered = {key for key in answers if isinstance(key, int)}
         names = self.marked.names
         marks = self.places if numbered else [*names]
@@ -140,11 +147,14 @@ class Judge:
 
         def answer_of(mark: str) -> Any:
             return by_mark.get(mark, answers.get(names[mark], answers.get("*", 0)))
-        celery_version()
-        from .celery_app import app_for
-        from .celery_session import Session
+        version = celery_version()
+        try:
+            from .celery_app import app_for
+            from .celery_session import Session
+        except ImportError as error:
+            raise CanvasError(f"Celery {version} isn't as it is known here: {error}") from error
         with _lock:
-            session = Session(app_for(self.app), names, answer_of, failing_last)
+            session = Session(app_for(self.app), names, answer_of, failures)
             return _judged(session, self.marked.copy(), self.kind)
 
 
@@ -168,7 +178,7 @@ def _judged(session: Any, tree: Any, kind: type) -> CeleryRun:
 
 
 def on_celery(flow: Canvas, answers: CeleryAnswers | None = None, app: Any = None,
-              failing_last: bool = False) -> CeleryRun:
+              failures: str | None = None) -> CeleryRun:
     """What the code of the installed Celery does with a canvas: no broker, no worker, and none of
     your tasks is called.
 
@@ -177,14 +187,14 @@ def on_celery(flow: Canvas, answers: CeleryAnswers | None = None, app: Any = Non
              Tasks without an answer answer 0
     app      your application. Tasks then have the parameters of yours: wrong calls fail, error
              callbacks are called as their parameters say, and only its tasks are registered
-    failing_last  the tasks that fail are done after all others that are in the queue; else
-             messages are taken first in, first out
+    failures "first" or "last": of the tasks in the queue, those that fail are done before or after
+             the others; else messages are taken first in, first out. Workers may do each
 
     None of your signals is sent, and neither the canvas nor the current application is changed.
     Several threads may ask; one is answered at a time. Countdowns are ignored, and so is `replace`,
     since no task is called. Raises CanvasError if Celery isn't installed, and BadCall for a name
     that no task has."""
-    return Judge(flow, app).run(answers or {}, failing_last)
+    return Judge(flow, app).run(answers or {}, failures)
 
 
 def celery_answers(tasks: Answers) -> dict[str | int, Any]:

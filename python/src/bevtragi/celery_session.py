@@ -35,9 +35,9 @@ class Session:
     """One run by an application: the calls, the messages, and the errors inside of Celery."""
 
     def __init__(self, app: App, names: dict[str, str], answer_of: Callable[[str], Any],
-                 failing_last: bool) -> None:
+                 failures: str | None) -> None:
         self.app, self.names, self.answer_of = app, names, answer_of
-        self.failing_last = failing_last
+        self.failures = failures
         self.called: List[str] = []
         self.errors: List[BaseException] = []
         self.messages: List[Message] = []
@@ -95,9 +95,12 @@ class Session:
         self.backend = self.caller
 
     def _next(self) -> Message:
-        """The message that came first, of a task that doesn't fail if those are to be last."""
-        ready = (it for it in self.queue if not (self.failing_last and self._fails(it)))
-        message = next(ready, self.queue[0])
+        """The message that came first, or one of a task that fails, or of one that doesn't."""
+        message = self.queue[0]
+        if self.failures == "first":
+            message = next(filter(self._fails, self.queue), message)
+        elif self.failures == "last":
+            message = next((it for it in self.queue if not self._fails(it)), self.queue[-1])
         self.queue.remove(message)
         return message
 
@@ -156,7 +159,7 @@ def _muted() -> Iterator[None]:
         logger.addFilter(filtered)
     try:
         with warnings.catch_warnings():
-            warnings.filterwarnings("ignore", module=r"celery\.")
+            warnings.filterwarnings("ignore", module=r"(billiard|celery|kombu|vine)\.")
             yield
     finally:
         for logger in loggers:
@@ -166,14 +169,15 @@ def _muted() -> Iterator[None]:
 @contextmanager
 def _unsignalled(tasks: list[Any]) -> Iterator[None]:
     """Has each signal know that nobody listens to these tasks."""
+    told = [(signal.sender_receivers_cache, task) for signal in SIGNALS for task in tasks
+            if task not in signal.sender_receivers_cache]
     try:
-        for signal in SIGNALS:
-            signal.sender_receivers_cache.update(dict.fromkeys(tasks, NO_RECEIVERS))
+        for known, task in told:
+            known[task] = NO_RECEIVERS
         yield
     finally:
-        for signal in SIGNALS:
-            for task in tasks:
-                signal.sender_receivers_cache.pop(task, None)
+        for known, task in told:
+            known.pop(task, None)
 
 
 @contextmanager

@@ -6,7 +6,6 @@ from collections import Counter
 from typing import Any, Iterable, Iterator
 
 from .celery_run import CeleryRun, Judge, celery_answers, said
-from .errors import CanvasError
 
 __all__ = ["Question"]
 
@@ -27,17 +26,19 @@ class Question:
             return ""
         try:
             found = self._parts(report)
-        except CanvasError as error:
-            return f"Celery can't be asked: {error}"
+        except Exception as error:  # a report is shown whatever its note costs
+            return f"Celery {self.judge.version} can't be asked: {said(error)}"
         if not found:
             return ""
         is_call = found[0].startswith(("also ", "calls ", "never "))
         return f"Celery {self.judge.version}{'' if is_call else ':'} {'; '.join(found)}"
 
     def _parts(self, report: Any) -> list[str]:
-        """What is done otherwise, whether tasks that fail end first or last."""
-        found = [it for run in self.judge.both(self.answers) for it in self._differences(report, run)]
-        return [*dict.fromkeys(found)]
+        """What is done otherwise, and if that depends on which task ends last, when."""
+        runs = [[*self._differences(report, run)] for run in self.judge.both(self.answers)]
+        first, last = runs[0], runs[-1]
+        return [*(it + ("" if it in last else " unless the failure comes last") for it in first),
+                *(f"{it} if the failure comes last" for it in last if it not in first)]
 
     def _differences(self, report: Any, run: CeleryRun) -> Iterator[str]:
         if run.raised is not None:
@@ -49,8 +50,8 @@ class Question:
             yield "get() waits forever"
         elif report.status == "FAILURE" and run.status == "SUCCESS":
             yield "get() raises nothing"
-        elif run.status == "FAILURE" and type(run.result).__name__ not in _kinds(report):
-            yield f"get() raises {type(run.result).__name__}"
+        elif run.status == "FAILURE" and _name_of(run.result) not in _kinds(report):
+            yield f"get() raises {_name_of(run.result)}"
 
     def _names(self, marks: Iterable[str]) -> Counter[str]:
         """How often each name is called, but for maps, whose calls are one message on Celery."""
@@ -66,6 +67,11 @@ def _of_calls(here: Counter[str], there: Counter[str]) -> Iterator[str]:
             yield f"never calls {name}"
         elif here[name] != there[name]:
             yield f"calls {name} {_times(there[name])} instead of {_times(here[name])}"
+
+
+def _name_of(error: Any) -> str:
+    """The name of an exception, also of one that Celery wraps since it can't be pickled."""
+    return str(getattr(error, "exc_cls_name", type(error).__name__))
 
 
 def _times(count: int) -> str:

@@ -21,7 +21,8 @@ def cured(flow: Canvas) -> Any:
       a chain it has none, so a member of the header fails instead, and its error callbacks run. In
       this signature each such chain has an identifier.
     - Celery calls the error callbacks of the body itself if a member of the header fails, and not
-      those of the tasks in it. Error callbacks that each task of the chain has are the chain's here.
+      those of the tasks in it. Error callbacks that each task of the chain has are also the
+      chain's here.
 
     What is left is what `differences(cured(flow))` names: as a `get()` that waits forever, or an
     error callback that only the first task of a body has. A start by `export()` has none of these.
@@ -34,7 +35,15 @@ def cured(flow: Canvas) -> Any:
         # Since 5.3 the start of a chord gives its own identifier, or none, to the chain.
         tree["options"].setdefault("task_id", str(uuid.uuid4()))
     kind = type(flow) if isinstance(flow, Signature) else Signature
-    return kind.from_dict(tree, app=getattr(flow, "_app", None))
+    return kind.from_dict(tree, app=_app_of(flow))
+
+
+def _app_of(sig: Any) -> Any:
+    """The application of the first signature that has one."""
+    if not isinstance(sig, dict):
+        return None
+    found = getattr(sig, "_app", None) or getattr(getattr(sig, "_type", None), "app", None)
+    return found or next(filter(None, map(_app_of, members_of(sig))), None)
 
 
 def _cure(sig: Tree) -> None:

@@ -6,7 +6,7 @@ import functools
 import shutil
 import subprocess
 from itertools import zip_longest
-from typing import TYPE_CHECKING, Any, Callable, Dict, NamedTuple
+from typing import TYPE_CHECKING, Any, Dict, NamedTuple
 
 from .calling import ask
 from .errors import CanvasError
@@ -41,9 +41,8 @@ class Report:
     status, those that are called (`ran`) and the others; `again` is how often a result was stored
     once more. Reports are equal where each task and the canvas end the same.
 
-    Of what_if(), and where Celery is installed, a last line says what it does otherwise."""
+    Of what_if(), and if Celery is installed, a last line says what it does otherwise."""
     _question: Question | None = None
-    _warned: Callable[[], list[Warning]] | None = None
 
     def __init__(self, rows: list[dict[str, Any]], end: dict[str, Any],
                  asked: tuple[list[str], bytes] | None = None, again: int = 0) -> None:
@@ -64,16 +63,15 @@ class Report:
             raise CanvasError("that isn't known of a run on Celery's workers: ask what_if()")
         raise AttributeError(name)
 
-    def asked_of(self, question: Question, warned: Callable[[], list[Warning]]) -> Report:
-        """The report, with its question to Celery, and who finds out the warnings."""
-        self._question, self._warned = question, warned
+    def asked_of(self, question: Question) -> Report:
+        """The report, with its question to Celery."""
+        self._question = question
         return self
 
     @functools.cached_property
     def on_celery(self) -> CeleryRun:
         """What the code of the installed Celery does with the canvas and these answers, with the
-        tasks in their turn. CanvasError if there is no Celery, or of other reports than what_if()'s.
-        """
+        tasks in their turn. CanvasError if there is no Celery, or of reports of other calls."""
         if self._question is None:
             raise CanvasError("that is known of what_if() and every_failure() only")
         return self._question.run()
@@ -84,10 +82,15 @@ class Report:
         return self._question.note(self) if self._question else ""
 
     @functools.cached_property
+    def misfits(self) -> list[Warning]:
+        """Those of the warnings that only the application knows, if what_if() was given one."""
+        return self._question.judge.misfits() if self._question else []
+
+    @functools.cached_property
     def warnings(self) -> list[Warning]:
         """What may surprise in the canvas, as of check(). Empty of other reports than what_if()'s.
         """
-        return self._warned() if self._warned else []
+        return self._question.judge.warnings() if self._question else []
 
     def graph(self) -> Picture:
         """The picture of this run. CanvasError, as of `ran`, of one on Celery's workers."""
@@ -118,7 +121,7 @@ class Report:
         return not self.differences(other) if isinstance(other, Report) else NotImplemented
 
     def __repr__(self) -> str:
-        return "\n".join([self.text(), *([self.note] if self.note else [])])
+        return "\n".join(filter(None, [self.text(), *map(str, self.misfits), self.note]))
 
     def text(self) -> str:
         """The rows and the result, as the program prints them."""
@@ -139,7 +142,7 @@ class Failures(Dict[int, Report]):
     well: Report
 
     def __repr__(self) -> str:
-        return "\n".join(self._line(*it) for it in self.items())
+        return "\n".join([*(self._line(*it) for it in self.items()), *map(str, self.well.misfits)])
 
     def _line(self, number: int, report: Report) -> str:
         said = f"#{number} {report[number].name} fails: result {shown(report.result)}"

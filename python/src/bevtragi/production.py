@@ -5,10 +5,9 @@ from __future__ import annotations
 from typing import Any, Iterator
 
 from .asking import every_failure
-from .binding import misfits
 from .celery_run import celery_version
 from .reports import Failures
-from .texts import Canvas, tree_of
+from .texts import Canvas
 
 __all__ = ["differences"]
 
@@ -25,8 +24,7 @@ def differences(flow: Canvas, app: Any = None) -> list[str]:
     Celery isn't installed, and Refused as what_if() does."""
     celery_version()
     failures = every_failure(flow, app=app)
-    unfit = misfits(tree_of(flow), app) if app is not None else []
-    return [*(f"{it}" for it in unfit), *_sentences(failures)]
+    return [*map(str, failures.well.misfits), *_sentences(failures)]
 
 
 def _sentences(failures: Failures) -> Iterator[str]:
