@@ -9,6 +9,7 @@ flows/started-VERSION.jsonl says, and with --write it writes that file anew. The
 run differs. PYTHON names another Python than the one that it is run by.
 """
 
+import gc
 import json
 import os
 import signal
@@ -107,33 +108,17 @@ def rests(store):
     raise TimeoutError("the workers don't come to rest")
 
 
-class Stuck(BaseException):
-    """`get(timeout=1)` doesn't come back."""
-
-
 def got(result):
-    """How the caller's `get()` ends: SUCCESS, WAITS, or the name of an exception. The client of
-    Celery 5.5.2 was seen to wait in it forever, in a lock of its own, and not the next time."""
+    """How the caller's `get()` ends: SUCCESS, WAITS, or the name of an exception."""
     from celery.exceptions import TimeoutError as Late
 
-    def stop(*_):
-        raise Stuck
-
-    signal.signal(signal.SIGALRM, stop)
-    for _ in range(3):
-        signal.alarm(20)
-        try:
-            result.get(timeout=1.0)
-            return "SUCCESS"
-        except Late:
-            return "WAITS"
-        except Stuck:
-            continue
-        except Exception as error:
-            return type(error).__name__
-        finally:
-            signal.alarm(0)
-    raise TimeoutError("get() doesn't come back")
+    try:
+        result.get(timeout=1.0)
+        return "SUCCESS"
+    except Late:
+        return "WAITS"
+    except Exception as error:
+        return type(error).__name__
 
 
 def started(store, flow, fails):
@@ -195,6 +180,9 @@ def main():
     import celery
 
     if words[:1] == ["--of"]:
+        # A result that is collected unsubscribes, by a lock of redis 6.1.0 that this thread may
+        # hold: the caller of Celery 5.5.2 then waits forever, whatever its timeout.
+        gc.disable()
         for run in runs_of(words[1]):
             print(json.dumps(run), flush=True)
         return 0

@@ -29,7 +29,7 @@ def run(canvas: Canvas, tasks: Answers = {}, workers: int = 1, turns: Sequence[i
     workers  how many there are, from 1 to 16: on threads, or taking turns with turns or again
     turns    which worker goes on at each turn, as [2, 1, 1]
     again    what is delivered again, as {"shop.ship": "late"}: "early", before its result is
-             stored, or "late", before it is acknowledged. True stands for everything, both ways
+             stored, or "late", before it is acknowledged. True is everything, both ways
 
     Raises BadCall; and Refused, also for arguments of kinds of which adapt() makes texts."""
     return _run(text_of(canvas), tasks, words_of(tasks), workers, turns, again)
@@ -43,10 +43,10 @@ def what_if(canvas: Canvas, tasks: Answers = {}, workers: int = 1,
     app  your Celery application: the report's `warnings` then name tasks that it doesn't know, and
          calls that its tasks don't take; and `on_celery` has tasks with its parameters
 
-    Each task behind a failure fails, too. Celery leaves some of these PENDING for ever: a group or
-    chord that a failed task stands before, with what waits for it, and what waits for a failed
-    chord in a header. docs/CELERY.md lists all that differs. If Celery is installed, print() of the
-    report says where its code does otherwise."""
+    Each task after a failure fails, too. Celery leaves some of these PENDING forever: a group or
+    chord after a failed task, with what waits for it, and what waits for a failed chord in a
+    header. docs/CELERY.md lists all that differs. If Celery is installed, print() of the report
+    says where its code does otherwise."""
     return _what_if(_judge(canvas, app), tasks, workers, turns, again)
 
 
@@ -106,7 +106,7 @@ def _each(said: Any, asked: list[str], text: bytes, tasks: Answers) -> Report:
 
 def every_failure(canvas: Canvas, tasks: Answers = {}, error: Any = Exception, app: Any = None
                   ) -> Failures:
-    """The what_if() of each task failing alone, by its number; print() it. If Celery is installed,
+    """The what_if() of each task failing, by its number; print() it. If Celery is installed,
     each line also says where its code does otherwise. Raises as what_if()."""
     judge = _judge(canvas, app)
     well = _what_if(judge, tasks)

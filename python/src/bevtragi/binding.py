@@ -22,7 +22,7 @@ def misfits(canvas: Tree, app: Any) -> list[Warning]:
 
 
 def _of(sig: Tree, at: str, given: int, app: Any) -> Iterator[Warning]:
-    """Those of a signature that is called with so many arguments besides its own."""
+    """Those of a signature that is called with `given` arguments before its own."""
     kind, inner = kind_of(sig), sig.get("kwargs") or {}
     if kind is None:
         yield from _of_task(sig, at, 0 if sig.get("immutable") else given, app)
@@ -75,7 +75,7 @@ def _of_callback(sig: Tree, at: str, app: Any) -> Iterator[Warning]:
 
 
 def _refusal(sig: Tree, given: int, app: Any) -> str:
-    """Why a task doesn't take its arguments after so many others; empty if it takes them."""
+    """Why a task doesn't take its arguments after `given` others; empty if it takes them."""
     if sig.get("task") not in app.tasks:
         return ""
     task = app.tasks[sig["task"]]

@@ -67,7 +67,7 @@ class Backend(RedisBackend):
         return super().get_many(task_ids, *args, **{**kwargs, "interval": 0})
 
     def prepare_exception(self, exc: BaseException, serializer: str | None = None) -> Any:
-        """Notes an exception outside of a task's function: for these alone it is "pickle"."""
+        """Notes an exception outside of a task's function: only for these it is "pickle"."""
         if serializer == "pickle":
             self.session.errors.append(exc)
         return super().prepare_exception(exc, serializer)

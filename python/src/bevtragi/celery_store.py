@@ -59,7 +59,7 @@ class Store:
         return len(members) - before
 
     def zcount(self, key: Key, _least: Any, _most: Any) -> int:
-        """The number of members; Celery asks from -inf to +inf alone."""
+        """The number of members; Celery asks from -inf to +inf only."""
         return len(self.values.get(_bytes(key), {}))
 
     def zrange(self, key: Key, start: int, end: int) -> list[bytes]:

@@ -26,7 +26,7 @@ class Question:
             return ""
         try:
             found = self._parts(report)
-        except Exception as error:  # a report is shown whatever its note costs
+        except Exception as error:  # a report can be shown without its note
             return f"Celery {self.judge.version} can't be asked: {said(error)}"
         if not found:
             return ""

@@ -14,7 +14,7 @@ __all__ = ["cured"]
 
 
 def cured(flow: Canvas) -> Any:
-    """The signature to start in place of a canvas: `cured(flow).apply_async()`. It has identifiers,
+    """The signature to start instead of a canvas: `cured(flow).apply_async()`. It has identifiers,
     so it is for one start; the canvas itself isn't changed.
 
     - Celery stores the failure of a chord's header under the identifier of the body. If the body is

@@ -14,8 +14,8 @@ __all__ = ["differences"]
 
 def differences(flow: Canvas, app: Any = None) -> list[str]:
     """Sentences that say where the installed Celery does otherwise than the canvas means: what it
-    calls, and how the caller's `get()` ends, if all goes well and if each task fails alone. The
-    list is empty if Celery does the same, so that a test may say `assert not differences(flow)`.
+    calls, and how the caller's `get()` ends, if all goes well and if one task fails. The list is
+    empty if Celery does the same, so that a test may say `assert not differences(flow)`.
 
     app  your application: tasks that it doesn't know, and calls that its tasks don't take, are
          named first
