@@ -4,7 +4,7 @@ started as it is, by `apply_async()`, and again as `cured()` gives it.
 
     python3 real_workers.py       it needs redis-server, redis and Celery
 
-It takes some minutes. test_judge.py compares the file of the installed version with on_celery().
+The worker is started by this Python, or by $PYTHON. It takes some minutes. test_judge.py compares the file of the installed version with on_celery().
 """
 
 import json

@@ -161,7 +161,7 @@ class Notes(unittest.TestCase):
             report = what_if(user_flows.order())
             with self.assertRaisesRegex(CanvasError, "isn't as it is known here"):
                 report.on_celery
-            self.assertRegex(str(report), f"\nCelery {celery.__version__} can't be asked: Canvas")
+            self.assertRegex(str(report), "\nCelery can't be asked: CanvasError: Celery ")
 
     def test_a_canvas_that_is_changed_later(self):
         flow = user_flows.copies()
