@@ -1,4 +1,5 @@
-# What ./canvas and ./try know of the tree: which crates the program is built of, and whether the proved program that is there was built of them.
+# What ./canvas and ./try know of the tree: which crates the program is built of, and whether the proved program that is there was built of them, by
+# the toolchain that is here.
 # Whoever reads this has set `top`, and has a function `stop` that says why it ends.
 
 out="$top/crates/canvas_cli/out"
@@ -49,12 +50,22 @@ find_parts() {
   for name in "${needed[@]}"; do parts+=(crates/"$name"/{src,specs,proofs}); done
 }
 
-# The files that the build is of, at a glance.
+# Sets `toolchain` to the files that tell one toolchain from another, if there is one.
+find_toolchain() {
+  local rt
+  toolchain=()
+  if ! rt="$(type -P rt)" || ! rt="$(readlink -f -- "$rt")"; then return 0; fi
+  toolchain=("$rt")
+  if [ -e "${rt%/*/*}/KIT-ID" ]; then toolchain+=("${rt%/*/*}/KIT-ID"); fi
+}
+
+# The files that the build is of, the program and the toolchain, at a glance.
 listing() {
-  local -a parts
+  local -a parts toolchain
   find_parts
+  find_toolchain
   cd "$top"
-  exec find crates.txt "${parts[@]}" -type f -printf '%p %s %T@ %C@\n' 2>/dev/null
+  exec find crates.txt "${parts[@]}" "$program" "${toolchain[@]}" -type f -printf '%p %s %T@ %C@\n' 2>/dev/null
 }
 
 # What they hold, in this tree or in a copy.
@@ -70,18 +81,30 @@ contents() {
   } | sha256sum
 }
 
-keep() { printf '%s\n' "$1" "${needed[*]}" "$2" >"$built_of"; }
+# A program's digest. Nothing is kept of one that can't be read.
+digest() {
+  local sum
+  sum="$(sha256sum -- "$program")" && echo "${sum%% *}"
+}
 
-# Whether the program that is there was built of these files. They are read only where they look otherwise than before.
+# The toolchain in its own words.
+toolchain_id() { rt version 2>/dev/null | head -n 1; }
+
+# Notes what the program was built of and by what: the sum of the sources, its digest, the toolchain, the crates, and the files at a glance.
+keep() { printf '%s\n' "$1" "$2" "$3" "${needed[*]}" "$4" >"$built_of"; }
+
+# Whether the program that is there was built of these files by this toolchain, or by one that is gone. They are read only if they look otherwise than
+# when it was built.
 is_built() {
-  local built='' seen='' now LC_ALL=C
+  local built='' sum='' kit='' seen='' now LC_ALL=C
   needed=()
   [ -x "$program" ] && [ -f "$built_of" ] || return 1
-  { read -r built && read -r -a needed && IFS= read -r -d '' seen; } <"$built_of" || :
+  { read -r built && read -r sum && IFS= read -r kit && read -r -a needed && IFS= read -r -d '' seen; } <"$built_of" || :
   now="$(listing)" || :
   [ "$seen" != "$now"$'\n' ] || return 0
   find_needed "$top"
-  [ -n "$built" ] && [ "$(contents 2>/dev/null)" = "$built" ] || return 1
+  [ -n "$built" ] && [ "$(contents 2>/dev/null)" = "$built" ] && [ "$(digest 2>/dev/null)" = "$sum" ] || return 1
+  if command -v rt >/dev/null 2>&1 && [ "$(toolchain_id)" != "$kit" ]; then return 1; fi
   now="$(listing)" || :
-  keep "$built" "$now" 2>/dev/null || :
+  keep "$built" "$sum" "$kit" "$now" 2>/dev/null || :
 }

