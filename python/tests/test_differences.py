@@ -28,6 +28,9 @@ WITHOUT = mock.patch.dict(sys.modules, {"celery": None})
 #: The exception of Celery's own that replaces a failure, and the versions that have the error.
 OWN = {"5.2.6": "TypeError", "5.5.2": "ValueError"}
 
+#: A test of what these versions do.
+tried = unittest.skipUnless(getattr(celery, "__version__", None) in OWN, "another Celery")
+
 
 def s(name, *args, **kwargs):
     return signature(name, args, kwargs)
@@ -94,6 +97,7 @@ class Notes(unittest.TestCase):
     def note(self, flow, fails, **how):
         return what_if(flow, {fails: OutOfStock} if fails else {}, **how).note
 
+    @tried
     def test_the_refund_of_a_parcel_that_was_shipped(self):
         report = what_if(user_flows.order(), {"shop.charge": OutOfStock})
         wanted = {"5.2.6": "Celery 5.2.6 also calls shop.refund unless the failure comes last;"
@@ -157,7 +161,7 @@ class Notes(unittest.TestCase):
             report = what_if(user_flows.order())
             with self.assertRaisesRegex(CanvasError, "isn't as it is known here"):
                 report.on_celery
-            self.assertRegex(str(report), f"\nCelery {celery.__version__} can't be asked: Canvas")
+            self.assertRegex(str(report), "\nCelery can't be asked: CanvasError: Celery ")
 
     def test_a_canvas_that_is_changed_later(self):
         flow = user_flows.copies()
@@ -175,6 +179,7 @@ class Differences(unittest.TestCase):
                      s("a") | s("b"), user_flows.night_of_a_map(), s("a")):
             self.assertEqual(differences(flow), [])
 
+    @tried
     def test_sentences(self):
         version, own = celery.__version__, OWN[celery.__version__]
         self.assertEqual(differences(user_flows.order_without_find()), [
@@ -217,6 +222,7 @@ class Differences(unittest.TestCase):
 class Cured(unittest.TestCase):
     """The signature to start."""
 
+    @tried
     def test_the_orders(self):
         for name in ("order", "order_without_find", "order_with_alarms"):
             flow = user_flows.FLOWS[name]()
@@ -224,6 +230,7 @@ class Cured(unittest.TestCase):
             self.assertEqual(differences(cured(flow), app), [], name)
             self.assertEqual(json.dumps(flow, default=str), before)
 
+    @tried
     def test_what_is_left_is_named(self):
         left = differences(cured(user_flows.order_with_alarm()))
         self.assertEqual(left, [
@@ -233,7 +240,11 @@ class Cured(unittest.TestCase):
     def test_it_means_the_same(self):
         for make in user_flows.FLOWS.values():
             flow = make()
-            self.assertEqual(every_failure(flow), every_failure(cured(flow)))
+            try:
+                meant = every_failure(flow)
+            except Refused:
+                continue
+            self.assertEqual(meant, every_failure(cured(flow)))
 
     def test_it_can_be_started_by_the_users_application(self):
         for flow in (user_flows.order(), user_flows.night(), user_flows.order_without_find()):

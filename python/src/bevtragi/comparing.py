@@ -22,12 +22,10 @@ class Question:
 
     def note(self, report: Any) -> str:
         """A line that says what Celery does otherwise; empty if it does the same or isn't there."""
-        if not self.judge.can_be_asked:
-            return ""
         try:
-            found = self._parts(report)
+            found = self._parts(report) if self.judge.can_be_asked else []
         except Exception as error:  # a report can be shown without its note
-            return f"Celery {self.judge.version} can't be asked: {said(error)}"
+            return f"Celery can't be asked: {said(error)}"
         if not found:
             return ""
         is_call = found[0].startswith(("also ", "calls ", "never "))
