@@ -1,5 +1,6 @@
 -- What is foreseen of each signature of a canvas, in file order: what its call is expected to
--- become, and where Celery 5 does otherwise (Celery user guide, Canvas: groups and chords).
+-- become, and where Celery 5 does otherwise (Celery user guide, Canvas: groups, chords, error
+-- handling; docs/CELERY.md has what its workers did).
 use Rattle.std.specs.Prelude.{ℕ, zero, suc, Bool, true, false, not, ◌&&◌, ◌||◌, ◌==◌, nat_lt, List, [], ◌∷◌, ◌++◌}
 use Rattle.canvas_task.specs.Apply.{Behaviour}
 use Rattle.canvas_semantics.specs.Tree.{Task, task, Tasks, no_tasks, and_task, Tree, one, chain, group, chord, Trees, no_trees, and_tree}
@@ -45,7 +46,7 @@ abbrev pub is_unknown_call : Expected → Bool
 is_unknown_call Unknown = true
 is_unknown_call e = false
 
--- A task with n error callbacks. With more behind it, it is no whole body.
+-- A task with n error callbacks. A body that something follows is the first of several tasks.
 abbrev pub of_task : Expected → ℕ → Stand → Forecast
 of_task e n s =
     record (of_call e) {
@@ -54,6 +55,7 @@ of_task e n s =
       is_missed = is_unknown_call e && (nat_lt 0 n || s.is_followed || s.is_in_header);
     }
 
+-- as a body, a chain is never stored: nothing gives it an identifier
 abbrev pub of_chain : Stand → Forecast
 of_chain s = record (of_call Answer) { has_no_identifier = s.is_body }
 

@@ -26,16 +26,16 @@ pub struct Forecast {
     pub is_nested_chord: bool,
     /// A group whose one member Celery puts in its place.
     pub is_unrolled: bool,
-    /// A chord's body of several tasks, which has no identifier: if the header fails, Celery leaves
-    /// it pending and may call the error callbacks of another task.
+    /// A chord's body of several tasks in a row, which has no identifier: if the header fails,
+    /// Celery leaves it pending, and may call the error callbacks of a member that succeeded.
     pub has_no_identifier: bool,
     /// A chord's body that is a group or chord, which Celery leaves pending if the header fails.
     pub is_pending_body: bool,
-    /// A task that begins a chord's body of several: if the header fails, Celery doesn't call its
+    /// One of the first tasks of a body of several: if the header fails, Celery doesn't call its
     /// error callbacks.
     pub loses_alarms: bool,
-    /// A name that no task answers to: Celery doesn't call its error callbacks, and leaves what
-    /// waits for it pending.
+    /// A name that no task answers to, with error callbacks, which Celery doesn't call, or with
+    /// something that waits for it, which Celery leaves pending.
     pub is_missed: bool,
 }
 

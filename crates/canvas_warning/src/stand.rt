@@ -29,9 +29,10 @@ pub(crate) struct Stand {
     pub(crate) is_followed: bool,
     /// Whether it stands in a header, however deep.
     pub(crate) is_in_header: bool,
-    /// Whether a chord's body begins with it, and is nothing else unless something follows it.
+    /// Whether it is a chord's body, as what follows a group is too. With more behind it, the body
+    /// has several tasks.
     pub(crate) is_body: bool,
-    /// Whether a chord's body of several tasks begins with it and others.
+    /// Whether it is one of the first parts of a body of several tasks.
     pub(crate) begins_body: bool,
 }
 
