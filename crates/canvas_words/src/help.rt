@@ -37,7 +37,12 @@ tasks.add and so on. It may be given again, for another name; the name * stands 
 no task has, and on `run`, `turns` and `graph` `#3` for the third task alone, whatever its name.
 `--tasks FILE` has more, one a line; an empty line, and one that begins with #, says nothing, and
 what `--task` says of a name comes first. Another word or name, or a name that is there twice, is
-refused (BadTask). With --adapt these three first do what `adapt` does, and don't say what.
+refused (BadTask). So is a name that `--task` says if no task of the canvas has it, unless it is *
+or a built-in task's, or with --each; a file may name other tasks.
+
+With --adapt a command first does what `adapt` does, and doesn't say what. But `export --adapt` says
+on standard error how many arguments the workers get as texts. Then give `keys` and `collect`
+--adapt too.
 
 The normal line of a canvas means the same as the canvas: some tasks, then at most one group or chord.
 A chain in a chain is flattened, and a group or chord that something follows is a chord whose body is
