@@ -77,5 +77,14 @@ class FirstExample(unittest.TestCase):
         self.assertEqual(differences(cured(order())), [])
 
 
+@unittest.skipIf(celery is None, "Celery isn't installed")
+class Table(unittest.TestCase):
+    """The table of docs/CELERY.md."""
+
+    def test_it_is_of_the_runs_that_are_written_down(self):
+        import compared
+        self.assertIn(compared.table(), (HERE.parent.parent / "docs" / "CELERY.md").read_text())
+
+
 if __name__ == "__main__":
     unittest.main()
