@@ -314,7 +314,8 @@ class NothingElse(unittest.TestCase):
         with self.assertNoLogs() if hasattr(self, "assertNoLogs") else mock.MagicMock():
             with warnings.catch_warnings():
                 warnings.simplefilter("error")
-                on_celery(user_flows.order(), {"shop.ship": OutOfStock}, user_tasks.app)
+                run = on_celery(user_flows.order_without_find(), {"shop.ship": OutOfStock})
+        self.assertNotIn("RuntimeWarning", [type(it).__name__ for it in run.errors])
         filters = [it for name in logging.root.manager.loggerDict
                    for it in logging.getLogger(name).filters if name.startswith("celery")]
         self.assertEqual(filters, [])
