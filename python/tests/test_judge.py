@@ -231,6 +231,7 @@ class OwnApplication(unittest.TestCase):
         @own.task(name="a")
         def a(*args):
             raise AssertionError
+        self.assertEqual(on_celery(own.signature("a"), {"a": {1, 2}}, own).status, "FAILURE")
         own.conf.result_serializer = own.conf.task_serializer = "pickle"
         own.conf.accept_content = ["pickle"]
         run = on_celery(own.signature("a"), {"a": {1, 2}}, own)
