@@ -232,10 +232,13 @@ class OwnApplication(unittest.TestCase):
         def a(*args):
             raise AssertionError
         self.assertEqual(on_celery(own.signature("a"), {"a": {1, 2}}, own).status, "FAILURE")
-        own.conf.result_serializer = own.conf.task_serializer = "pickle"
-        own.conf.accept_content = ["pickle"]
+        own.conf.result_serializer, own.conf.accept_content = "pickle", ["json", "pickle"]
         run = on_celery(own.signature("a"), {"a": {1, 2}}, own)
         self.assertEqual((run.status, run.result), ("SUCCESS", {1, 2}))
+        own.conf.accept_content = ["pickle"]  # the messages of this task are JSON
+        run = on_celery(own.signature("a"), {}, own)
+        self.assertEqual((run.called, run.waits), ([], True))
+        self.assertEqual([type(it).__name__ for it in run.errors], ["ContentDisallowed"])
 
 
 @unittest.skipIf(celery is None, "Celery isn't installed")
