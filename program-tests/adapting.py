@@ -152,6 +152,92 @@ def hand_on(sig, is_followed=False):
             hand_on(member)
 
 
+# ---- signatures that were frozen
+
+BOOKS = {"chord", "chord_size", "group_id", "group_index", "parent_id", "reply_to", "root_id"}
+
+
+def has_identifier(sig):
+    return isinstance((sig.get("options") or {}).get("task_id"), str)
+
+
+def is_frozen(sig):
+    """Whether Celery wrote its books into a signature, besides an identifier."""
+    return has_identifier(sig) and bool(BOOKS & {*sig["options"]})
+
+
+def thaw(sig, count):
+    """Takes out what Celery wrote into a signature, and into those in it, when it was started."""
+    for callback in rules.callbacks(sig, "link") + rules.callbacks(sig, "link_error"):
+        thaw(callback, count)
+    before, kind = count["frozen"], rules.kind_of(sig)
+    header = sig["kwargs"]["header"] if kind == "chord" else []
+    had_list = isinstance(header, dict) and is_frozen(header)
+    body = [sig["kwargs"]["body"]] if kind == "chord" else []
+    for part in [*(header_of(sig) if kind == "chord" else rules.parts(sig) if kind else []), *body]:
+        thaw(part, count)
+    if had_list and not header["options"]:
+        sig["kwargs"]["header"] = header["kwargs"]["tasks"]
+    if is_frozen(sig) or has_identifier(sig) and count["frozen"] > before:
+        count["frozen"] += 1
+        sig["options"] = {name: it for name, it in sig["options"].items()
+                          if name not in BOOKS | {"task_id"}}
+
+
+# ---- callbacks that are chains and groups
+
+MOST_LINKS = 8
+
+
+def starts(sig, links, errbacks, depth, is_followed):
+    """The tasks that a callback starts, with what comes behind them, and how many follow each
+    other then; None where tasks with callbacks can't say it."""
+    if form(sig) == "task":
+        sig = copy.deepcopy(sig)
+        give(sig, links, errbacks)
+        return ([sig], depth + 1) if depth < MOST_LINKS else None
+    if form(sig) not in ("chain", "group") or sig.get("args") or sig.get("immutable") or (
+            sig.get("options") or {}).get("chord") is not None:
+        return None
+    links = rules.callbacks(sig, "link") + links
+    errbacks = rules.callbacks(sig, "link_error") + errbacks
+    if form(sig) == "group":
+        found = [starts(it, links, errbacks, depth, False) for it in rules.parts(sig)]
+        if is_followed or None in found:
+            return None
+        return sum((it for it, _ in found), []), max([depth] + [it for _, it in found])
+    found = (links, depth) if rules.parts(sig) else None
+    for element in reversed(rules.parts(sig)):
+        found = found and starts(element, found[0], errbacks, found[1], is_followed)
+        is_followed = True
+    return found
+
+
+def as_tasks(name, callback, count):
+    """The tasks that stand for a callback. Of a chain that is called for a failure Celery calls
+    none that takes input."""
+    found = None if form(callback) == "task" else starts(callback, [], [], 0, False)
+    if found is None or name == "link_error" and form(callback) == "chain" and not all(
+            it.get("immutable") for it in found[0]):
+        return [callback]
+    count["compound"] += 1
+    return found[0]
+
+
+def split(sig, count):
+    """Makes tasks of the callbacks that are chains and groups, in a signature and in those in it."""
+    for name in ("link", "link_error"):
+        callbacks = rules.callbacks(sig, name)
+        for callback in callbacks:
+            split(callback, count)
+        if callbacks:
+            sig["options"][name] = sum((as_tasks(name, it, count) for it in callbacks), [])
+    if rules.kind_of(sig):
+        body = [sig["kwargs"]["body"]] if rules.kind_of(sig) == "chord" else []
+        for part in (header_of(sig) if body else rules.parts(sig)) + body:
+            split(part, count)
+
+
 # ---- maps and groups
 
 
@@ -231,6 +317,10 @@ LINES = {
     "group": ("group in a group, whose members stand in the outer one now",
               "groups in groups, whose members stand in the outer ones now"),
     "map": ("map, which is a group of calls now", "maps, which are groups of calls now"),
+    "frozen": ("frozen signature, which has no identifiers now",
+               "frozen signatures, which have no identifiers now"),
+    "compound": ("chain or group as a callback, whose tasks are callbacks now",
+                 "chains and groups as callbacks, whose tasks are callbacks now"),
 }
 
 
@@ -248,6 +338,8 @@ def count_told(sig, count):
 def adapted(canvas):
     """The canvas that is made of one, and how many changes of each kind."""
     canvas, count = copy.deepcopy(canvas), Counter()
+    thaw(canvas, count)
+    split(canvas, count)
     for sig in [*nodes(canvas)]:
         if form(sig) == "calls":
             make_group(sig)
@@ -294,8 +386,15 @@ A, B, C, D = (task(it) for it in "abcd")
 ALARM = task("alarm")
 
 
+FROZEN = {"task_id": "i", "reply_to": "r", "chord": {"task": "b"}}
+
+
 def alarmed(sig):
-    return dict(sig, options={"link_error": [ALARM]})
+    return dict(sig, options={**sig.get("options", {}), "link_error": [ALARM]})
+
+
+def linked(sig, *links):
+    return dict(sig, options={"link": list(links)})
 
 
 ROWS = [
@@ -316,6 +415,19 @@ ROWS = [
     (chain(A, group(group(A, group(B, C)), D)), chain(A, group(C, B, A, D)), 2),
     (task("celery.map", kwargs={"task": A, "it": [1, None]}),
      group(dict(task("a", 1), immutable=True), dict(task("a", "null"), immutable=True)), 2),
+    (task("a", options=FROZEN), task("a", options={}), 1),
+    (task("a", options={"task_id": "i"}), task("a", options={"task_id": "i"}), 0),
+    (dict(group(task("a", options=FROZEN)), options={"task_id": "i"}),
+     dict(group(task("a", options={})), options={}), 2),
+    (linked(A, chain(B, C)), linked(A, linked(B, C)), 1),
+    (linked(A, group(chain(B, C), D)), linked(A, linked(B, C), D), 1),
+    (linked(A, chain(B, group(C, D))), linked(A, linked(B, C, D)), 1),
+    (linked(A, chain(group(B, C), D)), linked(A, chain(group(B, C), D)), 0),
+    (linked(A, chain(B, C, errbacks=[ALARM])), linked(A, alarmed(linked(B, alarmed(C)))), 1),
+    (dict(A, options={"link_error": [chain(ALARM, B)]}),
+     dict(A, options={"link_error": [chain(ALARM, B)]}), 0),
+    (dict(A, options={"link_error": [group(chain(ALARM, B))]}),
+     dict(A, options={"link_error": [linked(ALARM, B)]}), 1),
 ]
 
 

@@ -7,13 +7,13 @@ newline=$'\n'
 forms="run FILE [--workers N] [--adapt] [--task NAME=WORD] [--tasks FILE] [--json] [--explain] [--each] [--null] [--fail]
 turns FILE [--workers N] [--turns LIST] [--again LIST] [--adapt] [--task NAME=WORD] [--tasks FILE] [--json] [--fail]
 normal FILE [--json]
-check FILE [--task NAME=WORD] [--tasks FILE] [--json] [--strict]
+check FILE [--adapt] [--task NAME=WORD] [--tasks FILE] [--json] [--strict]
 adapt FILE [--rename #NUMBER=NAME] [--json]
 graph FILE [--run] [--workers N] [--adapt] [--task NAME=WORD] [--tasks FILE] [--results FILE] [--of HEX22] [--complete] [--json]
-messages FILE [--workers N] [--turns LIST] [--task NAME=WORD] [--tasks FILE] [--json]
-export FILE --run HEX22 [--queue NAME] [--prefix TEXT] [--expires SECONDS] [--broker-db N] [--backend-db N] [--without-script] [--json]
-keys FILE --run HEX22 [--prefix TEXT] [--json]
-collect FILE --run HEX22 [--complete] [--json]"
+messages FILE [--workers N] [--turns LIST] [--adapt] [--task NAME=WORD] [--tasks FILE] [--json]
+export FILE --run HEX22 [--adapt] [--queue NAME] [--prefix TEXT] [--expires SECONDS] [--broker-db N] [--backend-db N] [--without-script] [--json]
+keys FILE --run HEX22 [--adapt] [--prefix TEXT] [--json]
+collect FILE --run HEX22 [--adapt] [--complete] [--json]"
 
 declare -A takes=() given=() named=()
 

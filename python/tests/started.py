@@ -26,7 +26,7 @@ HERE = Path(__file__).resolve().parent
 PYTHON = os.environ.get("PYTHON") or sys.executable
 SECONDS = 60
 #: How long nothing may change before the workers count as at rest.
-QUIET = 0.5
+QUIET = 1.0
 QUEUES = ("users", "bank")
 #: Redis keeps the messages of a priority in a list of its own.
 PRIORITIES = ("", "\x06\x163", "\x06\x166", "\x06\x169")

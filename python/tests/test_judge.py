@@ -86,10 +86,8 @@ class RealWorkers(unittest.TestCase):
             answers = {row["fails"]: OutOfStock} if row["fails"] else {}
             for real, canvas in ((row["started"], flow), (row["cured"], cured(flow))):
                 run = on_celery(canvas, answers, user_tasks.app)
-                # a map is a task of Celery's own, which calls another
-                called = {name: count for name, count in real["called"].items()
-                          if not name.startswith("celery.")}
-                self.assertEqual((Counter(run.called), end_of(run)), (called, real["get"]), row)
+                self.assertEqual((Counter(run.called), end_of(run)),
+                                 (real["called"], real["get"]), row)
                 self.assertEqual(Counter(real["states"]) - stored(run), Counter(), row)
 
 

@@ -8,7 +8,14 @@ use Rattle.canvas_adapt.specs.declared.changes.Changes.{Changes}
 use Rattle.canvas_adapt.specs.declared.adapting.Adapted.{Adapted}
 
 abbrev pub no_changes : Changes
-no_changes = record { arguments = 0; callbacks = 0; groups = 0; maps = 0 }
+no_changes = record {
+  arguments = 0;
+  callbacks = 0;
+  groups = 0;
+  maps = 0;
+  frozen = 0;
+  compounds = 0;
+}
 
 -- these very bytes, with nothing changed
 abbrev pub IsUnchanged : Text → Adapted → Type 0

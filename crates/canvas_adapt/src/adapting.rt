@@ -41,6 +41,8 @@ fn adapt_parsed<'a>(
 ) -> Result<Adapted, SigFault> {
     let mut value = parse(alloc, arena, scratch, bytes)?;
     let mut work = Work::new(alloc, arena);
+    work.thaw(&mut value, MOST_LEVELS)?;
+    work.split_callbacks(&mut value, MOST_LEVELS)?;
     work.adapt_node(&mut value, &Given::none(), MOST_LEVELS)?;
     let text = line_of(alloc, &value)?;
     Ok(Adapted {

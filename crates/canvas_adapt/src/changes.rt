@@ -16,6 +16,10 @@ pub enum Change {
     Group,
     /// A map, a starmap or chunks became a group of calls.
     Map,
+    /// What Celery wrote into a signature when it was started was taken out.
+    Frozen,
+    /// A callback that was a chain or group became its tasks.
+    Compound,
 }
 
 /// How many changes of each kind there are. It is printed as a line for each kind that there is.
@@ -25,6 +29,8 @@ pub struct Changes {
     pub callbacks: usize,
     pub groups: usize,
     pub maps: usize,
+    pub frozen: usize,
+    pub compounds: usize,
 }
 
 impl Changes {
@@ -37,6 +43,8 @@ impl Changes {
             callbacks: 0,
             groups: 0,
             maps: 0,
+            frozen: 0,
+            compounds: 0,
         }
     }
 
@@ -46,6 +54,8 @@ impl Changes {
             Change::Callback => self.callbacks = self.callbacks.saturating_add(count),
             Change::Group => self.groups = self.groups.saturating_add(count),
             Change::Map => self.maps = self.maps.saturating_add(count),
+            Change::Frozen => self.frozen = self.frozen.saturating_add(count),
+            Change::Compound => self.compounds = self.compounds.saturating_add(count),
         }
     }
 }
@@ -63,6 +73,12 @@ fn words_of(change: Change, count: usize) -> &'static str {
         Change::Group => "groups in groups, whose members stand in the outer ones now",
         Change::Map if count == 1 => "map, which is a group of calls now",
         Change::Map => "maps, which are groups of calls now",
+        Change::Frozen if count == 1 => "frozen signature, which has no identifiers now",
+        Change::Frozen => "frozen signatures, which have no identifiers now",
+        Change::Compound if count == 1 => {
+            "chain or group as a callback, whose tasks are callbacks now"
+        }
+        Change::Compound => "chains and groups as callbacks, whose tasks are callbacks now",
     }
 }
 
@@ -93,12 +109,16 @@ impl fmt::Display for Changes {
             callbacks,
             groups,
             maps,
+            frozen,
+            compounds,
         } = *self;
         for (change, count) in [
             (Change::Argument, arguments),
             (Change::Callback, callbacks),
             (Change::Group, groups),
             (Change::Map, maps),
+            (Change::Frozen, frozen),
+            (Change::Compound, compounds),
         ] {
             let line = Line { change, count };
             write!(f, "{line}")?;

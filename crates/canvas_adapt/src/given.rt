@@ -146,7 +146,7 @@ fn are_same_members(one: &[(&str, Datum<'_>)], other: &[(&str, Datum<'_>)], left
 }
 
 /// How many steps comparing a value takes with one that takes at most so many.
-fn weight_of(value: &Datum<'_>, most: usize) -> usize {
+pub(crate) fn weight_of(value: &Datum<'_>, most: usize) -> usize {
     match room_behind(value, most, MOST_WRITTEN) {
         Some(room) => most.saturating_sub(room),
         None => most,
@@ -171,7 +171,7 @@ impl<'a> Work<'a> {
     }
 
     /// Adds a value, where none that was added is like it.
-    fn add_new(
+    pub(crate) fn add_new(
         &mut self,
         made: &mut Made<'a, Datum<'a>>,
         value: &Datum<'a>,

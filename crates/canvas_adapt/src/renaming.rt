@@ -5,12 +5,12 @@ ghost use Rattle.canvas_semantics.specs.Tree.{Tree};
 ghost use Rattle.canvas_values.specs.CanvasText.{text_reading};
 
 use crate::adapting::{check_reads, line_of};
-use crate::given::values_in;
-use crate::member::{set_inner, set_member};
+use crate::member::set_member;
+use crate::part::{Part, callback_parts, inner_parts, set_values, values_at};
 use crate::renames::{Rename, name_of};
 use bumpalo::Bump;
 use canvas_sig::SigFault;
-use canvas_sig::parts::{Datum, MOST_LEVELS, is_list, kwarg_of, option_of, parse, primitive_of};
+use canvas_sig::parts::{Datum, MOST_LEVELS, parse, primitive_of};
 use canvas_values::Primitive;
 use json::Scratch;
 use std::alloc::Global;
@@ -30,66 +30,6 @@ struct Walk<'a> {
     renames: &'a [Rename],
     /// The number of the latest task.
     task: u32,
-}
-
-/// Where signatures stand in one.
-#[derive(Clone, Copy)]
-enum Part {
-    /// Callbacks of a task, under this name in its options.
-    Callbacks(&'static str),
-    /// What a chain, group or chord has under this name in its keyword arguments.
-    Inner(&'static str),
-}
-
-static OF_TASK: [Part; 2] = [Part::Callbacks("link"), Part::Callbacks("link_error")];
-
-static OF_LIST: [Part; 1] = [Part::Inner("tasks")];
-
-static OF_CHORD: [Part; 2] = [Part::Inner("header"), Part::Inner("body")];
-
-/// Where signatures stand in one, in the order of their tasks' numbers.
-fn parts_of(primitive: Option<Primitive>) -> &'static [Part] {
-    match primitive {
-        Some(Primitive::Task) => &OF_TASK,
-        Some(Primitive::Chain | Primitive::Group) => &OF_LIST,
-        Some(Primitive::Chord) => &OF_CHORD,
-        None => &[],
-    }
-}
-
-/// The signatures that stand there: a list of them, one, or none.
-fn values_at<'a>(value: &Datum<'a>, part: Part) -> &'a [Datum<'a>] {
-    match part {
-        Part::Callbacks(name) => values_in(option_of(value, name)),
-        Part::Inner(name) => values_in(kwarg_of(value, name)),
-    }
-}
-
-/// A list of signatures, or the one that stands where no list stood.
-fn list_or_one<'a>(written: Option<&Datum<'a>>, values: &'a [Datum<'a>]) -> Datum<'a> {
-    match values {
-        [one] if !is_list(written) => *one,
-        _ => Datum::List(values),
-    }
-}
-
-/// Puts these signatures there. Callbacks stand in a list.
-fn set_values<'a>(
-    arena: &'a Bump,
-    value: &mut Datum<'a>,
-    part: Part,
-    values: &'a [Datum<'a>],
-) -> Result<(), SigFault> {
-    if values.is_empty() {
-        return Ok(());
-    }
-    match part {
-        Part::Callbacks(name) => set_inner(arena, value, "options", name, &Datum::List(values)),
-        Part::Inner(name) => {
-            let inner = list_or_one(kwarg_of(value, name), values);
-            set_inner(arena, value, "kwargs", name, &inner)
-        }
-    }
 }
 
 impl<'a> Walk<'a> {
@@ -113,6 +53,9 @@ impl<'a> Walk<'a> {
         for inner in renamed.iter_mut() {
             self.rename_node(inner, left)?;
         }
+        if renamed.is_empty() {
+            return Ok(());
+        }
         set_values(self.arena, value, part, renamed)
     }
 
@@ -126,7 +69,10 @@ impl<'a> Walk<'a> {
         if matches!(primitive, Some(Primitive::Task)) {
             self.name_task(value)?;
         }
-        for part in parts_of(primitive) {
+        for part in callback_parts() {
+            self.rename_part(value, *part, left - 1)?;
+        }
+        for part in inner_parts(primitive) {
             self.rename_part(value, *part, left - 1)?;
         }
         Ok(())

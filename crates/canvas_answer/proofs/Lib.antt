@@ -1,1 +1,2 @@
 pub mod ToldJson
+pub mod NamesLeft

@@ -1,4 +1,5 @@
 pub mod Answers
+pub mod Names
 pub mod Plans
 pub mod Told
 pub mod Normal

@@ -17,8 +17,8 @@ pub enum Remark {
     Repeats(u64),
     /// What was changed of a canvas.
     Changes(Changes),
-    /// Lines on what of a canvas is ignored.
-    Ignored(String),
+    /// Lines on what of a canvas Celery's workers get otherwise.
+    Export(String),
 }
 
 impl Display for Remark {
@@ -27,7 +27,7 @@ impl Display for Remark {
             Remark::Repeats(1) => f.write_str("canvas: 1 store answered Again\n"),
             Remark::Repeats(count) => writeln!(f, "canvas: {count} stores answered Again"),
             Remark::Changes(changes) => changes.fmt(f),
-            Remark::Ignored(lines) => f.write_str(lines),
+            Remark::Export(lines) => f.write_str(lines),
         }
     }
 }

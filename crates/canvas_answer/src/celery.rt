@@ -10,7 +10,7 @@ ghost use Rattle.canvas_answer.specs.Plans.{IsTextPlan};
 mod refusal;
 
 use crate::answer::Answer;
-use crate::ignored::ignored_remark;
+use crate::ignored::export_remark;
 use crate::input::results_of;
 use crate::plan::{lasting, plan_of};
 use crate::refusal::Refusal;
@@ -46,12 +46,14 @@ pub struct Collecting {
     pub manner: Manner,
 }
 
-/// What is asked for of a canvas's run, whose results the input gives.
+/// What is asked for of a canvas's run, whose results the input gives. So many arguments of the
+/// canvas are texts since it was adapted.
 pub fn answer_celery<S, R: Read>(
     rt: &S,
     run: &Run,
     asked: OnCelery<'_>,
     text: &[u8],
+    texts: usize,
     input: &mut R,
 ) -> Result<Answer, Refusal>
 where
@@ -61,24 +63,25 @@ where
 {
     let plan = lasting(plan_of(rt.alloc(), text)?);
     match asked {
-        OnCelery::Export(target) => answer_export(rt.alloc(), &plan, run, &target, text),
+        OnCelery::Export(target) => answer_export(rt.alloc(), &plan, run, &target, text, texts),
         OnCelery::Keys { prefix } => answer_keys(rt.alloc(), &plan, run, prefix),
         OnCelery::Collect(collecting) => answer_collect(rt, &plan, run, collecting, input),
     }
 }
 
-/// The commands for Redis that start a canvas, and what of it they ignore.
+/// The commands for Redis that start a canvas, and what the workers get of it otherwise.
 fn answer_export(
     alloc: Global,
     plan: &Plan,
     run: &Run,
     target: &Target<'_>,
     text: &[u8],
+    texts: usize,
 ) -> Result<Answer, Refusal>
     ensures { IfOk result (AnswersAll (commands_of run.now.digits target.now plan.now) 0) }
 {
     let start = export(alloc, plan, run, target)?;
-    let remark = ignored_remark(alloc, text)?;
+    let remark = export_remark(alloc, text, texts)?;
     Ok(Answer::whole(start).with_remark(remark))
 }
 

@@ -1,4 +1,4 @@
-//! What of a canvas is read and ignored, as standard error tells it.
+//! What of a canvas Celery's workers get otherwise, as standard error tells it.
 
 use crate::answer::Remark;
 use canvas_finding::ignored_options;
@@ -23,9 +23,22 @@ fn push_line(
     Ok(())
 }
 
+/// The line on arguments that were made texts.
+fn push_texts(lines: &mut String, count: usize) -> Result<(), AllocError> {
+    let (arguments, texts) = match count {
+        0 => return Ok(()),
+        1 => ("argument", "a text"),
+        _ => ("arguments", "texts"),
+    };
+    writeln!(
+        lines,
+        "canvas: adapted {count} {arguments}, which the workers get as {texts}"
+    )?;
+    Ok(())
+}
+
 /// A line for each of some sorted names, with how often it is there.
-fn lines_of(alloc: Global, names: &[String]) -> Result<String, AllocError> {
-    let mut lines = String::new(alloc);
+fn push_lines(lines: &mut String, alloc: Global, names: &[String]) -> Result<(), AllocError> {
     let mut count = 0usize;
     for (index, name) in names.iter().enumerate() {
         count = count.saturating_add(1);
@@ -34,19 +47,32 @@ fn lines_of(alloc: Global, names: &[String]) -> Result<String, AllocError> {
             None => false,
         };
         if !goes_on {
-            push_line(&mut lines, alloc, name, count)?;
+            push_line(lines, alloc, name, count)?;
             count = 0;
         }
     }
+    Ok(())
+}
+
+/// The lines on some arguments that were made texts, and on sorted names of options.
+fn lines_of(alloc: Global, texts: usize, names: &[String]) -> Result<String, AllocError> {
+    let mut lines = String::new(alloc);
+    push_texts(&mut lines, texts)?;
+    push_lines(&mut lines, alloc, names)?;
     Ok(lines)
 }
 
-/// What is said of the options that are ignored, where there are any.
-pub(crate) fn ignored_remark(alloc: Global, text: &[u8]) -> Result<Option<Remark>, Memory> {
+/// What is said of an export: how many arguments are texts since the canvas was adapted, and which
+/// options are ignored.
+pub(crate) fn export_remark(
+    alloc: Global,
+    text: &[u8],
+    texts: usize,
+) -> Result<Option<Remark>, Memory> {
     let mut names = ignored_options(alloc, text)?;
-    if names.is_empty() {
+    if names.is_empty() && texts == 0 {
         return Ok(None);
     }
     names.sort()?;
-    Ok(Some(Remark::Ignored(lines_of(alloc, &names)?)))
+    Ok(Some(Remark::Export(lines_of(alloc, texts, &names)?)))
 }

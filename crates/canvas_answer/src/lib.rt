@@ -14,6 +14,7 @@ pub mod graph;
 mod ignored;
 pub mod input;
 mod named_rows;
+mod names;
 pub mod normal;
 pub mod numbers;
 pub mod plan;

@@ -4,10 +4,11 @@ ghost use Rattle.std.specs.Prelude.{◌≡◌, IfOk, None, false};
 ghost use Rattle.canvas_answer.specs.Plans.{IsTextPlan};
 
 use crate::errors::OtherError;
+use crate::names::check_names;
 use crate::plan::plan_of;
 use crate::refusal::Refusal;
 use crate::source::Source;
-use canvas_adapt::{Rename, adapt, rename};
+use canvas_adapt::{Adapted, Changes, Rename, adapt, rename};
 use canvas_rewrite::Plan;
 use canvas_stubs::Stub;
 use std::alloc::Global;
@@ -19,6 +20,8 @@ pub struct Setting<'a> {
     pub adapts: bool,
     /// The stubs that stand before the tasks.
     pub stubs: &'a [Stub],
+    /// Those of names that the words say.
+    pub said: &'a [Stub],
     pub errors: &'a [OtherError],
     pub renames: &'a [Rename],
 }
@@ -26,13 +29,13 @@ pub struct Setting<'a> {
 /// The texts that are made of a canvas's.
 #[derive(Drop)]
 pub struct Prepared {
-    adapted: Option<Vec<u8>>,
+    adapted: Option<Adapted>,
     renamed: Option<Vec<u8>>,
 }
 
-fn adapted(alloc: Global, text: &[u8], setting: Setting<'_>) -> Result<Option<Vec<u8>>, Refusal> {
+fn adapted(alloc: Global, text: &[u8], setting: Setting<'_>) -> Result<Option<Adapted>, Refusal> {
     if setting.adapts {
-        Ok(Some(adapt(alloc, text)?.text))
+        Ok(Some(adapt(alloc, text)?))
     } else {
         Ok(None)
     }
@@ -57,6 +60,13 @@ fn renamed(alloc: Global, text: &[u8], setting: Setting<'_>) -> Result<Option<Ve
     Ok(Some(renamed.text))
 }
 
+fn adapted_or<'a>(adapted: &'a Option<Adapted>, text: &'a [u8]) -> &'a [u8] {
+    match adapted {
+        Some(adapted) => &adapted.text,
+        None => text,
+    }
+}
+
 fn text_or<'a>(made: &'a Option<Vec<u8>>, text: &'a [u8]) -> &'a [u8] {
     match made {
         Some(made) => made,
@@ -64,12 +74,29 @@ fn text_or<'a>(made: &'a Option<Vec<u8>>, text: &'a [u8]) -> &'a [u8] {
     }
 }
 
+fn changes_of(adapted: &Option<Adapted>) -> Changes {
+    match adapted {
+        Some(adapted) => adapted.changes,
+        None => Changes::none(),
+    }
+}
+
 impl Prepared {
     /// The texts that a setting asks for of a canvas's.
     pub fn of(alloc: Global, text: &[u8], setting: Setting<'_>) -> Result<Prepared, Refusal> {
         let adapted = adapted(alloc, text, setting)?;
-        let renamed = renamed(alloc, text_or(&adapted, text), setting)?;
+        let renamed = renamed(alloc, adapted_or(&adapted, text), setting)?;
         Ok(Prepared { adapted, renamed })
+    }
+
+    /// Refuses a name that the words say, where no task of the canvas has it.
+    pub fn check_names(
+        &self,
+        alloc: Global,
+        text: &[u8],
+        setting: Setting<'_>,
+    ) -> Result<(), Refusal> {
+        check_names(alloc, adapted_or(&self.adapted, text), setting.said)
     }
 
     /// What a run of the canvas is of, whose text is this.
@@ -79,11 +106,12 @@ impl Prepared {
         tasks: &'a T,
         setting: Setting<'a>,
     ) -> Source<'a, T> {
-        let shown = text_or(&self.adapted, text);
+        let shown = adapted_or(&self.adapted, text);
         Source {
             text: text_or(&self.renamed, shown),
             shown,
             is_renamed: self.renamed.is_some(),
+            changes: changes_of(&self.adapted),
             tasks,
             stubs: setting.stubs,
             errors: setting.errors,

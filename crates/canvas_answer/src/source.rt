@@ -14,6 +14,7 @@ use crate::plan::canvas_of;
 use crate::prepared::Plans;
 use crate::refusal::Refusal;
 use crate::stubs::stub_named;
+use canvas_adapt::Changes;
 use canvas_ran::fates;
 use canvas_report::{Fate, Report, Row, Told, rows_text, state_in, stored_rows_text};
 use canvas_sig::Canvas;
@@ -31,6 +32,8 @@ pub struct Source<'a, T> {
     /// The same where no task has another name for the run.
     pub shown: &'a [u8],
     pub is_renamed: bool,
+    /// What was changed of the canvas before, where it was adapted.
+    pub changes: Changes,
     pub tasks: &'a T,
     pub stubs: &'a [Stub],
     /// What stubs raise in place of NotRegistered.

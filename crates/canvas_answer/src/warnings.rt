@@ -5,7 +5,7 @@ use canvas_finding::{Signature, pointer_text, signatures_of};
 use canvas_report::{escaped_json, quoted_json};
 use canvas_sig::Canvas;
 use canvas_task::{Memory, Tasks};
-use canvas_warning::{Expected, Input, Wrong};
+use canvas_warning::{Expected, Forecast, Input, Wrong};
 use std::alloc::{AllocError, Global};
 use std::collections::BTreeMap;
 
@@ -13,10 +13,17 @@ use std::collections::BTreeMap;
 #[derive(Clone, Copy)]
 enum Concern {
     NotRegistered,
+    /// A name that no task has, where no answers were given.
+    Unanswered,
     TypeError(Input),
     LeftPending,
     NestedChord,
     Unrolled,
+    NoIdentifier,
+    PendingBody,
+    LostAlarms,
+    Missed,
+    Unstarted,
     Ignored,
 }
 
@@ -24,11 +31,16 @@ impl Concern {
     /// The name of the exception, or that of the row in docs/CELERY.md.
     fn name(self) -> &'static str {
         match self {
-            Concern::NotRegistered => "NotRegistered",
+            Concern::NotRegistered | Concern::Unanswered => "NotRegistered",
             Concern::TypeError(_) => "TypeError",
             Concern::LeftPending => "failure-before-group",
             Concern::NestedChord => "failed-nested-chord",
             Concern::Unrolled => "group-of-one",
+            Concern::NoIdentifier => "body-without-id",
+            Concern::PendingBody => "pending-body",
+            Concern::LostAlarms => "lost-alarm",
+            Concern::Missed => "unregistered-alarm",
+            Concern::Unstarted => "chord-keywords",
             Concern::Ignored => "ignored-options",
         }
     }
@@ -36,6 +48,7 @@ impl Concern {
     fn note(self) -> &'static str {
         match self {
             Concern::NotRegistered => "no task has this name",
+            Concern::Unanswered => "no task has this name; give answers by --task",
             Concern::TypeError(Input::Nothing) => "its call is a TypeError",
             Concern::TypeError(Input::Number) => {
                 "its call is a TypeError behind the number that comes in"
@@ -51,6 +64,18 @@ impl Concern {
                 "Celery leaves the outer chord's body pending where a member of it fails"
             }
             Concern::Unrolled => "Celery puts its one member in its place",
+            Concern::NoIdentifier => {
+                "Celery leaves it pending where a member of the header fails, and may call error \
+                 callbacks of another task"
+            }
+            Concern::PendingBody => "Celery leaves it pending where a member of the header fails",
+            Concern::LostAlarms => {
+                "Celery doesn't call its error callbacks where a member of the header fails"
+            }
+            Concern::Missed => {
+                "Celery calls none of its error callbacks, and leaves what waits for it pending"
+            }
+            Concern::Unstarted => "Celery doesn't start a chord with other keyword arguments",
             Concern::Ignored => "is ignored",
         }
     }
@@ -83,6 +108,8 @@ struct Warning {
 #[derive(Drop)]
 pub struct Warnings {
     alloc: Global,
+    /// Whether answers were given of some names.
+    has_answers: bool,
     found: Vec<Warning>,
     /// Which warning is that of a name, or of an option.
     counted: BTreeMap<String, usize>,
@@ -138,13 +165,32 @@ impl Warnings {
         self.push(signature, concern, note)
     }
 
-    /// A name that no task answers to, once for all that have it.
-    fn push_unknown(&mut self, signature: &Signature) -> Result<(), AllocError> {
-        let task = signature.name.as_deref().unwrap_or("");
-        let key = format!(in self.alloc; "task {task}")?;
-        let concern = Concern::NotRegistered;
+    /// What concerns a name, once for all that have it.
+    fn push_of_name(&mut self, signature: &Signature, concern: Concern) -> Result<(), AllocError> {
+        let (name, task) = (concern.name(), signature.name.as_deref().unwrap_or(""));
+        let key = format!(in self.alloc; "{name} {task}")?;
         let note = String::from_str(self.alloc, concern.note())?;
         self.push_once(signature, key, concern, note)
+    }
+
+    /// A name that no task answers to. If no answers were given, all such names have one warning:
+    /// the program can't know the user's tasks.
+    fn push_unknown(
+        &mut self,
+        signature: &Signature,
+        forecast: Forecast,
+    ) -> Result<(), AllocError> {
+        if !self.has_answers {
+            let concern = Concern::Unanswered;
+            let key = String::from_str(self.alloc, concern.name())?;
+            let note = String::from_str(self.alloc, concern.note())?;
+            return self.push_once(signature, key, concern, note);
+        }
+        self.push_of_name(signature, Concern::NotRegistered)?;
+        if forecast.is_missed {
+            self.push_of_name(signature, Concern::Missed)?;
+        }
+        Ok(())
     }
 
     /// A call that is a TypeError, and by which parameter.
@@ -172,7 +218,7 @@ impl Warnings {
     ) -> Result<(), AllocError> {
         match foreseen.forecast.expected {
             Expected::Answer => Ok(()),
-            Expected::Unknown => self.push_unknown(signature),
+            Expected::Unknown => self.push_unknown(signature, foreseen.forecast),
             Expected::TypeError(input) => {
                 self.push_type_error(signature, input, foreseen.blame())
             }
@@ -186,14 +232,17 @@ impl Warnings {
     ) -> Result<(), AllocError> {
         let forecast = foreseen.forecast;
         self.push_expected(signature, foreseen)?;
-        if forecast.is_left_pending {
-            self.push_concern(signature, Concern::LeftPending)?;
-        }
-        if forecast.is_nested_chord {
-            self.push_concern(signature, Concern::NestedChord)?;
-        }
-        if forecast.is_unrolled {
-            self.push_concern(signature, Concern::Unrolled)?;
+        for &(holds, concern) in &[
+            (forecast.is_left_pending, Concern::LeftPending),
+            (forecast.is_nested_chord, Concern::NestedChord),
+            (forecast.is_unrolled, Concern::Unrolled),
+            (forecast.has_no_identifier, Concern::NoIdentifier),
+            (forecast.is_pending_body, Concern::PendingBody),
+            (forecast.loses_alarms, Concern::LostAlarms),
+        ] {
+            if holds {
+                self.push_concern(signature, concern)?;
+            }
         }
         Ok(())
     }
@@ -222,6 +271,9 @@ impl Warnings {
                 && let Some(foreseen) = left.next()
             {
                 self.push_foreseen(signature, foreseen)?;
+            }
+            if signature.is_unstarted {
+                self.push_concern(signature, Concern::Unstarted)?;
             }
             self.push_ignored(signature)?;
         }
@@ -295,6 +347,7 @@ pub fn warnings_of<T: Tasks>(
     let signatures = signatures_of(alloc, source.text)?;
     let mut warnings = Warnings {
         alloc,
+        has_answers: !source.stubs.is_empty(),
         found: Vec::new(alloc),
         counted: BTreeMap::new(alloc),
     };

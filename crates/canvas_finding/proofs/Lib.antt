@@ -11,4 +11,5 @@ pub mod Measures
 pub mod Nested
 pub mod Placed
 pub mod Named
+pub mod OtherNames
 pub mod Searched

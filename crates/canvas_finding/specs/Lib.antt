@@ -7,5 +7,6 @@ pub mod Wanted
 pub mod Finding
 pub mod Placed
 pub mod Ignored
+pub mod Keywords
 pub mod Naming
 pub mod Signed

@@ -1,19 +1,20 @@
 -- The signatures of a text, as they are listed for those who read it.
-use Rattle.std.specs.Prelude.{◌≡◌, List, map, Some, string_bytes}
+use Rattle.std.specs.Prelude.{◌≡◌, Bool, List, map, Some, string_bytes}
 use Rattle.serde_json.specs.Data.{Data}
 use Rattle.canvas_task.specs.Text.{Text}
 use Rattle.canvas_values.specs.CanvasText.{json_of}
 use Rattle.canvas_finding.specs.FileOrder.{Sighted, signatures}
 use Rattle.canvas_finding.specs.Ignored.{ignored_in}
+use Rattle.canvas_finding.specs.Keywords.{is_unstarted}
 use Rattle.canvas_finding.specs.declared.step.Step.{Step}
 use Rattle.canvas_finding.specs.declared.signature.Signature.{Signature}
 
--- what leads to one, and the names of its options that are ignored
-abbrev pub listed : Signature → List Step × List Text
-listed s = (s.steps.items, map string_bytes s.ignored.items)
+-- what leads to one, whether Celery doesn't start it, and the names of its options that are ignored
+abbrev pub listed : Signature → List Step × (Bool × List Text)
+listed s = (s.steps.items, (s.is_unstarted, map string_bytes s.ignored.items))
 
-abbrev pub sighted : Sighted → List Step × List Text
-sighted s = (s.steps, ignored_in s.signature)
+abbrev pub sighted : Sighted → List Step × (Bool × List Text)
+sighted s = (s.steps, (is_unstarted s.signature, ignored_in s.signature))
 
 -- those of the JSON value of a text, in file order
 abbrev pub AreSignatures : Text → List Signature → Type 0

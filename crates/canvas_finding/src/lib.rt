@@ -10,6 +10,7 @@ ghost use Rattle.canvas_finding.specs.Refused.{refusal_of, first_refused};
 mod arguments;
 mod finding;
 mod ignored;
+mod keywords;
 mod limits;
 mod listing;
 mod notes;

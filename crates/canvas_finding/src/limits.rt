@@ -14,7 +14,7 @@ use canvas_semantics::MOST_NESTING;
 use canvas_sig::parts::{Datum, MOST_LEVELS, kwarg_of, listed, own_fault, primitive_of};
 use canvas_values::Primitive;
 
-fn kind_of(value: &Datum<'_>) -> Option<Primitive>
+pub(crate) fn kind_of(value: &Datum<'_>) -> Option<Primitive>
     ensures { result ≡ kind_of (view value.now) }
 {
     primitive_of(value.get("subtask_type"))

@@ -9,6 +9,7 @@ ghost use Rattle.canvas_finding.specs.Signed.{listed, sighted, AreSignatures};
 
 use crate::finding::name_in;
 use crate::ignored::ignored_in;
+use crate::keywords::is_unstarted;
 use crate::limits::leads_to_header_group;
 use crate::listing::{Place, places_of};
 use crate::step::Step;
@@ -28,6 +29,9 @@ pub struct Signature {
     pub name: Option<String>,
     /// Whether it is the group that a header is written as, of which a canvas has only the members.
     pub is_header_group: bool,
+    /// Whether it is a chord that Celery doesn't start: it has keyword arguments besides its header
+    /// and body, but not the `kwargs` that Celery writes there.
+    pub is_unstarted: bool,
     /// The names of its options that are read and ignored.
     pub ignored: Vec<String>,
 }
@@ -38,10 +42,12 @@ fn signature_at(alloc: Global, place: Place<'_>) -> Result<Signature, AllocError
     let name = name_in(alloc, place.value)?;
     let ignored = ignored_in(alloc, place.value)?;
     let is_header_group = leads_to_header_group(&place.steps);
+    let is_unstarted = is_unstarted(place.value);
     Ok(Signature {
         steps: place.steps,
         name,
         is_header_group,
+        is_unstarted,
         ignored,
     })
 }

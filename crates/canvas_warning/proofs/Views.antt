@@ -8,21 +8,28 @@ use Rattle.canvas_values.specs.declared.task_sig.TaskSig.{TaskSig, out-TaskSig}
 use Rattle.canvas_values.specs.declared.node.Node.{Node}
 use Rattle.canvas_values.proofs.Views.{task_seen}
 use Rattle.canvas_warning.specs.Calls.{expected}
-use Rattle.canvas_warning.specs.Standing.{before, behind}
-use Rattle.canvas_warning.specs.Foreseen.{of_call, task_told, tasks_told, told, elements_told, out_of, out_of_each, trees_count}
+use Rattle.canvas_warning.specs.Standing.{before, behind, of_callback}
+use Rattle.canvas_warning.specs.Foreseen.{of_task, task_told, tasks_told, told, elements_told, out_of, out_of_each, trees_count, tasks_count}
 use Rattle.canvas_warning.specs.declared.forecast.Forecast.{Forecast}
 use Rattle.canvas_warning.specs.declared.stand.Stand.{Stand}
 use Rattle.canvas_warning.specs.declared.stand.Input.{Input}
 use Rattle.canvas_warning.specs.declared.stand.Input.TheVariants.{Number, Identifier}
 
-pub task_is : (b : Behaviour) (s : TaskSig) (i : Input)
-    → task_told b (task_view s) i
-    ≡ of_call (expected b (its_call (task_view s)) i) ∷ tasks_told b (tasks_of (map task_view (out-TaskSig s).links)) Number
-    ++ tasks_told b (tasks_of (map task_view (out-TaskSig s).errbacks)) Identifier
-task_is b s i =
-    ap (λ t. task_told b t i) (task_seen s)
-    ∙ ap (λ c. of_call (expected b c i) ∷ tasks_told b (tasks_of (map task_view (out-TaskSig s).links)) Number
-    ++ tasks_told b (tasks_of (map task_view (out-TaskSig s).errbacks)) Identifier) (sym (ap its_call (task_seen s)))
+pub task_is : (b : Behaviour) (t : TaskSig) (s : Stand)
+    → task_told b (task_view t) s
+    ≡ of_task (expected b (its_call (task_view t)) s.input) (tasks_count (tasks_of (map task_view (out-TaskSig t).errbacks))) s
+    ∷ tasks_told b (tasks_of (map task_view (out-TaskSig t).links)) (of_callback Number)
+    ++ tasks_told b (tasks_of (map task_view (out-TaskSig t).errbacks)) (of_callback Identifier)
+task_is b t s =
+    let links = tasks_of (map task_view (out-TaskSig t).links) in
+    let errbacks = tasks_of (map task_view (out-TaskSig t).errbacks) in
+    ap (λ v. task_told b v s) (task_seen t)
+    ∙ ap (λ c. of_task (expected b c s.input) (tasks_count errbacks) s
+    ∷ tasks_told b links (of_callback Number) ++ tasks_told b errbacks (of_callback Identifier)) (sym (ap its_call (task_seen t)))
+
+pub tasks_counted : (ts : List TaskSig) → tasks_count (tasks_of (map task_view ts)) ≡ length ts
+tasks_counted [] = refl
+tasks_counted (t ∷ ts) = ap suc (tasks_counted ts)
 
 pub counted : (ns : List Node) → trees_count (trees_of (map view ns)) ≡ length ns
 counted [] = refl

@@ -1,12 +1,13 @@
 -- What is foreseen of each signature of a canvas, in file order: what its call is expected to
--- become, and where Celery 5 does otherwise (Celery user guide, Canvas: groups and chords).
-use Rattle.std.specs.Prelude.{ℕ, zero, suc, true, false, not, ◌&&◌, ◌==◌, nat_lt, List, [], ◌∷◌, ◌++◌}
+-- become, and where Celery 5 does otherwise (Celery user guide, Canvas: groups, chords, error
+-- handling; docs/CELERY.md has what its workers did).
+use Rattle.std.specs.Prelude.{ℕ, zero, suc, Bool, true, false, not, ◌&&◌, ◌||◌, ◌==◌, nat_lt, List, [], ◌∷◌, ◌++◌}
 use Rattle.canvas_task.specs.Apply.{Behaviour}
 use Rattle.canvas_semantics.specs.Tree.{Task, task, Tasks, no_tasks, and_task, Tree, one, chain, group, chord, Trees, no_trees, and_tree}
 use Rattle.canvas_warning.specs.Calls.{expected}
-use Rattle.canvas_warning.specs.Standing.{start, before, behind, of_member, of_body}
+use Rattle.canvas_warning.specs.Standing.{start, before, of_elements, behind, of_member, of_body, of_callback}
 use Rattle.canvas_warning.specs.declared.forecast.Expected.{Expected}
-use Rattle.canvas_warning.specs.declared.forecast.Expected.TheVariants.{Answer}
+use Rattle.canvas_warning.specs.declared.forecast.Expected.TheVariants.{Answer, Unknown}
 use Rattle.canvas_warning.specs.declared.forecast.Forecast.{Forecast}
 use Rattle.canvas_warning.specs.declared.stand.Input.{Input}
 use Rattle.canvas_warning.specs.declared.stand.Input.TheVariants.{Number, Numbers, Identifier}
@@ -27,32 +28,57 @@ abbrev mutual
 
 -- ---- one signature
 
--- a task, or a chain
+-- a call of which nothing else is foreseen
 abbrev pub of_call : Expected → Forecast
 of_call e =
-    record { expected = e; is_left_pending = false; is_nested_chord = false; is_unrolled = false }
+    record {
+      expected = e;
+      is_left_pending = false;
+      is_nested_chord = false;
+      is_unrolled = false;
+      has_no_identifier = false;
+      is_pending_body = false;
+      loses_alarms = false;
+      is_missed = false;
+    }
+
+abbrev pub is_unknown_call : Expected → Bool
+is_unknown_call Unknown = true
+is_unknown_call e = false
+
+-- A task with n error callbacks. A body that something follows is the first of several tasks.
+abbrev pub of_task : Expected → ℕ → Stand → Forecast
+of_task e n s =
+    record (of_call e) {
+      has_no_identifier = s.is_body && s.is_followed;
+      loses_alarms = s.begins_body && nat_lt 0 n;
+      is_missed = is_unknown_call e && (nat_lt 0 n || s.is_followed || s.is_in_header);
+    }
+
+-- as a body, a chain is never stored: nothing gives it an identifier
+abbrev pub of_chain : Stand → Forecast
+of_chain s = record (of_call Answer) { has_no_identifier = s.is_body }
 
 -- A group of n members. Celery puts the only member of one in the middle of a chain in its place. A
 -- group that something follows is a chord.
 abbrev pub of_group : ℕ → Stand → Forecast
 of_group n s =
-    record {
-      expected = Answer;
+    record (of_call Answer) {
       is_left_pending = s.is_behind_task && nat_lt 1 n;
       is_nested_chord =
           s.is_in_header && s.is_followed && nat_lt 0 n
           && not (s.is_behind_task && s.is_followed && (n == 1));
       is_unrolled = s.is_behind_task && s.is_followed && (n == 1);
+      is_pending_body = s.is_body && nat_lt 0 n;
     }
 
 -- a chord with n members in its header
 abbrev pub of_chord : ℕ → Stand → Forecast
 of_chord n s =
-    record {
-      expected = Answer;
-      is_left_pending = s.is_behind_task && nat_lt 0 n;
+    record (of_call Answer) {
+      is_left_pending = s.is_behind_task;
       is_nested_chord = s.is_in_header && nat_lt 0 n;
-      is_unrolled = false;
+      is_pending_body = s.is_body && nat_lt 0 n;
     }
 
 -- ---- all of them
@@ -61,26 +87,31 @@ abbrev pub trees_count : Trees → ℕ
 trees_count no_trees = zero
 trees_count (and_tree t ts) = suc (trees_count ts)
 
+abbrev pub tasks_count : Tasks → ℕ
+tasks_count no_tasks = zero
+tasks_count (and_task t ts) = suc (tasks_count ts)
+
 module _ (behaviour : Behaviour) where
   -- a task, its links, which take its result, and its error callbacks, which take its identifier
   abbrev mutual
-    pub task_told : Task → Input → List Forecast
-    task_told (task k call links errbacks) i =
-        of_call (expected behaviour call i) ∷ tasks_told links Number
-        ++ tasks_told errbacks Identifier
+    pub task_told : Task → Stand → List Forecast
+    task_told (task k call links errbacks) s =
+        of_task (expected behaviour call s.input) (tasks_count errbacks) s
+        ∷ tasks_told links (of_callback Number) ++ tasks_told errbacks (of_callback Identifier)
 
-    pub tasks_told : Tasks → Input → List Forecast
-    tasks_told no_tasks i = []
-    tasks_told (and_task t ts) i = task_told t i ++ tasks_told ts i
+    pub tasks_told : Tasks → Stand → List Forecast
+    tasks_told no_tasks s = []
+    tasks_told (and_task t ts) s = task_told t s ++ tasks_told ts s
 
   abbrev mutual
     pub told : Tree → Stand → List Forecast
-    told (one t) s = task_told t s.input
-    told (chain ts) s = of_call Answer ∷ elements_told ts s
+    told (one t) s = task_told t s
+    told (chain ts) s = of_chain s ∷ elements_told ts (of_elements s)
     told (group g ms) s =
         of_group (trees_count ms) s ∷ members_told ms (of_member s.is_followed s)
     told (chord g h b) s =
-        of_chord (trees_count h) s ∷ members_told h (of_member true s) ++ told b (of_body s)
+        of_chord (trees_count h) s
+        ∷ members_told h (of_member true s) ++ told b (of_body (trees_count h) s)
 
     pub elements_told : Trees → Stand → List Forecast
     elements_told no_trees s = []

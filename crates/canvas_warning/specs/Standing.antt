@@ -1,6 +1,7 @@
--- Where a signature stands: what comes into it, and what stands beside it in its line (Celery user
--- guide, Canvas: chains, groups, chords).
-use Rattle.std.specs.Prelude.{ℕ, Bool, true, false, ◌||◌, nat_lt}
+-- Where a signature stands: what comes into it, what stands beside it in its line, and whether a
+-- failed header's exception is raised in it (Celery user guide, Canvas: chains, groups, chords,
+-- error handling).
+use Rattle.std.specs.Prelude.{ℕ, Bool, true, false, ◌||◌, ◌&&◌, ◌==◌, nat_lt}
 use Rattle.canvas_warning.specs.declared.stand.Input.{Input}
 use Rattle.canvas_warning.specs.declared.stand.Input.TheVariants.{Nothing, Number, Numbers}
 use Rattle.canvas_warning.specs.declared.stand.Stand.{Stand}
@@ -8,6 +9,10 @@ use Rattle.canvas_warning.specs.declared.stand.Stand.{Stand}
 abbrev pub is_number : Input → Bool
 is_number Number = true
 is_number i = false
+
+abbrev pub is_numbers : Input → Bool
+is_numbers Numbers = true
+is_numbers i = false
 
 -- a whole canvas: it starts with no input
 abbrev pub start : Stand
@@ -17,15 +22,31 @@ start =
       is_behind_task = false;
       is_followed = false;
       is_in_header = false;
+      is_body = false;
+      begins_body = false;
     }
+
+-- the exception of a failed header is raised in it
+abbrev pub takes_failure : Stand → Bool
+takes_failure s = s.is_body || s.begins_body
 
 -- an element with so many behind it
 abbrev pub before : ℕ → Stand → Stand
 before n s = record s { is_followed = s.is_followed || nat_lt 0 n }
 
--- the next element, behind one of which this came out
+-- the elements of a chain, of which the first begins it
+abbrev pub of_elements : Stand → Stand
+of_elements s = record s { is_body = false; begins_body = takes_failure s }
+
+-- the next element, behind one of which this came out: behind a group it is a chord's body
 abbrev pub behind : Input → Stand → Stand
-behind i s = record s { input = i; is_behind_task = is_number i }
+behind i s =
+    record s {
+      input = i;
+      is_behind_task = is_number i;
+      is_body = is_numbers i;
+      begins_body = false;
+    }
 
 -- a member of a group, or of a header
 abbrev pub of_member : Bool → Stand → Stand
@@ -35,8 +56,20 @@ of_member is_header s =
       is_behind_task = false;
       is_followed = false;
       is_in_header = s.is_in_header || is_header;
+      is_body = false;
+      begins_body = takes_failure s;
     }
 
--- the body of a chord
-abbrev pub of_body : Stand → Stand
-of_body s = record s { input = Numbers; is_behind_task = false }
+-- the body of a chord with n members in its header. With none, the body takes what the chord takes.
+abbrev pub of_body : ℕ → Stand → Stand
+of_body n s =
+    record s {
+      input = Numbers;
+      is_behind_task = false;
+      is_body = s.is_body || nat_lt 0 n;
+      begins_body = (n == 0) && takes_failure s;
+    }
+
+-- a link or an error callback
+abbrev pub of_callback : Input → Stand
+of_callback i = record start { input = i }

@@ -1,5 +1,8 @@
 //! What is foreseen of a signature.
 
+ghost use Rattle.std.specs.Prelude.{◌≡◌};
+ghost use Rattle.canvas_warning.specs.Foreseen.{of_call};
+
 use crate::Input;
 
 /// What a call of a task is expected to become.
@@ -13,7 +16,7 @@ pub enum Expected {
     TypeError(Input),
 }
 
-/// What is foreseen of a signature of a canvas.
+/// What is foreseen of a signature of a canvas, and where Celery does otherwise with it.
 #[derive(Clone, Copy, Debug, PartialEq, Eq)]
 pub struct Forecast {
     pub expected: Expected,
@@ -23,4 +26,33 @@ pub struct Forecast {
     pub is_nested_chord: bool,
     /// A group whose one member Celery puts in its place.
     pub is_unrolled: bool,
+    /// A chord's body of several tasks in a row, which has no identifier: if the header fails,
+    /// Celery leaves it pending, and may call the error callbacks of a member that succeeded.
+    pub has_no_identifier: bool,
+    /// A chord's body that is a group or chord, which Celery leaves pending if the header fails.
+    pub is_pending_body: bool,
+    /// One of the first tasks of a body of several: if the header fails, Celery doesn't call its
+    /// error callbacks.
+    pub loses_alarms: bool,
+    /// A name that no task answers to, with error callbacks, which Celery doesn't call, or with
+    /// something that waits for it, which Celery leaves pending.
+    pub is_missed: bool,
+}
+
+impl Forecast {
+    /// A call of which nothing else is foreseen.
+    pub(crate) fn of_call(expected: Expected) -> Forecast
+        ensures { result ≡ of_call expected }
+    {
+        Forecast {
+            expected,
+            is_left_pending: false,
+            is_nested_chord: false,
+            is_unrolled: false,
+            has_no_identifier: false,
+            is_pending_body: false,
+            loses_alarms: false,
+            is_missed: false,
+        }
+    }
 }

@@ -3,9 +3,9 @@
 ghost use Rattle.std.specs.Prelude.{◌≡◌, IfOk};
 ghost use Rattle.canvas_warning.specs.Foreseen.{forecasts};
 
+use crate::Forecast;
 use crate::stand::Stand;
 use crate::walk::push_node;
-use crate::{Forecast, Input};
 use canvas_task::{Memory, Tasks};
 use canvas_values::Canvas;
 use std::alloc::Global;
@@ -25,12 +25,6 @@ pub fn forecasts<T: Tasks>(
         (λ found. found.items ≡ forecasts (T.behaviour tasks.now) canvas.now) }
 {
     let mut found = Vec::new(alloc);
-    let start = Stand {
-        input: Input::Nothing,
-        is_behind_task: false,
-        is_followed: false,
-        is_in_header: false,
-    };
-    let _out = push_node(alloc, tasks, canvas.node(), start, &mut found)?;
+    let _out = push_node(alloc, tasks, canvas.node(), Stand::start(), &mut found)?;
     Ok(found)
 }

@@ -2,25 +2,21 @@
 
 ghost use Rattle.std.specs.Prelude.{◌≡◌, ◌++◌, OnOk, IfOk, map};
 ghost use Rattle.canvas_values.specs.SignatureView.{view, task_view, tasks_of, trees_of};
-ghost use Rattle.canvas_warning.specs.Foreseen.{of_call, task_told, tasks_told, told, elements_told, members_told, out_of, out_of_each, trees_count};
+ghost use Rattle.canvas_warning.specs.Foreseen.{task_told, tasks_told, told, elements_told, members_told, out_of, out_of_each, trees_count, tasks_count};
 
 use crate::call::expected;
 use crate::stand::Stand;
-use crate::{Expected, Forecast, Input};
+use crate::{Forecast, Input};
 use canvas_task::Tasks;
 use canvas_values::{Node, TaskSig};
 use std::alloc::{AllocError, Global};
 
-/// What is foreseen of a signature that is no group and no chord.
-fn forecast_of(call: Expected) -> Forecast
-    ensures { result ≡ of_call call }
+/// How many error callbacks there are.
+#[tactic(auto, using(crate::proofs::Views::tasks_counted))]
+fn count_tasks(sigs: &[TaskSig]) -> usize
+    ensures { result ≡ tasks_count (tasks_of (map task_view sigs.now)) }
 {
-    Forecast {
-        expected: call,
-        is_left_pending: false,
-        is_nested_chord: false,
-        is_unrolled: false,
-    }
+    sigs.len()
 }
 
 /// A task, its links and its error callbacks.
@@ -30,15 +26,28 @@ fn push_task<T: Tasks>(
     alloc: Global,
     tasks: &T,
     sig: &TaskSig,
-    input: Input,
+    stand: Stand,
     found: &mut Vec<Forecast>,
 ) -> Result<(), AllocError>
     ensures { OnOk result (found.new.items
-        ≡ found.old.items ++ task_told (T.behaviour tasks.now) (task_view sig.now) input) }
+        ≡ found.old.items ++ task_told (T.behaviour tasks.now) (task_view sig.now) stand) }
 {
-    found.push(forecast_of(expected(alloc, tasks, sig, input)?))?;
-    push_tasks(alloc, tasks, sig.links.get(), Input::Number, found)?;
-    push_tasks(alloc, tasks, sig.errbacks.get(), Input::Identifier, found)
+    let call = expected(alloc, tasks, sig, stand.input)?;
+    found.push(stand.of_task(call, count_tasks(sig.errbacks.get())))?;
+    push_tasks(
+        alloc,
+        tasks,
+        sig.links.get(),
+        Stand::of_callback(Input::Number),
+        found,
+    )?;
+    push_tasks(
+        alloc,
+        tasks,
+        sig.errbacks.get(),
+        Stand::of_callback(Input::Identifier),
+        found,
+    )
 }
 
 #[cycle(calls)]
@@ -46,14 +55,14 @@ fn push_tasks<T: Tasks>(
     alloc: Global,
     tasks: &T,
     sigs: &[TaskSig],
-    input: Input,
+    stand: Stand,
     found: &mut Vec<Forecast>,
 ) -> Result<(), AllocError>
     ensures { OnOk result (found.new.items ≡ found.old.items
-        ++ tasks_told (T.behaviour tasks.now) (tasks_of (map task_view sigs.now)) input) }
+        ++ tasks_told (T.behaviour tasks.now) (tasks_of (map task_view sigs.now)) stand) }
 {
     for sig in sigs {
-        push_task(alloc, tasks, sig, input, found)?;
+        push_task(alloc, tasks, sig, stand, found)?;
     }
     Ok(())
 }
@@ -81,12 +90,12 @@ pub(crate) fn push_node<T: Tasks>(
 {
     match node {
         Node::Task(sig) => {
-            push_task(alloc, tasks, sig, stand.input, found)?;
+            push_task(alloc, tasks, sig, stand, found)?;
             Ok(Input::Number)
         }
         Node::Chain(nodes) => {
-            found.push(forecast_of(Expected::Answer))?;
-            push_elements(alloc, tasks, nodes.get(), stand, found)
+            found.push(stand.of_chain())?;
+            push_elements(alloc, tasks, nodes.get(), stand.of_elements(), found)
         }
         Node::Group(nodes) => {
             found.push(stand.of_group(count(nodes.get())))?;
@@ -100,9 +109,10 @@ pub(crate) fn push_node<T: Tasks>(
             Ok(Input::Numbers)
         }
         Node::Chord { header, body } => {
-            found.push(stand.of_chord(count(header.get())))?;
+            let members = count(header.get());
+            found.push(stand.of_chord(members))?;
             push_members(alloc, tasks, header.get(), stand.of_member(true), found)?;
-            push_node(alloc, tasks, body, stand.of_body(), found)
+            push_node(alloc, tasks, body, stand.of_body(members), found)
         }
     }
 }

@@ -35,12 +35,13 @@ static GRAPH: [Argument; 10] = [
 ];
 
 /// Those of `messages`.
-static MESSAGES: [Argument; 6] = [FILE, WORKERS, TURNS, TASK, TASKS, REFUSAL_JSON];
+static MESSAGES: [Argument; 7] = [FILE, WORKERS, TURNS, ADAPT, TASK, TASKS, REFUSAL_JSON];
 
 /// Those of `export`.
-static EXPORT: [Argument; 9] = [
+static EXPORT: [Argument; 10] = [
     FILE,
     RUN,
+    ADAPT,
     QUEUE,
     PREFIX,
     EXPIRES,
@@ -54,16 +55,16 @@ static EXPORT: [Argument; 9] = [
 static NORMAL: [Argument; 2] = [FILE, REFUSAL_JSON];
 
 /// Those of `check`.
-static CHECK: [Argument; 5] = [FILE, TASK, TASKS, FIGURES_JSON, STRICT];
+static CHECK: [Argument; 6] = [FILE, ADAPT, TASK, TASKS, FIGURES_JSON, STRICT];
 
 /// Those of `adapt`.
 static ADAPT_ARGUMENTS: [Argument; 3] = [FILE, RENAME, REFUSAL_JSON];
 
 /// Those of `keys`.
-static KEYS: [Argument; 4] = [FILE, RUN, PREFIX, REFUSAL_JSON];
+static KEYS: [Argument; 5] = [FILE, RUN, ADAPT, PREFIX, REFUSAL_JSON];
 
 /// Those of `collect`.
-static COLLECT: [Argument; 4] = [FILE_ALONE, RUN, COMPLETE, JSON];
+static COLLECT: [Argument; 5] = [FILE_ALONE, RUN, ADAPT, COMPLETE, JSON];
 
 impl Subcommand {
     fn about<'a>(self) -> &'a str {

@@ -37,11 +37,16 @@ tasks.add and so on. It may be given again, for another name; the name * stands 
 no task has, and on `run`, `turns` and `graph` `#3` for the third task alone, whatever its name.
 `--tasks FILE` has more, one a line; an empty line, and one that begins with #, says nothing, and
 what `--task` says of a name comes first. Another word or name, or a name that is there twice, is
-refused (BadTask). With --adapt these three first do what `adapt` does, and don't say what.
+refused (BadTask). So is a name that `--task` says if no task of the canvas has it, unless it is *
+or a built-in task's, or with --each; a file may name other tasks.
 
-The normal line of a canvas means the same as the canvas: some tasks, then at most one group or chord.
-A chain in a chain is flattened, and a group or chord that something follows is a chord whose body is
-all that follows.
+With --adapt a command first does what `adapt` does, and doesn't say what. But `export --adapt` says
+on standard error how many arguments the workers get as texts. Then give `keys` and `collect`
+--adapt too.
+
+The normal line of a canvas means the same as the canvas: some tasks, then at most one group or
+chord. A chain in a chain is flattened, and a group or chord that something follows is a chord
+whose body is all that follows.
 
 `check` prints what a run of a canvas takes, and behind that a warning for each thing that may
 surprise, with the JSON pointer (RFC 6901) to the first signature that has it, and its kind:
@@ -55,10 +60,12 @@ as `run --json` prints it.
 `adapt` prints the canvas as it is where that can be run. Else it makes short texts of arguments
 that are no whole numbers, texts or lists of whole numbers; gives the links and error callbacks of
 chains, groups and chords to the tasks that Celery gives them; puts the members of a group in a
-group into the outer one; and makes groups of calls of celery.map, celery.starmap and celery.chunks.
-Standard error counts each kind. `--rename '#3=NAME'` gives the third task of what is printed
-another name, by which a stub tells it from those that have the same. It may be given again, for
-another number; a text of another kind, or a number that no task has, is refused (BadRename):
+group into the outer one; makes groups of calls of celery.map, celery.starmap and celery.chunks;
+takes out what Celery wrote into signatures that were started; and puts the tasks of a chain or
+group that is a callback in its place. Standard error counts each kind. `--rename '#3=NAME'` gives
+the third task of what is printed another name, by which a stub tells it from those that have the
+same. It may be given again, for another number; a text of another kind, or a number that no task
+has, is refused (BadRename):
     canvas adapt order.json --rename '#3=late' | canvas run - --task '*=0' --task late=5
 
 `run --json` and `turns --json` print a JSON object in a line for each task (due_to, name, ran,

@@ -60,13 +60,13 @@ push_node-returns-in_ok-push_task-in-Task-clause-out g t c = task_out c.args.nod
 pub push_node-returns-in_ok-push-in-Chain-clause-told : goal.push_node-returns-in_ok-push-in-Chain-clause-told
 push_node-returns-in_ok-push-in-Chain-clause-told g t c =
     chain_found (g.T.Tasks.behaviour c.args.tasks.now) c.args.node.now c.args.found.now.items c.args.stand c.in-Chain.nodes c.deref.result.now
-    c.push_elements.result c.forecast_of.result c.push.new.self.items c.push_elements.new.found.items c.in-Chain.is
-    (c.deref.ensures.value ∙ c.get.ensures) c.in_ok-push-in-Chain.ensures.items c.forecast_of.ensures c.push_elements.ensures.told
+    c.of_elements.result c.push_elements.result c.of_chain.result c.push.new.self.items c.push_elements.new.found.items c.in-Chain.is
+    (c.deref.ensures.value ∙ c.get.ensures) c.in_ok-push-in-Chain.ensures.items c.of_chain.ensures c.of_elements.ensures c.push_elements.ensures.told
 
 pub push_node-returns-in_ok-push-in-Chain-clause-out : goal.push_node-returns-in_ok-push-in-Chain-clause-out
 push_node-returns-in_ok-push-in-Chain-clause-out g t c =
-    chain_out c.args.node.now c.args.stand.input c.in-Chain.nodes c.deref.result.now c.push_elements.result c.in-Chain.is
-    (c.deref.ensures.value ∙ c.get.ensures) c.push_elements.ensures.out
+    chain_out c.args.node.now c.args.stand.input c.in-Chain.nodes c.deref.result.now c.of_elements.result c.args.stand c.push_elements.result
+    c.in-Chain.is (c.deref.ensures.value ∙ c.get.ensures) c.of_elements.ensures refl c.push_elements.ensures.out
 
 pub push_node-returns-in_ok-push_members-in-Group-clause-told : goal.push_node-returns-in_ok-push_members-in-Group-clause-told
 push_node-returns-in_ok-push_members-in-Group-clause-told g t c =
@@ -81,14 +81,14 @@ push_node-returns-in_ok-push_members-in-Group-clause-out g t c = group_out c.arg
 pub push_node-returns-in_ok-push_members-in-Chord-clause-told : goal.push_node-returns-in_ok-push_members-in-Chord-clause-told
 push_node-returns-in_ok-push_members-in-Chord-clause-told g t c =
     chord_found (g.T.Tasks.behaviour c.args.tasks.now) c.args.node.now c.args.found.now.items c.args.stand c.in-Chord.header
-    c.deref-in-Chord.result.now c.deref-in-Chord-2.result.now c.in-Chord.body c.deref-in-Chord-3.result.now c.count-in-Chord.result
+    c.deref-in-Chord.result.now c.deref-in-Chord-2.result.now c.in-Chord.body c.deref-in-Chord-3.result.now c.count-members.result
     c.of_member-in-Chord.result c.of_body.result c.push_node.result c.of_chord.result c.push-in-Chord.new.self.items
     c.push_members-in-Chord.new.found.items c.push_node.new.found.items
     c.in-Chord.is (c.deref-in-Chord.ensures.value ∙ c.get-in-Chord.ensures) (c.deref-in-Chord-2.ensures.value ∙ c.get-in-Chord-2.ensures)
-    c.deref-in-Chord-3.ensures c.count-in-Chord.ensures c.of_chord.ensures c.in_ok-push-in-Chord.ensures.items c.of_member-in-Chord.ensures
+    c.deref-in-Chord-3.ensures c.count-members.ensures c.of_chord.ensures c.in_ok-push-in-Chord.ensures.items c.of_member-in-Chord.ensures
     c.of_body.ensures c.in_ok-push_members-in-Chord.ensures c.push_node.ensures.told
 
 pub push_node-returns-in_ok-push_members-in-Chord-clause-out : goal.push_node-returns-in_ok-push_members-in-Chord-clause-out
 push_node-returns-in_ok-push_members-in-Chord-clause-out g t c =
-    chord_out c.args.node.now c.args.stand.input c.in-Chord.header c.in-Chord.body c.deref-in-Chord-3.result.now c.of_body.result c.args.stand
+    chord_out c.args.node.now c.args.stand.input c.in-Chord.header c.in-Chord.body c.deref-in-Chord-3.result.now c.count-members.result c.of_body.result c.args.stand
     c.push_node.result c.in-Chord.is c.deref-in-Chord-3.ensures c.of_body.ensures c.push_node.ensures.out

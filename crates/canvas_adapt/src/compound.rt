@@ -1,0 +1,320 @@
+//! Callbacks that are chains or groups, which become their tasks.
+
+use crate::changes::Change;
+use crate::form::{Form, form_of, is_task};
+use crate::given::{callbacks_of, weight_of};
+use crate::made::Made;
+use crate::member::{drop_callbacks, set_inner};
+use crate::part::{Part, callback_parts, inner_parts, set_values, values_at};
+use crate::work::Work;
+use canvas_sig::parts::{Datum, MOST_LEVELS, is_true, kwarg_of, listed, own_fault, primitive_of};
+use canvas_sig::{MOST_BYTES, SigFault};
+
+/// How many tasks may follow each other in a callback: signatures stand no deeper in each other.
+const MOST_DEPTH: u32 = 8;
+
+/// How many steps a byte takes that is given to a task.
+const STEPS_OF_BYTE: usize = 8;
+
+/// What comes behind a part of a callback.
+#[derive(Clone, Copy, Drop)]
+struct Next<'a> {
+    /// The tasks that it starts, which are links.
+    tasks: &'a [Datum<'a>],
+    /// The error callbacks of what the part stands in.
+    errbacks: &'a [Datum<'a>],
+    /// How many tasks follow each other there.
+    depth: u32,
+    /// Another part of a chain comes, so that a group would be a chord.
+    is_followed: bool,
+}
+
+/// What comes behind a whole callback: nothing.
+fn nothing<'a>() -> Next<'a> {
+    Next {
+        tasks: &[],
+        errbacks: &[],
+        depth: 0,
+        is_followed: false,
+    }
+}
+
+/// Whether each of some tasks takes no input.
+fn are_immutable(tasks: &[Datum<'_>]) -> bool {
+    for task in tasks {
+        if !is_true(task.get("immutable")) {
+            return false;
+        }
+    }
+    true
+}
+
+/// Whether Celery calls these tasks, which stand for a callback: a chain that is called for a failure
+/// is given three arguments, which it gives to the tasks that take input.
+fn are_called(callback: &Datum<'_>, name: &str, tasks: &[Datum<'_>]) -> bool {
+    name != "link_error" || !matches!(form_of(callback), Form::Chain) || are_immutable(tasks)
+}
+
+impl<'a> Work<'a> {
+    /// Callbacks, and behind them others.
+    fn chained(
+        &mut self,
+        own: &'a [Datum<'a>],
+        others: &'a [Datum<'a>],
+    ) -> Result<&'a [Datum<'a>], SigFault> {
+        let mut made = Made::new(self.arena);
+        made.push_all(own)?;
+        made.push_all(others)?;
+        Ok(made.done())
+    }
+
+    /// Error callbacks, and behind them those of others that aren't there yet.
+    fn alarmed(
+        &mut self,
+        own: &'a [Datum<'a>],
+        others: &'a [Datum<'a>],
+    ) -> Result<&'a [Datum<'a>], SigFault> {
+        let mut made = Made::new(self.arena);
+        made.push_all(own)?;
+        for other in others {
+            self.add_new(&mut made, other)?;
+        }
+        Ok(made.done())
+    }
+
+    /// Takes the steps for giving callbacks to a task.
+    fn step_all(&mut self, given: &[Datum<'a>]) -> Result<(), SigFault> {
+        for value in given {
+            self.step(weight_of(value, MOST_BYTES).saturating_mul(STEPS_OF_BYTE))?;
+        }
+        Ok(())
+    }
+
+    /// Gives a task the callbacks of this name that a list has.
+    fn give_all(
+        &mut self,
+        task: &mut Datum<'a>,
+        name: &'a str,
+        callbacks: &'a [Datum<'a>],
+    ) -> Result<(), SigFault> {
+        self.step_all(callbacks)?;
+        set_inner(self.arena, task, "options", name, &Datum::List(callbacks))
+    }
+
+    /// A task with what comes behind it; none where too many would follow each other.
+    fn task_before(
+        &mut self,
+        task: &Datum<'a>,
+        next: Next<'a>,
+    ) -> Result<Option<Next<'a>>, SigFault> {
+        if next.depth >= MOST_DEPTH {
+            return Ok(None);
+        }
+        let mut made = *task;
+        if !next.tasks.is_empty() {
+            let links = self.chained(callbacks_of(task, "link"), next.tasks)?;
+            self.give_all(&mut made, "link", links)?;
+        }
+        if !next.errbacks.is_empty() {
+            let errbacks = self.alarmed(callbacks_of(task, "link_error"), next.errbacks)?;
+            self.give_all(&mut made, "link_error", errbacks)?;
+        }
+        let tasks = self.arena.try_alloc_slice_copy(&[made])?;
+        Ok(Some(Next {
+            tasks,
+            depth: next.depth.saturating_add(1),
+            ..next
+        }))
+    }
+
+    /// What comes behind the tasks of a chain or group: its own callbacks, too.
+    fn with_callbacks(&mut self, value: &Datum<'a>, next: Next<'a>) -> Result<Next<'a>, SigFault> {
+        let tasks = self.chained(callbacks_of(value, "link"), next.tasks)?;
+        let errbacks = self.chained(callbacks_of(value, "link_error"), next.errbacks)?;
+        Ok(Next {
+            tasks,
+            errbacks,
+            ..next
+        })
+    }
+
+    /// Whether a chain or group has faults of its own besides that it has callbacks.
+    fn is_faulty(&mut self, value: &Datum<'a>) -> Result<bool, SigFault> {
+        let mut bare = *value;
+        drop_callbacks(self.arena, &mut bare)?;
+        Ok(own_fault(&bare, false).is_some())
+    }
+
+    /// The tasks that elements of a chain start, of which the last one is looked at first.
+    #[cycle(start)]
+    fn starts_of_elements(
+        &mut self,
+        elements: &'a [Datum<'a>],
+        next: Next<'a>,
+        left: u32,
+    ) -> Result<Option<Next<'a>>, SigFault> {
+        let mut behind = next;
+        for element in elements.iter().rev() {
+            let Some(Next { tasks, depth, .. }) = self.starts(element, behind, left)? else {
+                return Ok(None);
+            };
+            behind = Next {
+                tasks,
+                depth,
+                is_followed: true,
+                ..next
+            };
+        }
+        Ok(Some(behind))
+    }
+
+    /// Adds the tasks that a member of a group starts, and says how many follow each other then;
+    /// none where there is no telling.
+    #[cycle(start)]
+    fn add_starts(
+        &mut self,
+        made: &mut Made<'a, Datum<'a>>,
+        member: &'a Datum<'a>,
+        next: Next<'a>,
+        left: u32,
+    ) -> Result<Option<u32>, SigFault> {
+        let Some(Next { tasks, depth, .. }) = self.starts(member, next, left)? else {
+            return Ok(None);
+        };
+        made.push_all(tasks)?;
+        Ok(Some(depth))
+    }
+
+    /// The tasks that the members of a group start. One that something follows would be a chord.
+    #[cycle(start)]
+    fn starts_of_members(
+        &mut self,
+        members: &'a [Datum<'a>],
+        next: Next<'a>,
+        left: u32,
+    ) -> Result<Option<Next<'a>>, SigFault> {
+        if next.is_followed {
+            return Ok(None);
+        }
+        let mut made = Made::new(self.arena);
+        let mut deepest = next.depth;
+        for member in members {
+            match self.add_starts(&mut made, member, next, left)? {
+                Some(depth) => deepest = deepest.max(depth),
+                None => return Ok(None),
+            }
+        }
+        Ok(Some(Next {
+            tasks: made.done(),
+            depth: deepest,
+            ..next
+        }))
+    }
+
+    /// The tasks that a part of a callback starts, with what comes behind them; none where tasks
+    /// with callbacks can't say it.
+    #[cycle(start)]
+    fn starts(
+        &mut self,
+        value: &'a Datum<'a>,
+        next: Next<'a>,
+        left: u32,
+    ) -> Result<Option<Next<'a>>, SigFault> {
+        let form = form_of(value);
+        if matches!(form, Form::Task) {
+            return self.task_before(value, next);
+        }
+        if left == 0 || self.is_faulty(value)? {
+            return Ok(None);
+        }
+        let next = self.with_callbacks(value, next)?;
+        let inner = listed(kwarg_of(value, "tasks"));
+        match form {
+            Form::Chain => self.starts_of_elements(inner, next, left - 1),
+            Form::Group => self.starts_of_members(inner, next, left - 1),
+            _ => Ok(None),
+        }
+    }
+
+    /// The tasks that stand for a callback, where some do.
+    fn tasks_for(
+        &mut self,
+        callback: &'a Datum<'a>,
+        name: &str,
+    ) -> Result<Option<&'a [Datum<'a>]>, SigFault> {
+        if is_task(callback) {
+            return Ok(None);
+        }
+        match self.starts(callback, nothing(), MOST_LEVELS)? {
+            Some(next) if are_called(callback, name, next.tasks) => {
+                self.count(Change::Compound, 1);
+                Ok(Some(next.tasks))
+            }
+            _ => Ok(None),
+        }
+    }
+
+    /// Adds a callback, or the tasks that stand for it.
+    fn add_callback(
+        &mut self,
+        made: &mut Made<'a, Datum<'a>>,
+        callback: &'a Datum<'a>,
+        name: &str,
+    ) -> Result<(), SigFault> {
+        match self.tasks_for(callback, name)? {
+            Some(tasks) => made.push_all(tasks),
+            None => made.push(*callback),
+        }
+    }
+
+    /// Callbacks of that name, of which those that are chains or groups are their tasks.
+    fn as_tasks(
+        &mut self,
+        callbacks: &'a [Datum<'a>],
+        name: &str,
+    ) -> Result<&'a [Datum<'a>], SigFault> {
+        let mut made = Made::new(self.arena);
+        for callback in callbacks {
+            self.add_callback(&mut made, callback, name)?;
+        }
+        Ok(made.done())
+    }
+
+    /// The signatures that stand somewhere in one.
+    #[cycle(compound)]
+    fn split_part(&mut self, value: &mut Datum<'a>, part: Part, left: u32) -> Result<(), SigFault> {
+        let before = self.changes.compounds;
+        let values = self.arena.try_alloc_slice_copy(values_at(value, part))?;
+        for inner in values.iter_mut() {
+            self.split_callbacks(inner, left)?;
+        }
+        let made = match part {
+            Part::Callbacks(name) => self.as_tasks(values, name)?,
+            Part::Inner(_) => values,
+        };
+        if self.changes.compounds == before {
+            return Ok(());
+        }
+        set_values(self.arena, value, part, made)
+    }
+
+    /// Makes tasks of the callbacks that are chains or groups, in a signature and in all that stand
+    /// in it, at most `left` deep.
+    #[cycle(compound)]
+    pub(crate) fn split_callbacks(
+        &mut self,
+        value: &mut Datum<'a>,
+        left: u32,
+    ) -> Result<(), SigFault> {
+        if left == 0 {
+            return Ok(());
+        }
+        for part in callback_parts() {
+            self.split_part(value, *part, left - 1)?;
+        }
+        for part in inner_parts(primitive_of(value.get("subtask_type"))) {
+            self.split_part(value, *part, left - 1)?;
+        }
+        Ok(())
+    }
+}

@@ -1,0 +1,136 @@
+//! The names that `--task` says: a task of the canvas has each, unless it is `*` or a built-in
+//! task's.
+ghost use Rattle.std.specs.Prelude.{◌≡◌, ◌⊎◌, [], IfErr, IfOk, None, Some, is_some, option_map};
+ghost use Rattle.canvas_semantics.specs.Line.{Line, names};
+ghost use Rattle.canvas_answer.specs.Names.{IsUnknownName, first_unknown, has_name, is_called, is_common};
+ghost use Rattle.canvas_answer.specs.Plans.{IsReadRefusal, IsTextPlan};
+
+use crate::plan::{lasting, plan_of};
+use crate::refusal::Refusal;
+use canvas_rewrite::Plan;
+use canvas_stubs::Stub;
+use canvas_task::Builtin;
+use std::alloc::{AllocError, Global};
+use strsim::levenshtein;
+
+/// Whether it is `*` or the name of a built-in task, which may be said of any canvas.
+fn is_common(name: &str) -> bool
+    ensures { result ≡ is_common name.now }
+{
+    name == "*" || Builtin::named(name).is_some()
+}
+
+/// Whether what a task is called is this name.
+fn is_called(task: Option<&str>, name: &str) -> bool
+    ensures { result ≡ is_called (option_map (λ task. task.now) task.entry) name.now }
+{
+    match task {
+        Some(task) => task == name,
+        None => false,
+    }
+}
+
+/// Whether a task of the plan has the name.
+fn has_name(plan: &Plan, name: &str) -> bool
+    ensures { result ≡ has_name name.now (names plan.now) }
+{
+    for index in 0..plan.tasks() {
+        if is_called(plan.name(plan.task_at(index)), name) {
+            return true;
+        }
+    }
+    false
+}
+
+/// Whether some stubs have a name that not any canvas may be run with.
+fn names_tasks(stubs: &[Stub]) -> bool
+    ensures { result ≡ is_some (first_unknown [] stubs.now) }
+{
+    for stub in stubs {
+        if !is_common(stub.name.get().as_str()) {
+            return true;
+        }
+    }
+    false
+}
+
+/// The first of some stubs whose name no task of the plan has.
+fn unknown_stub<'a>(plan: &Plan, stubs: &'a [Stub]) -> Option<&'a Stub>
+    ensures { option_map (λ stub. stub.now.name) result
+        ≡ first_unknown (names plan.now) stubs.now }
+{
+    for stub in stubs {
+        let name = stub.name.get().as_str();
+        if !is_common(name) && !has_name(plan, name) {
+            return Some(stub);
+        }
+    }
+    None
+}
+
+/// How far a name is from that of a task: how many letters are changed, or one where it lacks what
+/// stands before a dot.
+fn distance(alloc: Global, name: &str, task: &str) -> Result<usize, AllocError> {
+    match task.strip_suffix(name) {
+        Some(module) if module.ends_with('.') => Ok(1),
+        _ => levenshtein(alloc, name, task),
+    }
+}
+
+/// The name of a task that is nearest to one, and no more than a third of its letters away.
+fn nearest<'p>(alloc: Global, plan: &'p Plan, name: &str) -> Result<Option<&'p str>, AllocError> {
+    let mut found = None;
+    let mut least = (name.len() / 3).saturating_add(1);
+    for index in 0..plan.tasks() {
+        if let Some(task) = plan.name(plan.task_at(index)) {
+            let distance = distance(alloc, name, task)?;
+            if distance < least {
+                least = distance;
+                found = Some(task);
+            }
+        }
+    }
+    Ok(found)
+}
+
+/// The refusal of a name that no task of the plan has, with the name that may be meant.
+fn refused_name(alloc: Global, plan: &Plan, name: &str) -> Result<Refusal, AllocError>
+    ensures { IfOk result (IsUnknownName (Some name.now)) }
+{
+    let near = match nearest(alloc, plan, name)? {
+        Some(near) => Some(String::from_str(alloc, near)?),
+        None => None,
+    };
+    let name = String::from_str(alloc, name)?;
+    Ok(Refusal::NoTaskNamed { name, near })
+}
+
+/// Refuses the first of some stubs whose name no task of the plan has.
+fn check_plan(alloc: Global, plan: &Plan, stubs: &[Stub]) -> Result<(), Refusal>
+    ensures known { IfOk result (λ _. first_unknown (names plan.now) stubs.now ≡ None) }
+    ensures unknown { IfErr result (IsUnknownName (first_unknown (names plan.now) stubs.now)) }
+{
+    match unknown_stub(plan, stubs) {
+        Some(stub) => match refused_name(alloc, plan, stub.name.get()) {
+            Ok(refusal) => Err(refusal),
+            Err(_) => Err(Refusal::Memory),
+        },
+        None => Ok(()),
+    }
+}
+
+/// Refuses the first of some stubs whose name no task of the text's canvas has. The text isn't read
+/// where any canvas may be run with all of them.
+pub(crate) fn check_names(alloc: Global, text: &[u8], stubs: &[Stub]) -> Result<(), Refusal>
+    ensures known { IfOk result (λ _. (first_unknown [] stubs.now ≡ None)
+        ⊎ ((l : Line) × IsTextPlan text.now l × (first_unknown (names l) stubs.now ≡ None))) }
+    ensures unknown { IfErr result (λ refusal. IsReadRefusal text.now refusal
+        ⊎ ((l : Line) × IsTextPlan text.now l
+        × IsUnknownName (first_unknown (names l) stubs.now) refusal)) }
+{
+    if !names_tasks(stubs) {
+        return Ok(());
+    }
+    let plan = lasting(plan_of(alloc, text)?);
+    check_plan(alloc, &plan, stubs)
+}
