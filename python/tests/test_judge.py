@@ -229,10 +229,14 @@ class OwnApplication(unittest.TestCase):
         @own.task(name="a")
         def a(*args):
             raise AssertionError
-        own.conf.result_serializer = own.conf.task_serializer = "pickle"
-        own.conf.accept_content = ["pickle"]
+        self.assertEqual(on_celery(own.signature("a"), {"a": {1, 2}}, own).status, "FAILURE")
+        own.conf.result_serializer, own.conf.accept_content = "pickle", ["json", "pickle"]
         run = on_celery(own.signature("a"), {"a": {1, 2}}, own)
         self.assertEqual((run.status, run.result), ("SUCCESS", {1, 2}))
+        own.conf.accept_content = ["pickle"]  # the messages of this task are JSON
+        run = on_celery(own.signature("a"), {}, own)
+        self.assertEqual((run.called, run.waits), ([], True))
+        self.assertEqual([type(it).__name__ for it in run.errors], ["ContentDisallowed"])
 
 
 @unittest.skipIf(celery is None, "Celery isn't installed")
@@ -312,7 +316,8 @@ class NothingElse(unittest.TestCase):
         with self.assertNoLogs() if hasattr(self, "assertNoLogs") else mock.MagicMock():
             with warnings.catch_warnings():
                 warnings.simplefilter("error")
-                on_celery(user_flows.order(), {"shop.ship": OutOfStock}, user_tasks.app)
+                run = on_celery(user_flows.order_without_find(), {"shop.ship": OutOfStock})
+        self.assertNotIn("RuntimeWarning", [type(it).__name__ for it in run.errors])
         filters = [it for name in logging.root.manager.loggerDict
                    for it in logging.getLogger(name).filters if name.startswith("celery")]
         self.assertEqual(filters, [])

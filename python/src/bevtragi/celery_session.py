@@ -110,7 +110,11 @@ class Session:
 
     def _perform(self, message: Message) -> None:
         name = message.headers["task"]
-        request = Request(message, app=self.app, hostname=HOST, task=self.app._tasks[name])
+        try:
+            request = Request(message, app=self.app, hostname=HOST, task=self.app._tasks[name])
+        except Exception as error:  # a worker drops a message that it can't read
+            self.errors.append(error)
+            return
         try:
             fast_trace_task(name, request.id, request.request_dict, message.body,
                             message.content_type, message.content_encoding,
