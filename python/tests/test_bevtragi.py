@@ -211,7 +211,7 @@ class Answers(unittest.TestCase):
             run(task("a"), {"a": "raise:Retry"})
 
     def test_a_name_that_no_task_has(self):
-        for words, said in (({"shop.shp": 0}, "'shop.shp' is no task of the canvas: "),
+        for words, said in (({"shop.shp": 0}, "shop.shp: no task has this name, did you mean shop.ship"),
                             ({7: 0}, "#7: no task has this number"),
                             ({0: 0}, "#0=0: #NUMBER=WORD is wanted")):
             with self.assertRaisesRegex(BadCall, said):

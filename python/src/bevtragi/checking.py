@@ -5,7 +5,6 @@ from __future__ import annotations
 from typing import Any, Dict
 
 from .binding import misfits
-from .calling import ask
 from .outcomes import Warning
 from .texts import Answers, tree_of, values, words_of
 
@@ -22,8 +21,7 @@ def figures(text: bytes, tasks: Answers = {}, app: Any = None) -> Figures:
 
     With `app`, the names are looked for there, and not among the program's tasks."""
     words = words_of({"*": 0, **tasks} if app is not None else tasks)
-    adapted = ask(["adapt", "-"], text)[0].encode()
-    said, *warned = values(["check", "-", *words], adapted)[0]
+    said, *warned = values(["check", "-", "--adapt", *words], text)[0]
     found = Figures((name.replace("_", " "), count) for name, count in said.items())
     found.warnings = [Warning(it.pop("name"), **it) for it in warned]
     if app is not None:
