@@ -51,11 +51,12 @@ whose body is all that follows.
 `check` prints what a run of a canvas takes, and behind that a warning for each thing that may
 surprise, with the JSON pointer (RFC 6901) to the first signature that has it, and its kind:
 NotRegistered, a name that no task has; TypeError, a call that is one whatever comes in;
-ignored-options; and where Celery 5 does otherwise, failure-before-group, failed-nested-chord and
-group-of-one (docs/CELERY.md). Of a canvas that is refused it prints the pointer to the first
-signature that has the refusal, what was found there, and what is wanted. With --json these are
-objects: one for the figures, one for each warning (count, name, note, pointer, task), and a refusal
-as `run --json` prints it.
+ignored-options; and where Celery 5 does otherwise, failure-before-group, failed-nested-chord,
+group-of-one, lost-alarm, body-without-id, pending-body, unregistered-alarm and chord-keywords
+(docs/CELERY.md). Of a canvas that is refused it prints the pointer to the first signature that has
+the refusal, what was found there, and what is wanted. With --json these are objects: one for the
+figures, one for each warning (count, name, note, pointer, task), and a refusal as `run --json`
+prints it.
 
 `adapt` prints the canvas as it is where that can be run. Else it makes short texts of arguments
 that are no whole numbers, texts or lists of whole numbers; gives the links and error callbacks of
