@@ -63,11 +63,15 @@ class Warnings(unittest.TestCase):
     def test_figures_and_warnings(self):
         figures = check(ORDER, {"*": 0})
         self.assertEqual((figures["tasks"], dict(figures)["groups and chords"]), (6, 1))
-        self.assertEqual(figures.warnings, [Warning(
-            "failure-before-group", "celery.chord", "/kwargs/tasks/1",
-            "Celery leaves it pending where the task before it fails", 1)])
+        self.assertEqual(figures.warnings, [
+            Warning("failure-before-group", "celery.chord", "/kwargs/tasks/1",
+                    "Celery leaves it pending where the task before it fails", 1),
+            Warning("body-without-id", "celery.chain", "/kwargs/tasks/1/kwargs/body",
+                    "Celery leaves it pending where a member of the header fails, and may call"
+                    " error callbacks of another task", 1)])
         self.assertEqual(what_if(ORDER).warnings, figures.warnings)
-        self.assertEqual([it.kind for it in check(ORDER).warnings].count("NotRegistered"), 6)
+        unknown = [it for it in check(ORDER).warnings if it.kind == "NotRegistered"]
+        self.assertEqual([(it.task, it.count) for it in unknown], [("shop.find", 6)])
         self.assertEqual(str(figures.warnings[0]),
                          "celery.chord at /kwargs/tasks/1: Celery leaves it pending where the task"
                          " before it fails (failure-before-group)")
