@@ -32,10 +32,10 @@ def order():
     return s("shop.find", 4711) | paid | s("shop.thank")
 
 
-def real_runs(version, kind, fails):
-    """What workers of a version called in the order of user_flows while this failed."""
+def real_runs(version, kind, fails, flow="order"):
+    """What became of a flow of user_flows on workers of a version while this failed."""
     rows = map(json.loads, (HERE / "flows" / f"started-{version}.jsonl").read_text().splitlines())
-    return [it[kind] for it in rows if it["flow"] == "order" and it["fails"] == fails]
+    return [it[kind] for it in rows if it["flow"] == flow and it["fails"] == fails]
 
 
 class RealWorkers(unittest.TestCase):
@@ -56,6 +56,15 @@ class RealWorkers(unittest.TestCase):
             self.assertNotIn("shop.refund", run["called"])
             run, = real_runs(version, "cured", "shop.ship")
             self.assertEqual(run["called"]["shop.refund"], 1)
+
+
+    def test_alarms_that_are_never_called_and_a_get_that_waits_forever(self):
+        self.assertIn("alarms that are never called, and a `get()` that waits forever", README)
+        for version in ("5.2.6", "5.5.2"):
+            run, = real_runs(version, "started", "step.one", "alarm_on_a_body_and_more")
+            self.assertNotIn("step.alarm", run["called"])
+            run, = real_runs(version, "started", "guide.create_user", "guide_new_user")
+            self.assertEqual(run["get"], "WAITS")
 
 
 @unittest.skipIf(celery is None, "Celery isn't installed")
