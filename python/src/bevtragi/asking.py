@@ -9,7 +9,7 @@ from .calling import ask
 from .celery_run import Judge
 from .checking import Figures, figures
 from .comparing import Question
-from .errors import CanvasError, Refused
+from .errors import BadCall, CanvasError, Refused
 from .reports import Failures, Picture, Report
 from .texts import Answers, Canvas, check_names, text_of, values, words_of
 
@@ -63,7 +63,11 @@ def _what_if(judge: Judge, tasks: Answers = {}, workers: int = 1,
 
 def _run(text: bytes, tasks: Answers, asked: list[str], workers: int = 1,
          turns: Sequence[int] | None = None, again: Again = False) -> Report:
-    words = ["run", "-", "--workers", str(workers), *asked]
+    if not all(isinstance(it, int) for it in (workers, *(turns or ()))):
+        raise BadCall("workers is a whole number, and turns are whole numbers")
+    if not isinstance(again, (bool, Mapping)):
+        raise BadCall(f"again is True, False, or what is delivered again by name, and not {again!r}")
+    words = ["run", "-", f"--workers={workers}", *asked]
     points = ["all"] * (again is True)
     if isinstance(again, Mapping):
         check_names(again, _names(_run(text, {}, asked)))
@@ -71,7 +75,7 @@ def _run(text: bytes, tasks: Answers, asked: list[str], workers: int = 1,
                   for it in ([at] if isinstance(at, str) else at)]
     if turns is not None or again:
         words[0] = "turns"
-        words += ["--turns", ",".join(map(str, turns or ())), "--again", ",".join(points)]
+        words += [f"--turns={','.join(map(str, turns or ()))}", f"--again={','.join(points)}"]
     (*rows, end), beside = values(words, text)
     report = Report(rows, end, (asked, text), int(beside.split()[1]) if "Again" in beside else 0)
     check_names(tasks, _names(report))
@@ -82,23 +86,36 @@ def _names(*reports: Report) -> list[str]:
     return [row.name for report in reports for row in report.rows]
 
 
-def what_if_each(canvases: Iterable[Canvas], tasks: Answers = {}) -> list[Report | Refused]:
-    """what_if() of each canvas, in order, by few calls of the program; or the Refused of one.
-    Raises BadCall, also for a name that no canvas has."""
-    found: list[Report | Refused] = []
-    texts, asked = [text_of(it)[:MOST_BYTES] for it in canvases], words_of(tasks, True)
-    for some in (texts[start:start + MOST] for start in range(0, len(texts), MOST)):
-        given = b"".join(text + b"\0" for text in some)
-        said = values(["run", "-", "--each", "--null", *asked], given)[0]
-        if len(said) != len(some):
-            raise CanvasError(f"`canvas run` gave {len(said)} lines for {len(some)} canvases")
-        found += [Refused(**it) if "code" in it else _each(it, asked, text, tasks)
-                  for it, text in zip(said, some)]
+def what_if_each(canvases: Iterable[Canvas], tasks: Answers = {}) -> list[Report | CanvasError]:
+    """what_if() of each canvas, in order, by few calls of the program; or the Refused or BadCall of
+    one. Raises BadCall for what is no answer, and for a name that no canvas has."""
+    texts, asked = [_text_or_error(it) for it in canvases], words_of(tasks, True)
+    whole = [it for it in texts if isinstance(it, bytes)]
+    said: list[Any] = []
+    for some in (whole[start:start + MOST] for start in range(0, len(whole), MOST)):
+        lines = values(["run", "-", "--each", "--null", *asked],
+                       b"".join(text + b"\0" for text in some))[0]
+        if len(lines) != len(some):
+            raise CanvasError(f"`canvas run` gave {len(lines)} lines for {len(some)} canvases")
+        said += lines
+    left = iter(said)
+    found = [_each(next(left), asked, it, tasks) if isinstance(it, bytes) else it for it in texts]
     check_names(tasks, _names(*(it for it in found if isinstance(it, Report))))
     return found
 
 
-def _each(said: Any, asked: list[str], text: bytes, tasks: Answers) -> Report:
+def _text_or_error(canvas: Canvas) -> bytes | BadCall:
+    """A canvas as JSON, as long as a canvas may be, or why there is none. A zero byte ends a canvas
+    among several; another byte that JSON doesn't have either takes its place."""
+    try:
+        return text_of(canvas)[:MOST_BYTES].replace(b"\0", b"\1")
+    except BadCall as error:
+        return error
+
+
+def _each(said: Any, asked: list[str], text: bytes, tasks: Answers) -> Report | Refused:
+    if "code" in said:
+        return Refused(**said)
     judge = Judge(text)
     report = Report(said["rows"], said["canvas"], (asked, text))
     return report.asked_of(Question(judge, tasks))

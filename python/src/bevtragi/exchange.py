@@ -7,6 +7,7 @@ import tempfile
 from typing import Any
 
 from .calling import ask
+from .errors import BadCall, CanvasError
 from .reports import Report
 from .texts import Canvas, text_of, values
 
@@ -15,26 +16,68 @@ __all__ = ["collect", "export"]
 
 def export(canvas: Canvas, client: Any, **options: Any) -> str:
     """Starts a canvas on Celery's workers by a client of Redis, all of it or nothing, and gives the
-    run's number. The options are those of `canvas export`, as queue="orders". Raises Refused."""
+    run's number. The options are those of `canvas export` that have a value, as queue="orders".
+    Raises Refused, BadCall for another option, and CanvasError if Redis refuses the start."""
     number = os.urandom(11).hex()
     words = [f"--{name.replace('_', '-')}={value}" for name, value in options.items()]
-    said = ask(["export", "-", "--run", number, *words], text_of(canvas))[0]
-    client.execute_command(*said.encode().split(b"\r\n")[2::2])  # the words of one in RESP
+    said = ask(["export", "-", f"--run={number}", *words], text_of(canvas))[0]
+    commands = commands_of(said.encode())
+    if len(commands) != 1:
+        raise BadCall("a client starts a canvas by one command: leave out `without_script`")
+    _by(client.execute_command, *commands[0])
     return number
+
+
+def commands_of(text: bytes) -> list[list[bytes]]:
+    """The words of each command in the protocol of Redis (RESP), whose lengths say where each
+    ends. Raises CanvasError for another text."""
+    found, at = [], 0
+
+    def length(sign: bytes) -> int:
+        nonlocal at
+        end = text.index(b"\r\n", at)
+        if text[at:at + 1] != sign:
+            raise ValueError(f"{sign!r} is wanted at byte {at}")
+        count, at = int(text[at + 1:end]), end + 2
+        return count
+
+    def word() -> bytes:
+        nonlocal at
+        start, count = at, length(b"$")
+        start, at = at, at + count + 2
+        if text[at - 2:at] != b"\r\n":
+            raise ValueError(f"no word of {count} bytes begins at byte {start}")
+        return text[start:at - 2]
+
+    try:
+        while at < len(text):
+            found.append([word() for _ in range(length(b"*"))])
+    except ValueError as error:
+        raise CanvasError(f"`canvas export` answered what can't be read: {error}") from error
+    return found
+
+
+def _by(call: Any, *words: Any) -> Any:
+    """What a client answers. Whatever it raises is a CanvasError."""
+    try:
+        return call(*words)
+    except Exception as error:
+        raise CanvasError(f"Redis: {type(error).__name__}: {error}") from error
 
 
 def collect(canvas: Canvas, client: Any, run: str, complete: bool = False,
             prefix: str = "") -> Report:
     """The Report so far of such a run, by a client of the result backend, whose global_keyprefix is
     `prefix`. With `complete` tasks that a failure reaches have their state, as in what_if(), where
-    Celery leaves them pending. Raises CanvasError for a result that can't be read."""
+    Celery leaves them pending. Raises CanvasError for a result that can't be read, and for what
+    the client raises."""
     text = text_of(canvas)
-    keys = ask(["keys", "-", "--run", run, "--prefix", prefix], text)[0].split("\n")[:-1]
-    found = client.mget(keys) if keys else []
+    keys = ask(["keys", "-", f"--run={run}", f"--prefix={prefix}"], text)[0].split("\n")[:-1]
+    found = _by(client.mget, keys) if keys else []
     lines = ((it.encode() if isinstance(it, str) else it or b"") + b"\n" for it in found)
     with tempfile.NamedTemporaryFile(suffix=".json") as file:
         file.write(text)
         file.flush()
-        words = ["collect", file.name, "--run", run] + ["--complete"] * complete
+        words = ["collect", file.name, f"--run={run}"] + ["--complete"] * complete
         *rows, end = values(words, b"".join(lines))[0]
     return Report(rows, end)

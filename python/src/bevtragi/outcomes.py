@@ -3,6 +3,7 @@
 from __future__ import annotations
 
 import json
+import re
 from typing import Any, NamedTuple
 
 __all__ = ["Failure", "Warning", "is_exception", "shown"]
@@ -18,14 +19,19 @@ class Failure(NamedTuple):
         return self.kind + (f": Dependency #{self.task} raised {self.raised}" if self.task else "")
 
     @staticmethod
-    def of(value: dict[str, Any]) -> Any:
-        """The failure that an object of the program stands for, or the object."""
-        if value.keys() != {"exc_message", "exc_type"}:
+    def of(value: Any) -> Any:
+        """The failure that the result of a failed task stands for, or the result as it is."""
+        if not isinstance(value, dict) or value.keys() != {"exc_message", "exc_type"}:
             return value
-        said = " ".join(map(str, value["exc_message"])).split(" ", 3)
-        if value["exc_type"] == "ChordError" and said[0] == "Dependency":
-            return Failure("ChordError", int(said[1][-8:], 16), said[3])
-        return Failure(value["exc_type"])
+        message = value["exc_message"]
+        said = _CHORD_ERROR.match(" ".join(map(str, message)) if isinstance(message, list) else "")
+        if value["exc_type"] == "ChordError" and said:
+            return Failure("ChordError", int(said[1], 16), said[2])
+        return Failure(str(value["exc_type"]))
+
+
+#: The message of a chord's error: the last digits of a task's identifier are its number.
+_CHORD_ERROR = re.compile(r"Dependency \S*([0-9a-fA-F]{8}) raised (.*)", re.S)
 
 
 class Warning(NamedTuple):

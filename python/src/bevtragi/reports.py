@@ -10,7 +10,7 @@ from typing import TYPE_CHECKING, Any, Dict, NamedTuple
 
 from .calling import ask
 from .errors import CanvasError
-from .outcomes import Warning, shown
+from .outcomes import Failure, Warning, shown
 
 if TYPE_CHECKING:
     from .celery_run import CeleryRun
@@ -35,6 +35,26 @@ class Row(NamedTuple):
         return f"{said} ({why})" if self.ran is False else said
 
 
+def _row(number: int, told: dict[str, Any]) -> Row:
+    """The row of a task that the program tells. The result of one that failed is a Failure; one
+    that succeeded may have a value that looks like that."""
+    failed = told["status"] == "FAILURE"
+    return Row(number, told["name"], told["status"],
+               Failure.of(told["result"]) if failed else told["result"], told.get("ran"),
+               int(told["due_to"][-8:], 16) if told.get("due_to") else None)
+
+
+def _result(end: dict[str, Any], rows: list[dict[str, Any]]) -> Any:
+    """The result of a canvas: of its last task, or a list of those of its last group."""
+    result = end["result"]
+    if end["status"] != "FAILURE":
+        return result
+    if not isinstance(result, list):
+        return Failure.of(result)
+    failures = [it["result"] for it in rows if it["status"] == "FAILURE"]
+    return [Failure.of(it) if it in failures else it for it in result]
+
+
 class Report:
     """The rows of the tasks in the order of the file, and the status and result of the canvas: of
     its last task, or a list where it ends in a group. The other lists name tasks: those of each
@@ -46,10 +66,8 @@ class Report:
 
     def __init__(self, rows: list[dict[str, Any]], end: dict[str, Any],
                  asked: tuple[list[str], bytes] | None = None, again: int = 0) -> None:
-        self.rows = [Row(number, it["name"], it["status"], it["result"], it.get("ran"),
-                         int(it["due_to"][-8:], 16) if it.get("due_to") else None)
-                     for number, it in enumerate(rows, 1)]
-        self.status, self.result, self.again = end["status"], end["result"], again
+        self.rows = [_row(number, it) for number, it in enumerate(rows, 1)]
+        self.status, self.result, self.again = end["status"], _result(end, rows), again
         self.succeeded, self.failed, self.pending = (
             [row.name for row in self.rows if row.status == status]
             for status in ("SUCCESS", "FAILURE", "PENDING"))

@@ -10,7 +10,6 @@ from typing import Any, Dict, Iterable, Mapping, Type, Union
 
 from .calling import ask
 from .errors import BadCall, CanvasError
-from .outcomes import Failure
 
 __all__ = ["Answers", "Canvas", "check_names", "text_of", "tree_of", "values", "words_of"]
 
@@ -27,13 +26,16 @@ def text_of(canvas: Canvas) -> bytes:
         if isinstance(canvas, os.PathLike):
             return Path(canvas).read_bytes()
         if isinstance(canvas, dict):
-            return json.dumps(canvas, default=str).encode()
+            return json.dumps(canvas, default=str, allow_nan=False).encode()
     except OSError as error:
         raise BadCall(f"{canvas} can't be read: {error.strerror}") from error
     except (TypeError, ValueError, RecursionError) as error:
         raise BadCall(f"this canvas can't be written as JSON: {error}") from error
     if isinstance(canvas, str) and canvas.lstrip()[:1] == "{":
-        return canvas.encode()
+        try:
+            return canvas.encode()
+        except UnicodeEncodeError as error:
+            raise BadCall(f"this canvas isn't UTF-8: {error.reason}") from error
     if not isinstance(canvas, bytes):
         raise BadCall(f"{canvas!r:.60} is no canvas: that is a signature of Celery, its JSON, or"
                       " the pathlib.Path of a file with it")
@@ -61,11 +63,17 @@ def words_of(tasks: Answers, is_whole: bool = False) -> list[str]:
         kind = answer if isinstance(answer, type) else type(answer)
         if issubclass(kind, Exception):
             answer = "raise:" + kind.__name__
-        elif not isinstance(answer, (int, str)) or kind is bool:
-            raise BadCall(f"a task can't answer {answer!r}: that is a whole number, an exception,"
+        elif not isinstance(answer, (int, str)) or kind is bool or _is_huge(answer):
+            what = "so large a number" if _is_huge(answer) else repr(answer)
+            raise BadCall(f"a task can't answer {what}: that is a whole number, an exception,"
                           ' or one of "add", "div", "ident", "log_error", "mul" and "xsum"')
         words += ["--task", f"{'#' * isinstance(key, int)}{key}={answer}"]
     return words
+
+
+def _is_huge(answer: Any) -> bool:
+    """Whether a number is one that Python doesn't write as a text."""
+    return isinstance(answer, int) and answer.bit_length() > 10_000
 
 
 def check_names(keys: Iterable[str | int], names: list[str]) -> None:
@@ -79,6 +87,6 @@ def values(words: list[str], given: bytes) -> tuple[list[Any], str]:
     """As ask(), of a JSON value a line."""
     out, beside = ask(words, given)
     try:
-        return [json.loads(it, object_hook=Failure.of) for it in out.split("\n")[:-1]], beside
+        return [json.loads(it) for it in out.split("\n")[:-1]], beside
     except (ValueError, LookupError) as error:
         raise CanvasError(f"`canvas {words[0]}` answered what can't be read: {error}") from error
