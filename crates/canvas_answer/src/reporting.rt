@@ -7,8 +7,9 @@ ghost use Rattle.canvas_semantics.specs.Report.{report_of};
 ghost use Rattle.canvas_semantics.specs.States.{rows_from, states};
 ghost use Rattle.canvas_task.specs.Apply.{Behaviour};
 ghost use Rattle.canvas_task.specs.Text.{Text};
-ghost use Rattle.canvas_answer.specs.Answers.{AnswersPart, AnswersAll};
-ghost use Rattle.canvas_answer.specs.Told.{IsReport, IsToldText, IsUntoldText, report_status};
+ghost use Rattle.canvas_answer.specs.declared.reporting.Form.TheVariants.{Explained};
+ghost use Rattle.canvas_answer.specs.Answers.{AnswersPart, AnswersAll, bytes_of};
+ghost use Rattle.canvas_answer.specs.Told.{IsReport, IsToldText, IsUntoldText, IsEarlyText, report_status};
 
 use crate::answer::Answer;
 use crate::named_rows::known_rows;
@@ -140,15 +141,28 @@ impl Manner {
         stored: Option<&Report>,
         refusal: Refusal,
     ) -> Answer
-        ensures { (text : Text) × AnswersPart text refusal result }
+        ensures { (text : Text) × AnswersPart text refusal result
+            × IsEarlyText self.now.form (tree_of plans.now.shown) stored text }
     {
-        let text = match stored {
+        let text = self.early_text(alloc, plans, source, stored);
+        Answer::in_part(alloc, text, refusal)
+    }
+
+    fn early_text<T>(
+        &self,
+        alloc: Global,
+        plans: &Plans,
+        source: &Source<'_, T>,
+        stored: Option<&Report>,
+    ) -> Option<String>
+        ensures { IsEarlyText self.now.form (tree_of plans.now.shown) stored (bytes_of result) }
+    {
+        match stored {
             Some(report) if source.errors.is_empty() => {
                 self.text(alloc, &plans.shown, report).ok()
             }
             _ => None,
-        };
-        Answer::in_part(alloc, text, refusal)
+        }
     }
 }
 
@@ -174,7 +188,13 @@ fn explained<T>(
     plans: &Plans,
     report: &Report,
     source: &Source<'_, T>,
-) -> Result<String, Refusal> {
+) -> Result<String, Refusal>
+    ensures { (behaviour : Behaviour)
+        → report.now.rows ≡ states behaviour (tree_of plans.now.shown)
+        → source.now.errors.now ≡ []
+        → IfOk result
+        (λ text. IsToldText behaviour plans.now.shown Explained (string_bytes text)) }
+{
     let fates = fates(alloc, &plans.shown, report)?;
     let rows = source.named_rows(alloc, plans, report, &fates)?;
     Ok(explained_text(alloc, &plans.shown, &rows, &fates)?)

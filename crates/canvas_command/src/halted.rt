@@ -1,7 +1,7 @@
 //! Runs that ended early.
-ghost use Rattle.canvas_task.specs.Text.{Text};
-ghost use Rattle.canvas_answer.specs.Answers.{AnswersPart};
-ghost use Rattle.canvas_answer.specs.declared.refusal.Refusal.{Refusal};
+ghost use Rattle.std.specs.Prelude.{◌≡◌};
+ghost use Rattle.canvas_semantics.specs.Line.{tree_of};
+ghost use Rattle.canvas_command.specs.Runs.{IsEarlyReport, refusal_of, rows_in};
 
 use canvas_answer::answer::Answer;
 use canvas_answer::prepared::Plans;
@@ -12,7 +12,9 @@ use canvas_engine::{Cause, Report, RunFault};
 use std::alloc::Global;
 
 /// Why a run has no whole report, as the program says it.
-pub fn refused(fault: &RunFault) -> Refusal {
+pub fn refused(fault: &RunFault) -> Refusal
+    ensures { result ≡ refusal_of fault.now }
+{
     match fault {
         RunFault::BadWorkers => Refusal::BadWorkers,
         RunFault::BadTurn => Refusal::BadTurn,
@@ -24,7 +26,9 @@ pub fn refused(fault: &RunFault) -> Refusal {
 }
 
 /// What a run stored that ended early.
-fn stored(fault: &RunFault) -> Option<&Report> {
+fn stored(fault: &RunFault) -> Option<&Report>
+    ensures { result ≡ rows_in fault.now }
+{
     match fault {
         RunFault::Halted {
             rows: Some(report),
@@ -42,7 +46,7 @@ pub(crate) fn early<T>(
     source: &Source<'_, T>,
     fault: &RunFault,
 ) -> Answer
-    ensures { (text : Text) × (refusal : Refusal) × AnswersPart text refusal result }
+    ensures { IsEarlyReport manner.form (tree_of plans.now.shown) fault.now result }
 {
     manner.early(alloc, plans, source, stored(fault), refused(fault))
 }

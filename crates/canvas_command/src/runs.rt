@@ -1,9 +1,11 @@
 //! `canvas run` and `canvas turns`.
-ghost use Rattle.std.specs.Prelude.{◌≡◌, [], IfOk, None, false};
+ghost use Rattle.std.specs.Prelude.{◌≡◌, [], IfOk, IfErr, None, false};
 ghost use Rattle.canvas_answer.specs.Plans.{IsTextPlan};
 ghost use Rattle.canvas_semantics.specs.Line.{tree_of};
 ghost use Rattle.canvas_semantics.specs.States.{states};
 ghost use Rattle.canvas_task.specs.Text.{Text};
+ghost use Rattle.canvas_by_turns.specs.Correct.{IsRunFault};
+ghost use Rattle.canvas_engine.specs.Evidence.{IsThreadFault};
 ghost use Rattle.canvas_command.specs.Runs.{IsRunOf};
 
 use crate::halted::{early, refused};
@@ -27,8 +29,10 @@ fn report_of<S, T>(rt: &S, plan: &Plan, tasks: &T, workers: u32) -> Result<Repor
 where
     S: Threads + Wait + RandomSource + AllocGlobal + Sync,
     T: Tasks + Sync,
-    ensures { IfOk result
+    ensures ok { IfOk result
         (λ report. report.rows ≡ states (T.behaviour tasks.now) (tree_of plan.now)) }
+    ensures err { IfErr result
+        (IsThreadFault workers (states (T.behaviour tasks.now) (tree_of plan.now))) }
 {
     let alloc = rt.alloc();
     match run(rt, alloc, plan, tasks, workers, &OpenGate, &Stop::new()) {
@@ -67,7 +71,8 @@ where
     S: Threads + Wait + RandomSource + AllocGlobal + Sync,
     T: Tasks + Sync,
     ensures { source.now.is_renamed ≡ false → source.now.errors.now ≡ [] → IfOk result
-        (IsRunOf (T.behaviour source.now.tasks.now) source.now.shown.now manner.form manner.fails) }
+        (IsRunOf (T.behaviour source.now.tasks.now) source.now.shown.now (IsThreadFault workers)
+        manner.form manner.fails) }
 {
     let plans = lasting(Plans::of(rt.alloc(), source)?);
     match report_of(rt, plans.run(), source.tasks, workers) {
@@ -105,7 +110,8 @@ impl ByTurns<'_> {
     ) -> Result<Answer, Refusal>
         ensures { (bytes : Text) → IsTextPlan bytes plans.now.shown → plans.now.renamed ≡ None
             → source.now.errors.now ≡ [] → IfOk result (IsRunOf (T.behaviour source.now.tasks.now)
-            bytes self.now.manner.form self.now.manner.fails) }
+            bytes (IsRunFault self.now.workers self.now.turns.now) self.now.manner.form
+            self.now.manner.fails) }
     {
         let (plan, tasks) = (plans.run(), source.tasks);
         match run_turns_again(alloc, plan, tasks, self.workers, self.turns, self.again) {
@@ -127,7 +133,8 @@ impl ByTurns<'_> {
     ) -> Result<Answer, Refusal>
         ensures { (bytes : Text) → IsTextPlan bytes plans.now.shown → plans.now.renamed ≡ None
             → source.now.errors.now ≡ [] → IfOk result (IsRunOf (T.behaviour source.now.tasks.now)
-            bytes self.now.manner.form self.now.manner.fails) }
+            bytes (IsRunFault self.now.workers self.now.turns.now) self.now.manner.form
+            self.now.manner.fails) }
     {
         let Some(list) = names else {
             return self.shown(alloc, plans, source);
@@ -150,7 +157,8 @@ impl ByTurns<'_> {
         source: &Source<'_, T>,
     ) -> Result<Answer, Refusal>
         ensures { source.now.is_renamed ≡ false → source.now.errors.now ≡ [] → IfOk result
-            (IsRunOf (T.behaviour source.now.tasks.now) source.now.shown.now self.now.manner.form
+            (IsRunOf (T.behaviour source.now.tasks.now) source.now.shown.now
+            (IsRunFault self.now.workers self.now.turns.now) self.now.manner.form
             self.now.manner.fails) }
     {
         let plans = lasting(Plans::of(alloc, source)?);
@@ -168,7 +176,8 @@ pub(crate) fn answer_turns<T: Tasks>(
     source: &Source<'_, T>,
 ) -> Result<Answer, Refusal>
     ensures { source.now.is_renamed ≡ false → source.now.errors.now ≡ [] → IfOk result
-        (IsRunOf (T.behaviour source.now.tasks.now) source.now.shown.now manner.form manner.fails) }
+        (IsRunOf (T.behaviour source.now.tasks.now) source.now.shown.now
+        (IsRunFault workers turns.now) manner.form manner.fails) }
 {
     let once = ByTurns {
         workers,

@@ -14,6 +14,9 @@ use Rattle.canvas_semantics.proofs.SameReport.{same_report}
 use Rattle.canvas_turns.specs.Spending.{Entry}
 use Rattle.canvas_by_turns.specs.Correct.{AreWorkers, IsAsked, IsWholeAgain}
 use Rattle.canvas_history.specs.Callers.{told}
+use Rattle.canvas_rewrite.specs.Planned.{IsPlan}
+use Rattle.canvas_runs.specs.Courses.{course_of}
+use Rattle.canvas_engine.specs.Evidence.{IsRun}
 use Rattle.canvas_engine.specs.Headline.{Headline, OnlyWanted}
 use Rattle.canvas_engine.specs.Texts.{IsPlanOfText, IsTextAgain, IsTextFault, IsTextRun}
 use Rattle.canvas_engine.specs.steps.PlanTexts.{IsPlanFault}
@@ -35,16 +38,20 @@ same_text behaviour c all h e = ap (λ t. report_of t (rows_from 1 (states behav
 
 module _ (behaviour : Behaviour) (bytes : Text) (c : Tree) (all : Line) (plan : IsPlanOfText bytes c all) where
   pub ran_recorded : (may_want : ℕ → ℕ → Type 0) (n : ℕ) (r : Result (String Global × Records) TextFault)
-      → IfOk r (λ x. AreWorkers n × (string_bytes x.0 ≡ report_of (tree_of all) (rows_from 1 (states behaviour (tree_of all))))
-      × Headline behaviour all n (states behaviour (tree_of all)) x.1 × OnlyWanted may_want (told x.1.pass))
+      → IfOk r (λ x. (AreWorkers n × IsPlan all) × (string_bytes x.0 ≡ report_of (tree_of all) (rows_from 1 (states behaviour (tree_of all))))
+      × ((ran : IsRun behaviour all n (states behaviour (tree_of all)) x.1)
+      × Headline behaviour all n (states behaviour (tree_of all)) x.1 (course_of ran.run))
+      × OnlyWanted may_want (told x.1.pass))
       → IfOk r (λ x. IsTextRun behaviour may_want bytes n (string_bytes x.0) x.1)
   ran_recorded may_want n (Ok x) k = record {
     canvas = c;
     line = all;
     planned = plan;
-    workers = k.0;
+    plan = k.0.1;
+    workers = k.0.0;
     reported = k.1 ∙ same_text behaviour c all plan.same plan.tree;
-    ran = k.2;
+    ran = k.2.0;
+    headline = k.2.1;
     wanted = k.3;
   }
   ran_recorded may_want n (Err f) k = tt

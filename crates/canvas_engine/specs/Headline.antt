@@ -54,8 +54,9 @@ abbrev pub Completed : Line → ℕ → Course → Type 0
 Completed l g before =
     (t n : ℕ) × In (inr (table.part g t, table.count n)) before × IsCompleting (roster_of l) g n
 
-pub record Headline (behaviour : Behaviour) (l : Line) (n : ℕ) (rows : List State) (r : Records) :
-    Type 0 where
+-- Of a run, what each worker did, in its order: `did`.
+pub record Headline (behaviour : Behaviour) (l : Line) (n : ℕ) (rows : List State) (r : Records)
+    (did : ℕ → Course) : Type 0 where
   -- The states: each task has the one that evaluating the plan's tree gives.
   pub are : rows ≡ states behaviour (tree_of l)
   -- The histories: of this queue and of this table, which is the plan's, worker 0 has a pass and a
@@ -69,9 +70,7 @@ pub record Headline (behaviour : Behaviour) (l : Line) (n : ℕ) (rows : List St
   pub table_callers : HasCallers n r.seat.seen
   pub held : rows
       ≡ map (table.results (roster_of l) r.seat.seen).outcomes (numbers_from 1 (count_line l))
-  -- The workers: caller p of the queue and caller p of the table are one, which did this, in this
-  -- order.
-  pub did : ℕ → Course
+  -- The workers: caller p of the queue and caller p of the table are one, which did just `did p`.
   pub sent : (p : ℕ) → sent_in (did p) ≡ by p (published_in (told r.pass))
   pub called : (p : ℕ) → called_in (did p) ≡ by p (answered_calls r.seat.seen)
   -- The messages: each that is published is a task's, and of each task it is one at most; of those

@@ -14,6 +14,9 @@ use Rattle.canvas_semantics.specs.SameMeaning.{IsSame}
 use Rattle.canvas_semantics.specs.States.{states}
 use Rattle.canvas_turns.specs.Spending.{Entry}
 use Rattle.canvas_by_turns.specs.Correct.{AreWorkers, IsAsked, IsWholeAgain}
+use Rattle.canvas_rewrite.specs.Planned.{IsPlan}
+use Rattle.canvas_runs.specs.Courses.{course_of}
+use Rattle.canvas_engine.specs.Evidence.{IsRun}
 use Rattle.canvas_engine.specs.Headline.{Headline, OnlyWanted}
 use Rattle.canvas_by_turns.specs.declared.fault.RunFault.{RunFault}
 use Rattle.canvas_engine.specs.declared.threads.records.Records.{Records}
@@ -45,7 +48,9 @@ pub record IsTextRun (behaviour : Behaviour) (may_want : ℕ → ℕ → Type 0)
   pub planned : IsPlanOfText bytes canvas line
   pub workers : AreWorkers n
   pub reported : text ≡ report behaviour canvas
-  pub ran : Headline behaviour line n (states behaviour (tree_of line)) r
+  pub plan : IsPlan line
+  pub ran : IsRun behaviour line n (states behaviour (tree_of line)) r
+  pub headline : Headline behaviour line n (states behaviour (tree_of line)) r (course_of ran.run)
   pub wanted : OnlyWanted may_want (told r.pass)
 
 -- The text is the report of the canvas that the bytes read as, and m of the stores of a run of its

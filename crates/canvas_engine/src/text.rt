@@ -8,8 +8,10 @@ ghost use Rattle.canvas_semantics.specs.Line.{tree_of};
 ghost use Rattle.canvas_semantics.specs.Report.{report, report_of};
 ghost use Rattle.canvas_semantics.specs.States.{rows_from, states};
 ghost use Rattle.canvas_by_turns.specs.Correct.{AreWorkers, IsAsked, IsWholeAgain, IsRunFault};
-ghost use Rattle.canvas_engine.specs.Evidence.{IsThreadFault};
 ghost use Rattle.canvas_engine.specs.Headline.{Headline, OnlyWanted};
+ghost use Rattle.canvas_engine.specs.Evidence.{IsRun, IsThreadFault};
+ghost use Rattle.canvas_rewrite.specs.Planned.{IsPlan};
+ghost use Rattle.canvas_runs.specs.Courses.{course_of};
 ghost use Rattle.canvas_engine.specs.Texts.{IsPlanOfText, IsTextAgain, IsTextFault, IsTextRun};
 ghost use Rattle.canvas_engine.specs.declared.threads.records.Records.{Records};
 ghost use Rattle.canvas_engine.specs.steps.PlanTexts.{IsPlanFault, IsReadFault};
@@ -141,16 +143,20 @@ where
     R: Threads + Wait + RandomSource + AllocGlobal + Sync,
     T: Tasks + Sync,
     G: Gate + Sync,
-    ensures ok { IfOk result (λ r. AreWorkers workers
+    ensures ok { IfOk result (λ r. (AreWorkers workers × IsPlan plan.now)
         × (string_bytes r.0
         ≡ report_of (tree_of plan.now)
         (rows_from 1 (states (T.behaviour tasks.now) (tree_of plan.now))))
+        × ((ran : IsRun (T.behaviour tasks.now) plan.now workers
+        (states (T.behaviour tasks.now) (tree_of plan.now)) r.1)
         × Headline (T.behaviour tasks.now) plan.now workers
-        (states (T.behaviour tasks.now) (tree_of plan.now)) r.1
+        (states (T.behaviour tasks.now) (tree_of plan.now)) r.1 (course_of ran.run))
         × OnlyWanted (G.may_want gate.now) (told r.1.pass)) }
     ensures err { IfErr result (IsPlanFault
         (IsThreadFault workers (states (T.behaviour tasks.now) (tree_of plan.now)))) }
 {
+    // For the clause that it is a plan.
+    let _tasks = plan.tasks();
     match run(rt, alloc, plan, tasks, workers, gate, stop) {
         Ok((report, records)) => Ok((report_text(alloc, plan, &report)?, records)),
         Err(fault) => Err(TextFault::Run(fault)),

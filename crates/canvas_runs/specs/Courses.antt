@@ -1,11 +1,16 @@
 -- What one worker does, in its order: the messages that it publishes, and its calls of the table
 -- with their answers. That is more than the two histories say, which nothing compares in time.
 use mathlib.Core.Logic.{inl, inr}
-use Rattle.std.specs.Prelude.{ℕ, List, [], ◌∷◌, ◌⊎◌}
+use Rattle.std.specs.Prelude.{ℕ, eqb, cond, List, [], ◌∷◌, ◌++◌, ◌⊎◌, map}
+use Rattle.canvas_task.specs.Apply.{Behaviour}
 use Rattle.canvas_history.specs.History.{calls}
+use Rattle.canvas_semantics.specs.Line.{Line}
 use Rattle.canvas_envelope.specs.declared.envelope.Envelope.{Envelope}
 use Rattle.canvas_history.specs.Queue.{QueueEntry, publish}
-use Rattle.canvas_runs.specs.Calls.{TableAnswered}
+use Rattle.canvas_runs.specs.Calls.{TableAnswered, AskedAndAnswered}
+use Rattle.canvas_runs.specs.Core.{Ask, Reply, to_queue, to_table, from_queue, from_table}
+use Rattle.canvas_runs.specs.Run.{Run}
+use Rattle.canvas_runs.specs.Worker.{sealed}
 
 abbrev pub Course : Type 0
 Course = List (Envelope ⊎ TableAnswered)
@@ -28,3 +33,20 @@ abbrev pub published_in : List (QueueEntry Envelope) → List (ℕ × Envelope)
 published_in [] = []
 published_in (calls p (publish e) a ∷ es) = (p, e) ∷ published_in es
 published_in (x ∷ es) = published_in es
+
+-- the course of a core run: its publishes that were accepted, and its calls of the table
+abbrev pub step_of : Ask Envelope → Reply Envelope → Course
+step_of (to_queue (publish e)) (from_queue x) = inl e ∷ []
+step_of (to_table c) (from_table r) = inr (c, r) ∷ []
+step_of a r = []
+
+abbrev pub steps : List (AskedAndAnswered Envelope) → Course
+steps [] = []
+steps (x ∷ xs) = step_of x.0 x.1 ++ steps xs
+
+-- the course of each caller of a run: that of its core run. Worker 0 publishes the first messages
+-- before, and reads the tasks after
+abbrev pub course_of : {behaviour : Behaviour} {l : Line} → Run behaviour l → ℕ → Course
+course_of r p =
+    map inl (cond (eqb p 0) (map sealed r.opening) [])
+    ++ (steps (r.core p) ++ map inr (cond (eqb p 0) r.closing []))

@@ -5,11 +5,10 @@ ghost use Rattle.canvas_runs.specs.Book.{Book as Known};
 ghost use Rattle.canvas_core.specs.Asks.{FoundInRange, FoundOf};
 ghost use Rattle.canvas_core.specs.declared.ask.Ask.{Ask as Asked};
 
-use crate::canvases::{CHORD, ONE, plan_of};
-use crate::tasks::task;
 use canvas_backend::{PlainBackend, Stored};
 use canvas_message::{Envelope, Letter, encode, first_messages};
 use canvas_rewrite::Plan;
+use canvas_samples::{CHORD, ONE, plan_of, task};
 use canvas_task::{BuiltinTasks, ListOf, Memory, Outcome};
 use canvas_worker::{Ask, Core, Reply};
 use std::alloc::{AllocError, Global};

@@ -3,10 +3,9 @@
 ghost use Rattle.std.specs.Prelude.{All};
 ghost use Rattle.canvas_task.specs.Apply.{IsInRange};
 
-use crate::canvases::{CHAIN, CHORD, SKIPPED, plan_of};
-use crate::tasks::{ZERO_DIVISION, group, raised_by_2, task};
 use canvas_message::{Message, PartCall, Todo, after, body_after, first_messages};
 use canvas_rewrite::Plan;
+use canvas_samples::{CHAIN, CHORD, SKIPPED, ZERO_DIVISION, group, plan_of, raised_by_2, task};
 use canvas_task::{Arg, ListOf, Outcome, TaskNo, TextOf};
 use std::alloc::Global;
 use std::slice;

@@ -1,21 +1,15 @@
-//! The public surface: each call at the path and in the form that users write it, and the rows that
-//! were worked out by hand for it. A form that changes doesn't compile here.
+//! The public surface without runs: each call at the path and in the form that users write it, and
+//! the rows that were worked out by hand for it. A form that changes doesn't compile here.
 #![tactic(auto)]
 
-#[cfg(test)]
-mod canvases;
 #[cfg(test)]
 mod cores;
 #[cfg(test)]
 mod effects;
 #[cfg(test)]
-mod gate;
-#[cfg(test)]
 mod messages;
 #[cfg(test)]
 mod plans;
-#[cfg(test)]
-mod program;
 #[cfg(test)]
 mod queue;
 #[cfg(test)]
@@ -24,11 +18,5 @@ mod signatures;
 mod table;
 #[cfg(test)]
 mod tasks;
-#[cfg(test)]
-mod texts;
-#[cfg(test)]
-mod threads;
-#[cfg(test)]
-mod turns;
 #[cfg(test)]
 mod worker;

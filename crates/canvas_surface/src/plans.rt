@@ -1,8 +1,7 @@
 //! The calls of `canvas_rewrite`.
 
-use crate::canvases::{CHORD, SKIPPED, TEN, plan_of};
-use crate::tasks::{group, task};
 use canvas_rewrite::{Ends, Plan, node_of, normalise};
+use canvas_samples::{CHORD, SKIPPED, TEN, group, plan_of, task};
 use canvas_sig::{Canvas, read_canvas, write_node};
 use std::alloc::Global;
 

@@ -1,6 +1,6 @@
 //! The calls of `canvas_sig`.
 
-use crate::canvases::CHAIN;
+use canvas_samples::CHAIN;
 use canvas_sig::{
     Canvas, Node, SigFault, read_arg, read_canvas, write_arg, write_canvas, write_node,
 };

@@ -6,10 +6,9 @@ ghost use Rattle.canvas_history.specs.Table.{no_results};
 ghost use Rattle.canvas_backend.specs.Plain.{held};
 ghost use Rattle.canvas_task.specs.Apply.{IsInRange};
 
-use crate::canvases::{CHORD, EMPTY_GROUP, plan_of};
-use crate::tasks::{ZERO_DIVISION, group, task};
 use canvas_backend::{Backend, BackendSeat, PlainBackend, Stored};
 use canvas_rewrite::Plan;
+use canvas_samples::{CHORD, EMPTY_GROUP, ZERO_DIVISION, group, plan_of, task};
 use canvas_task::{GroupNo, Memory, Outcome, TaskNo};
 use canvas_worker::Book;
 use std::alloc::Global;

@@ -1,42 +1,15 @@
 //! The calls of `canvas_task`.
 
-ghost use Rattle.std.specs.Prelude.{◌≡◌, ◌≤◌, ◌-ℤ◌, pos, Ok};
-ghost use Rattle.canvas_task.specs.Apply.{IsInRange};
+ghost use Rattle.std.specs.Prelude.{pos, Ok};
 
+use canvas_samples::{Difference, group, raised_by_2, task};
 use canvas_task::{
     Add, AddFault, Arg, Div, Fault, GroupNo, Ident, Kind, ListOf, LogError, MapOf, Mul, NotAdded,
-    OfTwo, Outcome, Registry, Task, TaskNo, TaskOfTwo, TextOf, Why, Xsum, apply, group_of_text,
-    group_text, name_ok, outcome_of, registry_of, task_of_text, task_text, word_of,
+    Outcome, Registry, Task, TaskNo, TaskOfTwo, TextOf, Xsum, apply, group_of_text, group_text,
+    name_ok, outcome_of, registry_of, task_of_text, task_text, word_of,
 };
 use std::alloc::{AllocError, Global};
 use std::collections::BTreeMap;
-
-pub(crate) fn task(number: u32) -> TaskNo
-    requires { 1 ≤ number }
-    ensures { result ≡ number }
-{
-    TaskNo::new(number).unwrap()
-}
-
-pub(crate) fn group(number: u32) -> GroupNo
-    requires { 1 ≤ number }
-    ensures { result ≡ number }
-{
-    GroupNo::new(number).unwrap()
-}
-
-/// What a division by zero comes to.
-pub(crate) const ZERO_DIVISION: Outcome = Outcome::Failure(Fault::Plain(Kind::ZeroDivision));
-
-/// What the body of a chord fails with if the second task is the first that failed.
-pub(crate) fn raised_by_2() -> Outcome
-    ensures { IsInRange result }
-{
-    Outcome::Failure(Fault::Chord {
-        dep: task(2),
-        why: Why::Plain(Kind::ZeroDivision),
-    })
-}
 
 /// Whether the identifiers of task 10 and of group 10 read back, and neither reads as the other.
 fn identifiers_read_back() -> bool {
@@ -93,18 +66,6 @@ fn values(rt: HostRuntime) {
 }
 
 // ---- registries
-
-/// `tests.sub(x, y)`: the difference.
-#[derive(Clone, Copy)]
-pub(crate) struct Difference;
-
-impl OfTwo for Difference {
-    ghost answer = { λ _ x y. Ok (x -ℤ y) };
-
-    fn answer(&self, x: i64, y: i64) -> Result<i128, Kind> {
-        Ok(i128::from(x) - i128::from(y))
-    }
-}
 
 /// A task written as users write one of their own: it always answers 2^60 + 1.
 #[derive(Drop)]

@@ -3,11 +3,11 @@
 ghost use Rattle.std.specs.Prelude.{◌≡◌};
 ghost use Rattle.canvas_history.specs.Roster.{roster_of};
 
-use crate::canvases::{CHAIN, plan_of};
 use canvas_backend::{Backend, BackendSeat};
 use canvas_broker::{Broker, BrokerPass};
 use canvas_message::{Letter, first_messages, seal};
 use canvas_rewrite::Plan;
+use canvas_samples::{CHAIN, plan_of};
 use canvas_task::{Add, AddFault, Div, Ident, LogError, Memory, Mul, Registry, Xsum, registry_of};
 use canvas_worker::{InFlight, OpenGate, Record, Stop, Worker, law_of_workers};
 use futures::executor::block_on;

@@ -1,5 +1,8 @@
 //! The count that tells idle workers whether more may come.
 
+mod queue;
+
+pub(crate) use queue::CountedQueue;
 use std::sync::Wait;
 use std::sync::atomic::{AtomicU64, Ordering};
 use std::time::Duration;
@@ -14,13 +17,6 @@ pub struct InFlight {
     count: AtomicU64,
 }
 
-/// That one more envelope is counted in flight. Only the count gives it, and what goes onto the
-/// queue takes it, so an envelope is counted before another worker can take and acknowledge it.
-#[derive(Drop)]
-pub(crate) struct Counted {
-    _one: (),
-}
-
 impl InFlight {
     /// With so many envelopes that are published already.
     pub fn new(count: u64) -> InFlight {
@@ -29,9 +25,9 @@ impl InFlight {
         }
     }
 
-    pub(crate) fn add(&self) -> Counted {
+    // For the queue of workers alone.
+    fn add(&self) {
         self.count.fetch_add(1, Ordering::SeqCst);
-        Counted { _one: () }
     }
 
     /// One envelope is acknowledged, unless the worker is inside its script. A count of none stays

@@ -1,7 +1,6 @@
 //! Workers of a plan, each a future at a broker and a backend that it shares with others.
 #![tactic(auto)]
 
-mod counted_queue;
 mod gate;
 mod in_flight;
 mod in_rounds;

@@ -14,7 +14,7 @@ ghost use Rattle.canvas_worker.specs.declared.working.Said.TheVariants.{Wait, Ag
 
 mod answering;
 
-use crate::counted_queue::CountedQueue;
+use crate::in_flight::CountedQueue;
 use crate::source::Source;
 use crate::{Cause, Core, Gate, InFlight, Record, Reply, Stop};
 use canvas_backend::{Backend, BackendSeat};
@@ -110,7 +110,7 @@ impl<'a, R: Wait> Working<'a, R> {
             rt,
             alloc,
             number,
-            queue: CountedQueue::of(broker),
+            queue: CountedQueue::of(broker, flight),
             pass,
             backend,
             seat,
@@ -228,13 +228,10 @@ impl<'a, R: Wait> Working<'a, R> {
     {
         let (rt, queue) = (self.rt, self.queue);
         match self.copied() {
-            Ok(envelope) => {
-                let counted = self.flight.add();
-                match queue.redeliver(rt, &mut self.pass, envelope, counted) {
-                    Ok(()) => Ok(()),
-                    Err(_refused) => Err(self.fail()),
-                }
-            }
+            Ok(envelope) => match queue.redeliver(rt, &mut self.pass, envelope) {
+                Ok(()) => Ok(()),
+                Err(_refused) => Err(self.fail()),
+            },
             Err(_) => Err(self.fail()),
         }
     }

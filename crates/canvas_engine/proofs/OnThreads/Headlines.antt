@@ -19,12 +19,12 @@ use Rattle.canvas_history.specs.Table.{results}
 use Rattle.canvas_history.specs.Roster.{roster_of}
 use Rattle.canvas_history.specs.Queue.{QueueEntry, publish, take, redeliver, queue_of}
 use Rattle.canvas_runs.specs.Book.{book_of}
-use Rattle.canvas_runs.specs.Courses.{Course, sent_in, published_in}
+use Rattle.canvas_runs.specs.Courses.{Course, sent_in, published_in, course_of}
 use Rattle.canvas_runs.specs.Law as law
 use Rattle.canvas_runs.specs.Law.{SecondPart}
 use Rattle.canvas_runs.specs.Worker.{opened}
 use Rattle.canvas_runs.proofs.Laws.Bodies.{start_sends}
-use Rattle.canvas_runs.proofs.Laws.Courses.{course_of, course_sends, course_calls, completed_before}
+use Rattle.canvas_runs.proofs.Laws.Courses.{course_sends, course_calls, completed_before}
 use Rattle.canvas_runs.proofs.Laws.SecondLaw.{second_part}
 use Rattle.canvas_callers.specs.Crew.{numbers_along}
 use Rattle.canvas_engine.specs.Evidence.{IsRun}
@@ -87,16 +87,15 @@ module _ (l : Line) where
       ∙ (ap (λ o. law.of_task l k o + publications k es) (sym h.1)
       ∙ ap (λ m. law.of_task l k (opened (book_of l) e) + m) (same_count k es (λ c e a i. f c e a (inr i))))
 
-pub headline : (behaviour : Behaviour) (l : Line) (n : ℕ) (rows : List State) (r : Records) → IsPlan l → IsRun behaviour l n rows r
-    → Headline behaviour l n rows r
+pub headline : (behaviour : Behaviour) (l : Line) (n : ℕ) (rows : List State) (r : Records) → IsPlan l → (h : IsRun behaviour l n rows r)
+    → Headline behaviour l n rows r (course_of h.run)
 headline behaviour l n rows r plan h =
     let numbers = along 1 h.ran.to.ran.mates ∙ ap (λ m. numbers_from 1 m) h.workers in
     let second : SecondPart behaviour l h.run = second_part behaviour l plan h.run h.closed in
     let its : ℕ → State = λ k. state_of k (eval behaviour (tree_of l) nothing).rows in
     let opens : Opens l (told r.pass) = λ p e a i. let q = h.by_cause p e a i in (q.0, q.3) in
     let count : (k : ℕ) → publications k (told r.pass) ≡ law.publications l k (told r.pass) = λ k. same_count l k (told r.pass) opens in
-    let course : ℕ → Course = λ p. course_of behaviour l plan h.run p in
-    let sent : (p : ℕ) → sent_in (course p) ≡ by p (published_in (told r.pass)) =
+    let sent : (p : ℕ) → sent_in (course_of h.run p) ≡ by p (published_in (told r.pass)) =
     λ p. course_sends behaviour l plan h.run p ∙ ap (λ log. by p (published_in log)) h.queue in
     record {
       are = h.are;
@@ -110,7 +109,6 @@ headline behaviour l n rows r plan h =
           ∙ (ap (λ m. map its (numbers_from 1 m)) (count_elements l)
           ∙ same_rows its (results (roster_of l) r.seat.seen).outcomes
           (λ k. sym (ap (λ log. (results (roster_of l) log).outcomes k) (sym h.table) ∙ second.rows k)) (numbers_from 1 (count_line l)));
-      did = course;
       sent = sent;
       called = λ p. course_calls behaviour l plan h.run p ∙ ap (λ log. by p (answered_calls log)) h.table;
       named = λ x i. let a = entry_of x.0 x.1 (told r.pass) i in let q = opens x.0 x.1 a.0 a.1 in ap is_some (opened_names (book_of l) x.1 q.0 q.1);
@@ -130,6 +128,6 @@ headline behaviour l n rows r plan h =
 
 pub headline_ok : {E : Type 0} (behaviour : Behaviour) (l : Line) (n : ℕ) (x : Result (Report × Records) E) → IsPlan l
     → IfOk x (λ r. IsRun behaviour l n r.0.rows r.1)
-    → IfOk x (λ r. Headline behaviour l n r.0.rows r.1)
-headline_ok behaviour l n (Ok r) plan h = headline behaviour l n r.0.rows r.1 plan h
+    → IfOk x (λ r. (ran : IsRun behaviour l n r.0.rows r.1) × Headline behaviour l n r.0.rows r.1 (course_of ran.run))
+headline_ok behaviour l n (Ok r) plan h = (h, headline behaviour l n r.0.rows r.1 plan h)
 headline_ok behaviour l n (Err e) plan h = tt

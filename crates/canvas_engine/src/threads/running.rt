@@ -2,10 +2,10 @@
 ghost use Rattle.std.specs.Prelude.{◌≡◌, ◌≤◌, suc, [], ◌∷◌, IfOk, IfErr};
 ghost use Rattle.std.specs.Vec.{vec_capacity};
 ghost use Rattle.canvas_semantics.specs.Line.{tree_of};
-ghost use Rattle.canvas_rewrite.specs.Planned.{IsPlan};
 ghost use Rattle.canvas_history.specs.Callers.{told};
 ghost use Rattle.canvas_history.specs.Roster.{roster_of};
 ghost use Rattle.canvas_callers.specs.Crew.{first_pass, first_seat};
+ghost use Rattle.canvas_runs.specs.Courses.{course_of};
 ghost use Rattle.canvas_semantics.specs.States.{states};
 ghost use Rattle.canvas_by_turns.specs.Correct.{AreWorkers};
 ghost use Rattle.canvas_engine.specs.Evidence.{IsRun, IsThreadFault};
@@ -184,12 +184,11 @@ where
     R: Threads + Wait + RandomSource + AllocGlobal + Sync,
     T: Tasks + Sync,
     G: Gate + Sync,
-    // the promise
+    // the promise; what each worker did is the course of its core run
     ensures headline { IfOk result
-        (λ r. Headline (T.behaviour tasks.now) plan.now workers r.0.rows r.1) }
-    // what it follows from, and more of each worker
-    ensures ok { IfOk result
-        (λ r. AreWorkers workers × IsRun (T.behaviour tasks.now) plan.now workers r.0.rows r.1) }
+        (λ r. (ran : IsRun (T.behaviour tasks.now) plan.now workers r.0.rows r.1)
+        × Headline (T.behaviour tasks.now) plan.now workers r.0.rows r.1 (course_of ran.run)) }
+    ensures workers { IfOk result (λ _. AreWorkers workers) }
     // what is delivered again, the gate may have wanted
     ensures wanted { IfOk result (λ r. OnlyWanted (G.may_want gate.now) (told r.1.pass)) }
     ensures err { IfErr result

@@ -20,7 +20,7 @@ use Rattle.canvas_history.specs.Queue.{QueueEntry, publish, take, redeliver}
 use Rattle.canvas_runs.specs.Book.{book_of}
 use Rattle.canvas_runs.specs.Calls.{QueueAnswered, TableAnswered, AskedAndAnswered, CoreCall, makes, acknowledges, FollowsScripts, scripts_all, scripts_publish, scripts_list_take, scripts_core_take, scripts_again, scripts_ack, broker_call, core_call, backend_call, broker_calls, core_calls, backend_calls}
 use Rattle.canvas_runs.specs.Core.{Ask, Reply, to_queue, to_table, ack, from_queue, from_table, acked, taking, IsCoreRun, answered}
-use Rattle.canvas_runs.specs.Courses.{Course, sent_in, called_in, published_in}
+use Rattle.canvas_runs.specs.Courses.{Course, sent_in, called_in, published_in, step_of, steps, course_of}
 use Rattle.canvas_runs.specs.Logs.{queue_calls}
 use Rattle.canvas_runs.specs.Run.{Run, published_all}
 use Rattle.canvas_runs.specs.Worker.{sealed, opened}
@@ -38,15 +38,6 @@ use Rattle.canvas_runs.proofs.Lists.Words.{each_left}
 
 abbrev Asked : Type 0
 Asked = AskedAndAnswered Envelope
-
-abbrev step_of : Ask Envelope → Reply Envelope → Course
-step_of (to_queue (publish e)) (from_queue x) = inl e ∷ []
-step_of (to_table c) (from_table r) = inr (c, r) ∷ []
-step_of a r = []
-
-abbrev steps : List Asked → Course
-steps [] = []
-steps (x ∷ xs) = step_of x.0 x.1 ++ steps xs
 
 sent_both : (xs ys : Course) → sent_in (xs ++ ys) ≡ sent_in xs ++ sent_in ys
 sent_both [] ys = refl
@@ -265,15 +256,11 @@ module _ (behaviour : Behaviour) (l : Line) (plan : IsPlan l) (r : Run behaviour
   abbrev closing_of : ℕ → List TableAnswered
   closing_of p = cond (eqb p 0) r.closing []
 
-  -- what a worker does, in its order
-  abbrev pub course_of : ℕ → Course
-  course_of p = sends (opening_of p) ++ (steps (r.core p) ++ called (closing_of p))
-
   opening_sent : (b : Bool) → sends_of (map makes (cond b (published_all (map sealed r.opening)) [])) ≡ cond b (map sealed r.opening) []
   opening_sent true = sends_all (map sealed r.opening)
   opening_sent false = refl
 
-  pub course_sends : (p : ℕ) → sent_in (course_of p) ≡ by p (published_in r.queue)
+  pub course_sends : (p : ℕ) → sent_in (course_of r p) ≡ by p (published_in r.queue)
   course_sends p =
       sent_both (sends (opening_of p)) (steps (r.core p) ++ called (closing_of p))
       ∙ (ap₂ (λ a b. a ++ b) (sent_sends (opening_of p) ∙ sym (opening_sent (eqb p 0)))
@@ -282,7 +269,7 @@ module _ (behaviour : Behaviour) (l : Line) (plan : IsPlan l) (r : Run behaviour
       ∙ (sym (sends_both (map makes (cond (eqb p 0) (published_all (map sealed r.opening)) [])) (core_calls (r.core p)))
       ∙ (follows_sends (r.follows p) ∙ listed_by p r.queue)))
 
-  pub course_calls : (p : ℕ) → called_in (course_of p) ≡ by p (answered_calls r.table)
+  pub course_calls : (p : ℕ) → called_in (course_of r p) ≡ by p (answered_calls r.table)
   course_calls p =
       called_both (sends (opening_of p)) (steps (r.core p) ++ called (closing_of p))
       ∙ (ap (λ a. a ++ called_in (steps (r.core p) ++ called (closing_of p))) (called_sends (opening_of p))
@@ -325,7 +312,7 @@ module _ (behaviour : Behaviour) (l : Line) (plan : IsPlan l) (r : Run behaviour
   same_message : (c d : Content) → ◌≡◌ {A = Option Content} (Some c) (Some d) → c ≡ d
   same_message c d e = cc
 
-  pub completed_before : (g p : ℕ) (e : Envelope) (before after : Course) (c : Content) (v : Event) → course_of p ≡ before ++ inl e ∷ after
+  pub completed_before : (g p : ℕ) (e : Envelope) (before after : Course) (c : Content) (v : Event) → course_of r p ≡ before ++ inl e ∷ after
       → opened (book_of l) e ≡ Some c → DoesIn behaviour l v (job.publish c) → In {X = ℕ × ℕ} (g, number_of c.own) (bodies l) → Completing g before
   completed_before g p e before after c v is opens does i =
       ⊎_elim (λ j. absurd (not_first (in_opening (eqb p 0) e j))) (λ s. in_core s)

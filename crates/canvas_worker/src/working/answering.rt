@@ -95,16 +95,13 @@ impl<R: Wait> Working<'_, R> {
     {
         let (rt, queue) = (self.rt, self.queue);
         match self.core.envelope() {
-            Some(envelope) => {
-                let counted = self.flight.add();
-                match queue.publish(rt, &mut self.pass, envelope, counted) {
-                    Ok(()) => {
-                        self.published = self.published.saturating_add(1);
-                        self.reply(tasks, Reply::Published)
-                    }
-                    Err(_refused) => Err(self.fail()),
+            Some(envelope) => match queue.publish(rt, &mut self.pass, envelope) {
+                Ok(()) => {
+                    self.published = self.published.saturating_add(1);
+                    self.reply(tasks, Reply::Published)
                 }
-            }
+                Err(_refused) => Err(self.fail()),
+            },
             None => unreachable!(),
         }
     }

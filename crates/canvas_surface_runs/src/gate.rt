@@ -1,9 +1,9 @@
 //! A gate that waits until every worker's number has asked it: workers that are polled in turn on
 //! one thread fail it.
 
-use crate::canvases::{TEN, TEN_REPORT, plan_of};
 use canvas_engine::{Tally, run, run_text_threads};
 use canvas_rewrite::Plan;
+use canvas_samples::{TEN, TEN_REPORT, plan_of};
 use canvas_task::{Add, AddFault, Div, Ident, LogError, Mul, Registry, TaskNo, Xsum, registry_of};
 use canvas_worker::{Gate, Stop};
 use std::alloc::{AllocGlobal, Global};

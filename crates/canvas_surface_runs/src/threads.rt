@@ -1,10 +1,10 @@
 //! Runs on threads: faults, sums of the workers' counts, a stop, and reports.
 
-use crate::canvases::{CHORD, CHORD_REPORT, EMPTY_GROUP, hundred_planned, plan_of};
 use canvas_engine::{
     Cause, Report, RunFault, Tally, TextFault, report_text, run, run_text_threads,
 };
 use canvas_rewrite::Plan;
+use canvas_samples::{CHORD, CHORD_REPORT, EMPTY_GROUP, hundred_planned, plan_of};
 use canvas_task::{Add, AddFault, Div, Ident, LogError, Mul, Registry, TaskNo, Xsum, registry_of};
 use canvas_worker::{Gate, OpenGate, Stop};
 use std::alloc::{AllocGlobal, Global};

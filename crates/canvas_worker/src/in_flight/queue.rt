@@ -1,4 +1,4 @@
-//! The queue as a worker has it: what goes onto it is counted in flight before.
+//! The queue as a worker has it: it counts an envelope as in flight before it adds it.
 
 ghost use Rattle.std.specs.Prelude.{◌≡◌, [], ◌∷◌, Some, None, IfNone, IfSome, OnOk, MatchResult, MatchOption};
 ghost use Rattle.canvas_history.specs.History.{calls};
@@ -6,23 +6,25 @@ ghost use Rattle.canvas_history.specs.Callers.{told, Adds};
 ghost use Rattle.canvas_history.specs.Queue.{publish, take, redeliver, HasTaken, takes_of};
 ghost use Rattle.canvas_history.specs.Passes.{Stands, CouldStand, Took, Empties};
 
-use crate::in_flight::Counted;
+use crate::InFlight;
 use canvas_broker::{Batch, Broker, BrokerPass, Refused};
 use canvas_envelope::Letter;
 use std::sync::Wait;
 
-/// The queue of a run, for which an envelope has to be counted before it is published or delivered
-/// again: here is no count, so none can come late. Its calls are the broker's.
+/// The queue of a run, which counts an envelope and then publishes it or delivers it again: another
+/// worker may take and acknowledge it at once. Workers have no other queue, and nothing else adds to
+/// the count. Its calls are the broker's.
 #[derive(Clone, Copy)]
 pub(crate) struct CountedQueue<'a> {
     broker: &'a Broker<Letter>,
+    flight: &'a InFlight,
 }
 
 impl<'a> CountedQueue<'a> {
-    pub(crate) fn of(broker: &'a Broker<Letter>) -> CountedQueue<'a>
+    pub(crate) fn of(broker: &'a Broker<Letter>, flight: &'a InFlight) -> CountedQueue<'a>
         ensures { result.broker.now ≡ broker.now }
     {
-        CountedQueue { broker }
+        CountedQueue { broker, flight }
     }
 
     pub(crate) fn publish<R: Wait>(
@@ -30,7 +32,6 @@ impl<'a> CountedQueue<'a> {
         rt: &R,
         pass: &mut BrokerPass<Letter>,
         envelope: Letter,
-        _counted: Counted,
     ) -> Result<(), Refused<Letter>>
         requires { pass.old.of ≡ self.now.broker.now }
         ensures broker { pass.new.of ≡ self.now.broker.now }
@@ -40,6 +41,7 @@ impl<'a> CountedQueue<'a> {
         ensures own { OnOk result
             (Adds pass.old (calls pass.old.name (publish envelope) None ∷ []) pass.new) }
     {
+        self.flight.add();
         self.broker.publish(rt, pass, envelope)
     }
 
@@ -48,7 +50,6 @@ impl<'a> CountedQueue<'a> {
         rt: &R,
         pass: &mut BrokerPass<Letter>,
         envelope: Letter,
-        _counted: Counted,
     ) -> Result<(), Refused<Letter>>
         requires same { pass.old.of ≡ self.now.broker.now }
         requires taken { HasTaken (told pass.old) pass.old.name envelope }
@@ -59,6 +60,7 @@ impl<'a> CountedQueue<'a> {
         ensures own { OnOk result
             (Adds pass.old (calls pass.old.name (redeliver envelope) None ∷ []) pass.new) }
     {
+        self.flight.add();
         self.broker.redeliver(rt, pass, envelope)
     }
 

@@ -1,11 +1,12 @@
 //! Runs by turns on one thread: faults, lists of turns, steps, and messages delivered again.
 
-use crate::canvases::{CHAIN, CHORD, UNLINKED, hundred_planned, plan_of};
-use crate::tasks::{ZERO_DIVISION, raised_by_2, task};
 use canvas_engine::{
     Cause, Report, RunFault, When, read_turns, run_turns, run_turns_again, run_turns_within,
 };
 use canvas_rewrite::Plan;
+use canvas_samples::{
+    CHAIN, CHORD, UNLINKED, ZERO_DIVISION, hundred_planned, plan_of, raised_by_2, task,
+};
 use canvas_task::{
     Add, AddFault, Div, Ident, LogError, Mul, Outcome, Registry, TaskNo, Xsum, registry_of,
 };

@@ -1,7 +1,7 @@
 //! The program as one call.
 
-use crate::canvases::{CHAIN, CHAIN_REPORT};
 use canvas_command::command;
+use canvas_samples::{CHAIN, CHAIN_REPORT};
 use canvas_task::{Add, AddFault, Div, Ident, LogError, Mul, Registry, Xsum, registry_of};
 use std::alloc::{AllocError, AllocGlobal, Global};
 use std::random::RandomSource;

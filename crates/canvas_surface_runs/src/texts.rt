@@ -1,8 +1,7 @@
 //! Runs of texts: their reports, and which fault comes first.
 
-use crate::canvases::{CHAIN, CHAIN_REPORT, CHORD, CHORD_REPORT, DIFFERENCE};
-use crate::tasks::Difference;
 use canvas_engine::{RunFault, TextFault, run_text};
+use canvas_samples::{CHAIN, CHAIN_REPORT, CHORD, CHORD_REPORT, DIFFERENCE, Difference};
 use canvas_sig::SigFault;
 use canvas_task::{
     Add, AddFault, Div, Ident, LogError, Mul, Registry, TaskOfTwo, Xsum, registry_of,

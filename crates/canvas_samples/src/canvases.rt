@@ -5,25 +5,25 @@ use canvas_sig::{Canvas, read_canvas};
 use std::alloc::{AllocError, Global};
 
 /// `add(2, 2)`.
-pub(crate) const ONE: &str = r#"{"task":"tasks.add","args":[2,2]}"#;
+pub const ONE: &str = r#"{"task":"tasks.add","args":[2,2]}"#;
 
 /// `add(4, 4) | mul(8)`.
-pub(crate) const CHAIN: &str =
+pub const CHAIN: &str =
     r#"{"task":"celery.chain","subtask_type":"chain","kwargs":{"tasks":[{"task":"tasks.add","args":[4,4]},{"task":"tasks.mul","args":[8]}]}}"#;
 
 /// Its report.
-pub(crate) const CHAIN_REPORT: &str = concat!(
+pub const CHAIN_REPORT: &str = concat!(
     "00000000-0000-8000-8000-000000000001 tasks.add SUCCESS 8\n",
     "00000000-0000-8000-8000-000000000002 tasks.mul SUCCESS 64\n",
     "result 64\n"
 );
 
 /// A group of `add(i, i)` for i from 0 to 9.
-pub(crate) const TEN: &str =
+pub const TEN: &str =
     r#"{"task":"celery.group","subtask_type":"group","kwargs":{"tasks":[{"task":"tasks.add","args":[0,0]},{"task":"tasks.add","args":[1,1]},{"task":"tasks.add","args":[2,2]},{"task":"tasks.add","args":[3,3]},{"task":"tasks.add","args":[4,4]},{"task":"tasks.add","args":[5,5]},{"task":"tasks.add","args":[6,6]},{"task":"tasks.add","args":[7,7]},{"task":"tasks.add","args":[8,8]},{"task":"tasks.add","args":[9,9]}]}}"#;
 
 /// Its report.
-pub(crate) const TEN_REPORT: &str = concat!(
+pub const TEN_REPORT: &str = concat!(
     "00000000-0000-8000-8000-000000000001 tasks.add SUCCESS 0\n",
     "00000000-0000-8000-8000-000000000002 tasks.add SUCCESS 2\n",
     "00000000-0000-8000-8000-000000000003 tasks.add SUCCESS 4\n",
@@ -39,11 +39,11 @@ pub(crate) const TEN_REPORT: &str = concat!(
 
 /// `chord([add(4, 4), div(1, 0), add(8, 8)], xsum())`, the body with the error callback
 /// `log_error()`.
-pub(crate) const CHORD: &str =
+pub const CHORD: &str =
     r#"{"task":"celery.chord","subtask_type":"chord","kwargs":{"header":[{"task":"tasks.add","args":[4,4]},{"task":"tasks.div","args":[1,0]},{"task":"tasks.add","args":[8,8]}],"body":{"task":"tasks.xsum","options":{"link_error":[{"task":"tasks.log_error"}]}}}}"#;
 
 /// Its report.
-pub(crate) const CHORD_REPORT: &str = concat!(
+pub const CHORD_REPORT: &str = concat!(
     "00000000-0000-8000-8000-000000000001 tasks.add SUCCESS 8\n",
     "00000000-0000-8000-8000-000000000002 tasks.div FAILURE ZeroDivisionError\n",
     "00000000-0000-8000-8000-000000000003 tasks.add SUCCESS 16\n",
@@ -54,30 +54,23 @@ pub(crate) const CHORD_REPORT: &str = concat!(
 );
 
 /// `div(1, 0) | group(add(1), add(2)) | xsum()`.
-pub(crate) const SKIPPED: &str =
+pub const SKIPPED: &str =
     r#"{"task":"celery.chain","subtask_type":"chain","kwargs":{"tasks":[{"task":"tasks.div","args":[1,0]},{"task":"celery.group","subtask_type":"group","kwargs":{"tasks":[{"task":"tasks.add","args":[1]},{"task":"tasks.add","args":[2]}]}},{"task":"tasks.xsum"}]}}"#;
 
 /// `div(1, 0)` with the link `ident()`.
-pub(crate) const UNLINKED: &str =
+pub const UNLINKED: &str =
     r#"{"task":"tasks.div","args":[1,0],"options":{"link":[{"task":"tasks.ident"}]}}"#;
 
-/// Its report.
-pub(crate) const UNLINKED_REPORT: &str = concat!(
-    "00000000-0000-8000-8000-000000000001 tasks.div FAILURE ZeroDivisionError\n",
-    "00000000-0000-8000-8000-000000000002 tasks.ident PENDING -\n",
-    "result ZeroDivisionError\n"
-);
-
 /// A group without members.
-pub(crate) const EMPTY_GROUP: &str =
+pub const EMPTY_GROUP: &str =
     r#"{"task":"celery.group","subtask_type":"group","kwargs":{"tasks":[]}}"#;
 
 /// `tests.sub(10, 3) | mul(2)`.
-pub(crate) const DIFFERENCE: &str =
+pub const DIFFERENCE: &str =
     r#"{"task":"celery.chain","subtask_type":"chain","kwargs":{"tasks":[{"task":"tests.sub","args":[10,3]},{"task":"tasks.mul","args":[2]}]}}"#;
 
 /// A group of `add(i, i)` for i from 0 to 99, then `xsum()`.
-pub(crate) fn hundred(alloc: Global) -> Result<String, AllocError> {
+fn hundred(alloc: Global) -> Result<String, AllocError> {
     let mut text = String::from_str(
         alloc,
         r#"{"task":"celery.chain","subtask_type":"chain","kwargs":{"tasks":[{"task":"celery.group","subtask_type":"group","kwargs":{"tasks":["#,
@@ -98,7 +91,7 @@ fn planned(alloc: Global, canvas: &Canvas) -> Option<Plan> {
 }
 
 /// The plan of a canvas's text, if it is one.
-pub(crate) fn plan_of(alloc: Global, text: &str) -> Option<Plan> {
+pub fn plan_of(alloc: Global, text: &str) -> Option<Plan> {
     match read_canvas(alloc, text.as_bytes()) {
         Ok(canvas) => planned(alloc, &canvas),
         Err(_) => None,
@@ -106,7 +99,7 @@ pub(crate) fn plan_of(alloc: Global, text: &str) -> Option<Plan> {
 }
 
 /// The plan of a hundred tasks and their sum.
-pub(crate) fn hundred_planned(alloc: Global) -> Option<Plan> {
+pub fn hundred_planned(alloc: Global) -> Option<Plan> {
     match hundred(alloc) {
         Ok(text) => plan_of(alloc, &text),
         Err(_) => None,
