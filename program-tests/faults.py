@@ -42,16 +42,9 @@ def is_group(value):
     return isinstance(value, dict) and value.get("subtask_type") == "group"
 
 
-def in_quotes(text):
-    known = {'"': '\\"', "\\": "\\\\"}
-    cut = "".join(known.get(it, it if " " <= it <= "~" else "\\u{%x}" % ord(it))
-                  for it in text[:40])
-    return '"%s%s"' % (cut, ".." * (len(text) > 40))
-
-
 def shown(value):
     if isinstance(value, str):
-        return in_quotes(value)
+        return views.text_shown(value)
     if is_list(value):
         return "a list of %d" % len(value)
     return "an object" if isinstance(value, dict) else json.dumps(value)
@@ -70,7 +63,7 @@ def arguments(sig):
     """The arguments and where they stand; those by name in the order of their names."""
     kwargs = sorted((sig.get("kwargs") or {}).items(), key=lambda it: it[0].encode())
     yield from (("args[%d]" % at, it) for at, it in enumerate(sig.get("args") or []))
-    yield from (("kwargs[%s]" % in_quotes(name), it) for name, it in kwargs)
+    yield from (("kwargs[%s]" % views.text_shown(name), it) for name, it in kwargs)
 
 
 def first_bad(sig, is_good, wanted, wanted_item):

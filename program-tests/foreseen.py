@@ -75,7 +75,7 @@ def of_call(sig, stand, stubs):
         args, kwargs = sig.get("args") or [], sig.get("kwargs") or {}
         if rules.stubbed(stubs, name, front + args, kwargs) == "TypeError":
             wrong = rules.blamed(rules.answers_as(stubs, name), front + args, kwargs)
-            by = ": %s %s" % (views.written(wrong[0])[1:-1], wrong[1]) if wrong else ""
+            by = ": %s %s" % (views.name_shown(wrong[0]), wrong[1]) if wrong else ""
             yield "TypeError", "its call is a TypeError" + said + by
     if stand.body and stand.followed:
         yield "body-without-id", NOTES["body-without-id"]
@@ -139,7 +139,7 @@ def ignored(sig):
     options = sig.get("options") or {}
     for name in sorted(options, key=lambda it: it.encode()):
         if options[name] is not None and name not in HEEDED:
-            yield "ignored-options", "options.%s is ignored" % name
+            yield "ignored-options", "options.%s is ignored" % views.name_shown(name)
 
 
 def warnings(canvas, stubs=None):

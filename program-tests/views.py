@@ -19,7 +19,23 @@ from rules import STATES, Walk, callbacks, ends_in_group, identifier, kind_of, p
 
 
 def written(value):
-    return json.dumps(value, sort_keys=True, ensure_ascii=False, separators=(",", ":"))
+    """A value as a line of JSON, which is printable ASCII."""
+    return json.dumps(value, sort_keys=True, separators=(",", ":")).replace("\x7f", "\\u007f")
+
+
+# ---- texts in lines for a person
+
+
+def text_shown(text):
+    known = {'"': '\\"', "\\": "\\\\"}
+    cut = "".join(known.get(it, it if " " <= it <= "~" else "\\u{%x}" % ord(it))
+                  for it in text[:40])
+    return '"%s%s"' % (cut, ".." * (len(text) > 40))
+
+
+def name_shown(name):
+    """The name of an option or parameter, which is in quotes unless it is plain."""
+    return name if re.fullmatch(r'[!#-\[\]-~]{1,40}', name) else text_shown(name)
 
 
 # ---- JSON lines
@@ -40,7 +56,7 @@ def other(state):
     """A state of tasks some of which return objects and raise exceptions of other names."""
     if isinstance(state, str):
         return OTHER.sub(r"Own\g<0>", state)
-    return {"of": [state, 0.5]} if state and state % 2 else state
+    return {"of\u009b\u202e\n": [state, 0.5, "\x7f\U0001f600"]} if state and state % 2 else state
 
 
 def same(state):

@@ -299,6 +299,7 @@ say_as_json() {
   esac
   said="${said//"$newline"/\\n}"
   for word in "$@"; do
+    if [ "$word" = -- ]; then return 0; fi
     if [ "$word" != --json ]; then continue; fi
     fault="{\"name\":\"$name\",\"note\":\"$said\"}"
     if [[ "${said//\\n/}" == *[!\ -~]* || "${said//\\n/}" == *[\\\"]* ]]; then asks=program fault=''; fi
@@ -588,6 +589,8 @@ read_tasks() {
     fi
   fi
   named=()
+  # a byte order mark
+  if ((${#lines[@]})); then lines[0]="${lines[0]#$'\xef\xbb\xbf'}"; fi
   for line in "${lines[@]}"; do
     if [ -n "$fault$is_unsure" ]; then return 0; fi
     at=$((at + 1))
@@ -603,7 +606,8 @@ read_tasks() {
 read_file() {
   local file="$1" is_empty='' is_unsure=''
   fault=''
-  if [ "$file" = - ] && { [ "$command" = collect ] || [ "${given[--tasks]-}" = - ] || [ "${given[--results]-}" = - ]; }; then
+  if [ "$file" = - ] && { [ "$command" = collect ] || [ "${given[--tasks]-}" = - ] || [ "${given[--results]-}" = - ]; } ||
+    [ "${given[--tasks]-}${given[--results]-}" = -- ]; then
     refuse_unread -
     return 0
   fi

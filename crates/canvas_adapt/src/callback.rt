@@ -14,7 +14,7 @@ impl<'a> Work<'a> {
         own: &[Datum<'a>],
         given: &'a [Callback<'a>],
     ) -> Result<&'a [Datum<'a>], SigFault> {
-        self.step(given.len())?;
+        self.count_given(given.len())?;
         let mut made = Made::new(self.arena);
         made.push_all(own)?;
         for callback in given {

@@ -200,6 +200,7 @@ impl<'a> Work<'a> {
         if values.is_empty() {
             return Ok(given);
         }
+        self.step_copies(given.len())?;
         let mut made = Made::new(self.arena);
         for callback in given {
             if !self.has(values, callback.written, callback.weight)? {
@@ -218,7 +219,7 @@ impl<'a> Work<'a> {
         if own.is_empty() {
             return Ok(given);
         }
-        self.step(own.len().saturating_add(given.len()))?;
+        self.step_copies(own.len().saturating_add(given.len()))?;
         let mut made = Made::new(self.arena);
         made.push_all(own)?;
         made.push_all(given)?;

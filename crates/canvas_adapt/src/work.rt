@@ -2,12 +2,19 @@
 
 use crate::changes::{Change, Changes};
 use bumpalo::Bump;
+use canvas_semantics::MOST_TASKS;
 use canvas_sig::SigFault;
 use std::alloc::Global;
 
-/// How many steps comparing callbacks and giving them to tasks may take. A canvas that takes more
-/// would have more tasks than a canvas may have.
+/// How many steps comparing and copying callbacks may take. A canvas that takes more would have
+/// more tasks than a canvas may have.
 const MOST_STEPS: usize = 67_108_864;
+
+/// How many steps a callback takes that is copied into a list.
+const STEPS_OF_COPY: usize = 64;
+
+/// How many callbacks may be given to tasks, each of which is a task more of the canvas.
+const MOST_GIVEN: usize = MOST_TASKS as usize;
 
 /// Where values are made, and what has been changed.
 #[derive(Drop)]
@@ -16,6 +23,8 @@ pub(crate) struct Work<'a> {
     pub(crate) arena: &'a Bump,
     pub(crate) changes: Changes,
     steps: usize,
+    /// How many callbacks may still be given to tasks.
+    room: usize,
 }
 
 impl<'a> Work<'a> {
@@ -25,6 +34,7 @@ impl<'a> Work<'a> {
             arena,
             changes: Changes::none(),
             steps: MOST_STEPS,
+            room: MOST_GIVEN,
         }
     }
 
@@ -37,6 +47,22 @@ impl<'a> Work<'a> {
         match self.steps.checked_sub(steps) {
             Some(left) => {
                 self.steps = left;
+                Ok(())
+            }
+            None => Err(SigFault::TooMany),
+        }
+    }
+
+    /// Takes the steps of copying so many callbacks.
+    pub(crate) fn step_copies(&mut self, count: usize) -> Result<(), SigFault> {
+        self.step(count.saturating_mul(STEPS_OF_COPY))
+    }
+
+    /// Counts so many callbacks that a task is given, before they are copied.
+    pub(crate) fn count_given(&mut self, count: usize) -> Result<(), SigFault> {
+        match self.room.checked_sub(count) {
+            Some(room) => {
+                self.room = room;
                 Ok(())
             }
             None => Err(SigFault::TooMany),

@@ -5,3 +5,4 @@ pub mod Told
 pub mod Normal
 pub mod OnCelery
 pub mod Pictured
+pub mod Printing

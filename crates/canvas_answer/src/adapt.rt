@@ -61,5 +61,5 @@ pub fn answer_adapt(alloc: Global, renames: &[Rename], text: &[u8]) -> Result<An
 {
     let Adapted { text, changes } = adapt(alloc, text)?;
     let text = renamed(alloc, text, renames)?;
-    Ok(Answer::whole(text).with_changes(changes))
+    Ok(Answer::whole(text).as_bytes().with_changes(changes))
 }

@@ -3,6 +3,7 @@ ghost use Rattle.std.specs.Prelude.{◌≡◌, ◌⊎◌, [], None, Some};
 ghost use Rattle.canvas_answer.specs.declared.answer.Remark.TheVariants as remark;
 ghost use Rattle.canvas_answer.specs.Answers.{AnswersAll, AnswersPart, IsStatus, bytes_of, refusal_status};
 
+use crate::printing::write_lines;
 use crate::refusal::Refusal;
 use crate::told::told_in_json;
 use canvas_adapt::Changes;
@@ -37,6 +38,8 @@ impl Display for Remark {
 pub struct Answer {
     /// What goes to standard output.
     out: Vec<u8>,
+    /// Whether a program reads that, which is given each byte as it is.
+    is_raw: bool,
     /// What standard error says beside it.
     remark: Option<Remark>,
     /// Why that isn't all that was asked for.
@@ -52,6 +55,7 @@ impl Answer {
     {
         Answer {
             out,
+            is_raw: false,
             remark: None,
             refusal: None,
             status: 0,
@@ -75,10 +79,34 @@ impl Answer {
         };
         Answer {
             out,
+            is_raw: false,
             remark: None,
             refusal: Some(refusal),
             status: 0,
         }
+    }
+
+    /// The same, of which each byte is printed as it is.
+    pub(crate) fn as_bytes(self) -> Answer
+        ensures { (result.out ≡ self.out) × (result.remark ≡ self.remark)
+            × (result.refusal ≡ self.refusal) × (result.status ≡ self.status) }
+    {
+        Answer {
+            is_raw: true,
+            ..self
+        }
+    }
+
+    /// The same after lines that were made before it.
+    pub fn after(self, lines: Vec<u8>) -> Answer
+        ensures none { lines.items ≡ [] → result ≡ self }
+        ensures others { (result.remark ≡ self.remark) × (result.refusal ≡ self.refusal)
+            × (result.status ≡ self.status) }
+    {
+        if lines.is_empty() {
+            return self;
+        }
+        Answer { out: lines, ..self }
     }
 
     /// The same with this status, where it isn't refused.
@@ -111,6 +139,7 @@ impl Answer {
     {
         let Answer {
             out,
+            is_raw,
             remark,
             refusal,
             status,
@@ -121,6 +150,7 @@ impl Answer {
         };
         Answer {
             out,
+            is_raw,
             remark,
             refusal,
             status,
@@ -133,12 +163,21 @@ impl Answer {
     pub fn print<W: Write, E: Write>(&self, out: &mut W, err: &mut E) -> u8
         ensures { IsStatus self.now result }
     {
-        let is_written = write_bytes(out, &self.out).is_ok();
+        let is_written = self.write_out(out).is_ok();
         match &self.refusal {
             Some(refusal) => refusal.print(err),
             None if is_written => self.print_remark(err),
             None => Refusal::CannotWrite.print(err),
         }
+    }
+
+    fn write_out<W: Write>(&self, out: &mut W) -> io::Result<()> {
+        if self.is_raw {
+            out.write_all(&self.out)?;
+        } else {
+            write_lines(out, &self.out)?;
+        }
+        out.flush()
     }
 
     fn print_remark<E: Write>(&self, err: &mut E) -> u8
@@ -159,14 +198,12 @@ impl Refusal {
     fn print<E: Write>(&self, err: &mut E) -> u8
         ensures { result ≡ refusal_status self.now }
     {
-        let _ = write_and_flush(err, self);
+        let _ = match self {
+            Refusal::Found(text) => write_lines(err, text.as_bytes()),
+            _ => write_and_flush(err, self),
+        };
         self.status()
     }
-}
-
-fn write_bytes<W: Write>(out: &mut W, bytes: &[u8]) -> io::Result<()> {
-    out.write_all(bytes)?;
-    out.flush()
 }
 
 fn write_and_flush<W: Write, D: Display>(out: &mut W, text: &D) -> io::Result<()> {

@@ -82,7 +82,7 @@ fn answer_export(
 {
     let start = export(alloc, plan, run, target)?;
     let remark = export_remark(alloc, text, texts)?;
-    Ok(Answer::whole(start).with_remark(remark))
+    Ok(Answer::whole(start).as_bytes().with_remark(remark))
 }
 
 /// The keys of a canvas's results, a line each.
@@ -90,7 +90,7 @@ fn answer_keys(alloc: Global, plan: &Plan, run: &Run, prefix: &str) -> Result<An
     ensures { IfOk result
         (AnswersAll (result_keys run.now.digits prefix.now (count_line plan.now)) 0) }
 {
-    Ok(Answer::whole(keys(alloc, plan, run, prefix)?))
+    Ok(Answer::whole(keys(alloc, plan, run, prefix)?).as_bytes())
 }
 
 /// The report of a canvas from the results that the input gives.
@@ -106,7 +106,7 @@ where
     ensures { IfOk result (λ a. a.refusal ≡ None) }
 {
     let results = results_of(rt, "-", input)?;
-    answer_results(rt.alloc(), plan, run, collecting, &results)
+    answer_results(rt.alloc(), plan, run, collecting, results)
 }
 
 /// The report that these results give.
@@ -115,27 +115,29 @@ fn answer_results(
     plan: &Plan,
     run: &Run,
     collecting: Collecting,
-    results: &[u8],
+    results: Vec<u8>,
 ) -> Result<Answer, Refusal>
     ensures { IfOk result (λ a. a.refusal ≡ None) }
 {
-    match collected(alloc, plan, run, results, collecting.completes)? {
+    match collected(alloc, plan, run, &results, collecting.completes)? {
         Some(report) => collecting.manner.untold(alloc, plan, &report),
         None => answer_stored(alloc, plan, run, collecting, results),
     }
 }
 
-/// The same where the tasks may have returned or raised anything.
+/// The same where the tasks may have returned or raised anything. The results, which may be long,
+/// are dropped before the report is made.
 fn answer_stored(
     alloc: Global,
     plan: &Plan,
     run: &Run,
     collecting: Collecting,
-    results: &[u8],
+    results: Vec<u8>,
 ) -> Result<Answer, Refusal>
     ensures { IfOk result (λ a. a.refusal ≡ None) }
 {
-    let rows = stored_rows(alloc, plan, run, results, collecting.completes)?;
+    let rows = stored_rows(alloc, plan, run, &results, collecting.completes)?;
+    drop(results);
     answer_rows(alloc, plan, &rows, collecting.manner.form)
 }
 

@@ -4,8 +4,9 @@ use crate::answer::Answer;
 use crate::refusal::Refusal;
 use crate::reporting::{FAILED, Form, Manner};
 use crate::warnings::Warnings;
-use canvas_envelope::Envelope;
+use canvas_envelope::Letter;
 use canvas_rewrite::Plan;
+use canvas_task::Memory;
 use canvas_values::Depths;
 use std::alloc::{AllocError, Global};
 use std::fmt;
@@ -37,15 +38,23 @@ impl fmt::Display for Figures {
     }
 }
 
+/// How many bytes the texts of a message have. They are written for this, and dropped.
+fn length_of(alloc: Global, message: &Letter) -> Result<u64, Memory> {
+    let envelope = message.envelope(alloc)?;
+    let mut bytes = 0u64;
+    for text in [&envelope.properties, &envelope.headers, &envelope.body] {
+        bytes = bytes.saturating_add(text.get().len() as u64);
+    }
+    Ok(bytes)
+}
+
 /// How many bytes the texts of messages have.
-fn bytes_of(messages: &[Envelope]) -> u64 {
+fn bytes_of(alloc: Global, messages: &[Letter]) -> Result<u64, Memory> {
     let mut bytes = 0u64;
     for message in messages {
-        for text in [&message.properties, &message.headers, &message.body] {
-            bytes = bytes.saturating_add(text.get().len() as u64);
-        }
+        bytes = bytes.saturating_add(length_of(alloc, message)?);
     }
-    bytes
+    Ok(bytes)
 }
 
 impl Figures {
@@ -64,14 +73,19 @@ impl Figures {
     }
 
     /// The figures of a plan whose canvas has these depths, and whose run publishes these messages.
-    pub fn of(plan: &Plan, depths: Depths, messages: &[Envelope]) -> Figures {
-        Figures {
+    pub fn of(
+        alloc: Global,
+        plan: &Plan,
+        depths: Depths,
+        messages: &[Letter],
+    ) -> Result<Figures, Memory> {
+        Ok(Figures {
             tasks: plan.tasks(),
             groups: plan.groups(),
             depths,
             messages: messages.len(),
-            bytes: bytes_of(messages),
-        }
+            bytes: bytes_of(alloc, messages)?,
+        })
     }
 
     /// What is said of a canvas that is accepted, and the status.

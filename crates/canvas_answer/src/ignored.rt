@@ -1,8 +1,7 @@
 //! What of a canvas Celery's workers get otherwise, as standard error tells it.
 
 use crate::answer::Remark;
-use canvas_finding::ignored_options;
-use canvas_report::escaped_json;
+use canvas_finding::{ignored_options, shown_name};
 use canvas_task::Memory;
 use std::alloc::{AllocError, Global};
 
@@ -13,7 +12,7 @@ fn push_line(
     name: &str,
     count: usize,
 ) -> Result<(), AllocError> {
-    let name = escaped_json(alloc, name)?;
+    let name = shown_name(alloc, name)?;
     let signatures = if count == 1 {
         "signature"
     } else {

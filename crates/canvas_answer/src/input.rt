@@ -18,7 +18,7 @@ const MOST_RESULTS: usize = 67_108_864;
 /// The most bytes of lines with a canvas each: 64 of the longest.
 const MOST_LINES: usize = 67_108_864;
 
-const CHUNK: usize = 8192;
+const CHUNK: usize = 4096;
 
 /// The greatest block that malloc is made to keep, in bytes.
 const KEPT: usize = 4_194_304;

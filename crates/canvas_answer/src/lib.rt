@@ -19,6 +19,7 @@ pub mod normal;
 pub mod numbers;
 pub mod plan;
 pub mod prepared;
+pub mod printing;
 pub mod refusal;
 pub mod reporting;
 pub mod source;

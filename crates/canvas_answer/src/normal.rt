@@ -49,7 +49,7 @@ pub fn answer_normal(alloc: Global, text: &[u8]) -> Result<Answer, Refusal>
 {
     let canvas = lasting(canvas_of(alloc, text)?);
     match line_text(alloc, &canvas) {
-        Ok(line) => Ok(Answer::whole(line.into_bytes())),
+        Ok(line) => Ok(Answer::whole(line.into_bytes()).as_bytes()),
         Err(Memory) => Err(Refusal::Memory),
     }
 }

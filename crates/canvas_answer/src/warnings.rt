@@ -1,8 +1,8 @@
 //! What `canvas check` warns of: what may surprise of a canvas that is accepted.
 
 use crate::source::{AtFault, Foreseen, Source};
-use canvas_finding::{Signature, pointer_text, signatures_of};
-use canvas_report::{escaped_json, quoted_json};
+use canvas_finding::{Signature, pointer_text, shown_name, signatures_of};
+use canvas_report::quoted_json;
 use canvas_sig::Canvas;
 use canvas_task::{Memory, Tasks};
 use canvas_warning::{Expected, Forecast, Input, Wrong};
@@ -205,7 +205,7 @@ impl Warnings {
             return self.push_concern(signature, concern);
         };
         let what = concern.note();
-        let parameter = escaped_json(self.alloc, &blame.parameter)?;
+        let parameter = shown_name(self.alloc, &blame.parameter)?;
         let said = said_of(blame.wrong);
         let note = format!(in self.alloc; "{what}: {parameter} {said}")?;
         self.push(signature, concern, note)
@@ -252,7 +252,8 @@ impl Warnings {
         for option in &signature.ignored {
             let concern = Concern::Ignored;
             let said = concern.note();
-            let note = format!(in self.alloc; "options.{option} {said}")?;
+            let name = shown_name(self.alloc, option)?;
+            let note = format!(in self.alloc; "options.{name} {said}")?;
             let key = format!(in self.alloc; "option {option}")?;
             self.push_once(signature, key, concern, note)?;
         }

@@ -35,11 +35,11 @@ module _ (l : Line) (xs : List Step) where
       ap (λ es. map sealed (first_messages l) ++ es) (sent_more xs (x ∷ []) ∙ ap (λ es. sent_in xs ++ es) (append-nil (sent_by x.1.0)))
       ∙ sym (append_assoc (map sealed (first_messages l)) (sent_in xs) (sent_by x.1.0))
 
-  pub sent_then : (x : Step) (b : Bool) (s t : Sent) → s.keeps ≡ b → s.envelopes.items ≡ kept b (sent_after l xs) → Noted s (sent_by x.1.0) t
-      → t.envelopes.items ≡ kept b (sent_after l (xs ++ x ∷ []))
+  pub sent_then : (x : Step) (b : Bool) (s t : Sent) → s.keeps ≡ b → s.letters.items ≡ kept b (sent_after l xs) → Noted s (sent_by x.1.0) t
+      → t.letters.items ≡ kept b (sent_after l (xs ++ x ∷ []))
   sent_then x b s t keeps so_far noted =
       noted.1
-      ∙ ap (λ k. s.envelopes.items ++ kept k (sent_by x.1.0)) keeps
+      ∙ ap (λ k. s.letters.items ++ kept k (sent_by x.1.0)) keeps
       ∙ ap (λ es. es ++ kept b (sent_by x.1.0)) so_far
       ∙ kept_more b (sent_after l xs) (sent_by x.1.0)
       ∙ ap (kept b) (sym (after_one x))
@@ -55,7 +55,7 @@ on_ok (Ok x) p = p
 on_ok (Err e) p = tt
 
 pub none_noted : (s : Sent) → Noted s [] s
-none_noted s = (refl, sym (append-nil s.envelopes.items) ∙ ap (λ es. s.envelopes.items ++ es) (sym (kept_nothing s.keeps)))
+none_noted s = (refl, sym (append-nil s.letters.items) ∙ ap (λ es. s.letters.items ++ es) (sym (kept_nothing s.keeps)))
 
 abbrev pub sends_shown : Ask → Bool
 sends_shown A.Publish = true

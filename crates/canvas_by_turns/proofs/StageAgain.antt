@@ -220,11 +220,11 @@ module _ (behaviour : Behaviour) (l : Line) (n most : ℕ) (es : Given) (us : Li
       keeps_so = noted.0 ∙ ap (λ z. z.keeps) gone.sent ∙ reached.keeps
 
       -- what is noted so far, where the steps so far sent what there was
-      sent_so : (ys : List Step) → sent_after l ys ≡ sent_after l xs → s'.sent.envelopes.items ≡ kept es.1 (sent_after l (ys ++ answer ∷ []))
+      sent_so : (ys : List Step) → sent_after l ys ≡ sent_after l xs → s'.sent.letters.items ≡ kept es.1 (sent_after l (ys ++ answer ∷ []))
       sent_so ys same =
           sent_then l ys answer es.1 t.sent s'.sent
           (ap (λ z. z.keeps) gone.sent ∙ reached.keeps)
-          (ap (λ z. z.envelopes.items) gone.sent ∙ reached.sent ∙ ap (kept es.1) (sym same)) noted
+          (ap (λ z. z.letters.items) gone.sent ∙ reached.sent ∙ ap (kept es.1) (sym same)) noted
 
       module _ (ys : List Step) (leads : LeadsTo behaviour l n us ys t) where
         told_so : next c ≡ Rest → more ≡ holds_more behaviour l n ys

@@ -123,7 +123,7 @@ module _ (behaviour : Behaviour) (l : Line) (n most : ℕ) (ts : List ℕ) (es :
       )
 
   pub kept_rows : 1 ≤ n → length es ≤ greatest_count → IsRunThrough behaviour l n most (es, keeps) ts s
-      → IsKeptWithin behaviour l n ts es most keeps rows s.repeats s.sent.envelopes.items
+      → IsKeptWithin behaviour l n ts es most keeps rows s.repeats s.sent.letters.items
   unfolding whole_rows
   kept_rows some fits done = (whole_rows some fits done, done.reached.sent)
 

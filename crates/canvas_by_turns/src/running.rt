@@ -16,7 +16,7 @@ ghost use Rattle.canvas_by_turns.specs.steps.Stages.{rows_of, Given, Reached, Ha
 use crate::RunFault;
 use crate::stage::Stage;
 use canvas_core::Cause;
-use canvas_envelope::Envelope;
+use canvas_envelope::Letter;
 use canvas_report::Report;
 use canvas_rewrite::Plan;
 use canvas_runs::When;
@@ -165,7 +165,7 @@ fn report_of(stage: &Stage, plan: &Plan, rows: Vec<Option<Outcome>>) -> Report
 struct Ran {
     report: Report,
     repeats: u64,
-    sent: Vec<Envelope>,
+    sent: Vec<Letter>,
 }
 
 /// Runs a plan, at most so many asks being answered.
@@ -306,15 +306,16 @@ pub fn run_turns_again<T: Tasks>(
     }
 }
 
-/// As `run_turns`. With the report it gives a copy of each envelope that was published, in the
-/// order in which they were: those of the tasks that start at once, and what each turn published.
+/// As `run_turns`. With the report it gives a copy of each letter that was published, in the order
+/// in which they were: those of the tasks that start at once, and what each turn published. They
+/// share their texts as the run's own do.
 pub fn run_turns_traced<T: Tasks>(
     alloc: Global,
     plan: &Plan,
     tasks: &T,
     workers: u32,
     turns: &[u32],
-) -> Result<(Report, Vec<Envelope>), RunFault>
+) -> Result<(Report, Vec<Letter>), RunFault>
     ensures ok { IfOk result (λ r. IsAsked workers turns.now
         × IsTraced (T.behaviour tasks.now) plan.now workers turns.now r.0.rows r.1.items) }
     ensures err { IfErr result

@@ -2,28 +2,29 @@
 ghost use Rattle.std.specs.Prelude.{◌≡◌, ◌∷◌, [], OnOk};
 ghost use Rattle.canvas_by_turns.specs.steps.Noting.{Noted};
 
-use canvas_envelope::{Envelope, Letter};
+use canvas_envelope::Letter;
 use canvas_task::Memory;
 use std::alloc::Global;
 
-/// Copies of the envelopes that a run has published, in their order, where they are asked for.
+/// Copies of what a run has published, in its order, where they are asked for. They share what the
+/// letters share, so that a text that all messages carry is there once.
 #[derive(Drop)]
 pub(crate) struct Sent {
     alloc: Global,
     keeps: bool,
-    envelopes: Vec<Envelope>,
+    letters: Vec<Letter>,
 }
 
 impl Sent {
     /// Of a run that has published nothing yet.
     pub(crate) fn new(alloc: Global, keeps: bool) -> Sent
         ensures keeps { result.keeps ≡ keeps }
-        ensures none { result.envelopes.items ≡ [] }
+        ensures none { result.letters.items ≡ [] }
     {
         Sent {
             alloc,
             keeps,
-            envelopes: Vec::new(alloc),
+            letters: Vec::new(alloc),
         }
     }
 
@@ -32,7 +33,7 @@ impl Sent {
         ensures { OnOk result (Noted self.old (letter.now ∷ []) self.new) }
     {
         if self.keeps {
-            self.envelopes.push(letter.envelope(self.alloc)?)?;
+            self.letters.push(letter.copy(self.alloc)?)?;
         }
         Ok(())
     }
@@ -47,9 +48,9 @@ impl Sent {
         Ok(())
     }
 
-    pub(crate) fn into_envelopes(self) -> Vec<Envelope>
-        ensures { result ≡ self.envelopes }
+    pub(crate) fn into_letters(self) -> Vec<Letter>
+        ensures { result ≡ self.letters }
     {
-        self.envelopes
+        self.letters
     }
 }

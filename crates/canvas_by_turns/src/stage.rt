@@ -26,7 +26,7 @@ use crate::sent::Sent;
 use canvas_backend::{PlainBackend, Stored};
 use canvas_broker::PlainBroker;
 use canvas_core::{Ask, Cause, Core, Reply};
-use canvas_envelope::{Envelope, Letter};
+use canvas_envelope::Letter;
 use canvas_rewrite::Plan;
 use canvas_runs::When;
 use canvas_task::{Memory, Outcome, TaskNo, Tasks};
@@ -299,10 +299,10 @@ impl Stage {
     }
 
     /// What was published, where it was to be kept.
-    pub(crate) fn into_sent(self) -> Vec<Envelope>
-        ensures { result ≡ self.sent.envelopes }
+    pub(crate) fn into_sent(self) -> Vec<Letter>
+        ensures { result ≡ self.sent.letters }
     {
-        self.sent.into_envelopes()
+        self.sent.into_letters()
     }
 
     /// A worker's turn: one ask of it is answered, unless it is at its end. Whether one was. An

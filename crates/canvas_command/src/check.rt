@@ -19,7 +19,7 @@ fn figures_of<T: Tasks>(alloc: Global, tasks: &T, canvas: Canvas) -> Result<Figu
     let depths = canvas.depths();
     let plan = lasting(Plan::of(alloc, canvas)?);
     let messages = messages_of(alloc, tasks, 1, &[], &plan)?;
-    Ok(Figures::of(&plan, depths, &messages))
+    Ok(Figures::of(alloc, &plan, depths, &messages)?)
 }
 
 /// What is said of a canvas that is accepted.

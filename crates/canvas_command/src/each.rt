@@ -5,12 +5,14 @@ use canvas_answer::answer::Answer;
 use canvas_answer::each::{Each, object_text};
 use canvas_answer::finding::refusal_json;
 use canvas_answer::prepared::{Plans, Prepared, Setting};
+use canvas_answer::printing::write_lines;
 use canvas_answer::refusal::Refusal;
 use canvas_answer::reporting::FAILED;
 use canvas_answer::source::Source;
 use canvas_report::is_failure;
 use canvas_task::Tasks;
 use std::alloc::Global;
+use std::io::Write;
 use std::random::RandomSource;
 use std::sync::Wait;
 use std::thread::Threads;
@@ -91,14 +93,16 @@ fn without_end(text: &[u8], end: u8) -> &[u8] {
     }
 }
 
-/// A line for each canvas of a text, in its order. Where it is asked for, the status is that of a
-/// failure where a canvas's result is one. Where memory is refused, what is whole is there.
-pub(crate) fn answer_each<S, T>(
+/// Writes a line for each canvas of a text, in its order, as it is made. If that is asked for, the
+/// status is that of a failure if a canvas's result is one. Of a call that ends early the lines
+/// before are written.
+pub(crate) fn answer_each<S, T, W: Write>(
     rt: &S,
     each: Each,
     text: &[u8],
     tasks: &T,
     setting: Setting<'_>,
+    out: &mut W,
 ) -> Result<Answer, Refusal>
 where
     S: Threads + Wait + RandomSource + AllocGlobal + Sync,
@@ -109,18 +113,15 @@ where
         fails,
         end,
     } = each;
-    let mut out = String::new(rt.alloc());
     let mut status = 0;
     for one in text.split_inclusive(|byte| *byte == end) {
-        match line_of(rt, workers, without_end(one, end), tasks, setting) {
-            Ok((said, failed)) => {
-                out.push_str(&said)?;
-                if fails && failed {
-                    status = FAILED;
-                }
-            }
-            Err(refusal) => return Ok(Answer::in_part(rt.alloc(), Some(out), refusal)),
+        let (said, failed) = line_of(rt, workers, without_end(one, end), tasks, setting)?;
+        if let Err(error) = write_lines(out, said.as_bytes()) {
+            return Err(Refusal::of_output(&error));
+        }
+        if fails && failed {
+            status = FAILED;
         }
     }
-    Ok(Answer::whole(out.into_bytes()).with_status(status))
+    Ok(Answer::whole(Vec::new(rt.alloc())).with_status(status))
 }

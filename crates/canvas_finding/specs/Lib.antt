@@ -10,3 +10,4 @@ pub mod Ignored
 pub mod Keywords
 pub mod Naming
 pub mod Signed
+pub mod Shown

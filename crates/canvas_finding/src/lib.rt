@@ -20,6 +20,7 @@ mod step;
 
 pub use finding::{Finding, Spot, find};
 pub use ignored::ignored_options;
+pub use shown::shown_name;
 pub use signature::{Signature, signatures_of};
 pub use step::{Field, Step, pointer_text};
 

@@ -11,4 +11,4 @@ kept false es = []
 -- these were noted behind those that were there
 abbrev pub Noted : Sent → List Envelope → Sent → Type 0
 Noted s es t =
-    (t.keeps ≡ s.keeps) × (t.envelopes.items ≡ s.envelopes.items ++ kept s.keeps es)
+    (t.keeps ≡ s.keeps) × (t.letters.items ≡ s.letters.items ++ kept s.keeps es)

@@ -165,7 +165,7 @@ pub record Reached (behaviour : Behaviour) (l : Line) (n most : ℕ) (given : Gi
   pub agains : s.repeats ≡ min greatest_count (agains_in xs)
   pub count : length xs + s.steps ≡ most + redeliveries_in xs
   pub keeps : s.sent.keeps ≡ given.1
-  pub sent : s.sent.envelopes.items ≡ kept given.1 (sent_after l xs)
+  pub sent : s.sent.letters.items ≡ kept given.1 (sent_after l xs)
 
 -- after some steps that these turns make
 abbrev pub HasReached : (behaviour : Behaviour) → Line → ℕ → ℕ → Given → List ℕ → Stage
@@ -252,7 +252,7 @@ AreNew cores = All (λ c. c ≡ begun) cores
 -- a stage before its first publish
 pub record IsNew (l : Line) (n : ℕ) (s : Stage) : Type 0 where
   pub repeats_is : s.repeats ≡ 0
-  pub sent_is : s.sent.envelopes.items ≡ []
+  pub sent_is : s.sent.letters.items ≡ []
   pub plan_is : s.table.plan ≡ roster_of l
   pub table_is : held s.table ≡ no_results
   pub queue_is : s.queue ≡ []

@@ -3,5 +3,5 @@ use Rattle.canvas_command.specs.Messages.{message_lines}
 use Rattle.canvas_command.proofs.messages.lines_of.Given as goal
 
 -- the lines so far, and those to come
-abbrev pub invariant-loop-envelope : goal.invariant-loop-envelope
-invariant-loop-envelope l = l.lines.items ++ message_lines (drop l.envelope-index l.messages) ≡ message_lines l.messages
+abbrev pub invariant-loop-letter : goal.invariant-loop-letter
+invariant-loop-letter l = l.lines.items ++ message_lines (drop l.letter-index l.messages) ≡ message_lines l.messages

@@ -6,5 +6,5 @@ use Rattle.canvas_by_turns.proofs.sent.Sent.note_all.Given as goal
 abbrev pub invariant-loop-letter : goal.invariant-loop-letter
 invariant-loop-letter l =
     (l.self.keeps ≡ l.fn.self.keeps)
-    × (l.self.envelopes.items ++ kept l.fn.self.keeps (drop l.letter-index l.letters)
-    ≡ l.fn.self.envelopes.items ++ kept l.fn.self.keeps l.letters)
+    × (l.self.letters.items ++ kept l.fn.self.keeps (drop l.letter-index l.letters)
+    ≡ l.fn.self.letters.items ++ kept l.fn.self.keeps l.letters)
