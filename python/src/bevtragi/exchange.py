@@ -9,6 +9,7 @@ from typing import Any
 from .calling import ask
 from .errors import BadCall, CanvasError
 from .reports import Report
+from .stored import Stored
 from .texts import Canvas, text_of, values
 
 __all__ = ["collect", "export"]
@@ -69,15 +70,24 @@ def collect(canvas: Canvas, client: Any, run: str, complete: bool = False,
             prefix: str = "") -> Report:
     """The Report so far of such a run, by a client of the result backend, whose global_keyprefix is
     `prefix`. With `complete` tasks that a failure reaches have their state, as in what_if(), where
-    Celery leaves them pending. Raises CanvasError for a result that can't be read, and for what
-    the client raises."""
+    Celery leaves them pending. A stored result that can't be read is an Unreadable. Raises
+    CanvasError for the result of another task, and for what the client raises."""
     text = text_of(canvas)
     keys = ask(["keys", "-", f"--run={run}", f"--prefix={prefix}"], text)[0].split("\n")[:-1]
-    found = _by(client.mget, keys) if keys else []
-    lines = ((it.encode() if isinstance(it, str) else it or b"") + b"\n" for it in found)
+    stored = Stored(keys, _by(client.mget, keys) if keys else [])
     with tempfile.NamedTemporaryFile(suffix=".json") as file:
         file.write(text)
         file.flush()
         words = ["collect", file.name, f"--run={run}"] + ["--complete"] * complete
-        *rows, end = values(words, b"".join(lines))[0]
+        *rows, end = _collected(words, stored)
     return Report(rows, end)
+
+
+def _collected(words: list[str], stored: Stored) -> list[dict[str, Any]]:
+    """What the program tells of stored results, whichever of them can't be read."""
+    while True:
+        try:
+            return [stored.told(it) for it in values(words, stored.lines())[0]]
+        except BadCall as error:
+            if not stored.set_aside(error):
+                raise
