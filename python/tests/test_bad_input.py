@@ -1,6 +1,5 @@
 """Bad input, hostile texts and clients that fail: a named refusal, and nothing is lost."""
 
-import json
 import sys
 import unittest
 from pathlib import Path
@@ -10,9 +9,15 @@ HERE = Path(__file__).resolve().parent
 sys.path[:0] = [str(HERE.parent / "src"), str(HERE)]
 
 from dictionary import Dictionary, stored
-from bevtragi import (BadCall, CanvasError, Failure, Refused, Report, Unreadable, collect, export,
-                      run, what_if, what_if_each)
+from bevtragi import (BadCall, CanvasError, Failure, Refused, Report, Unreadable, adapt, check,
+                      collect, cured, every_failure, export, graph, messages, on_celery, run,
+                      what_if, what_if_each)
 from bevtragi.exchange import commands_of
+
+try:
+    import celery
+except ImportError:
+    celery = None
 
 TWO = {"task": "celery.chain", "subtask_type": "chain", "kwargs": {"tasks": [
     {"task": "tasks.add", "args": [4, 4]}, {"task": "tasks.mul", "args": [8]}]}}
@@ -46,8 +51,19 @@ class Starts(unittest.TestCase):
         with self.assertRaisesRegex(CanvasError, "^Redis: ConnectionError: refused$"):
             collect(TWO, client, "0" * 22)
 
+    def test_a_client_that_is_none_or_answers_otherwise(self):
+        for call in (lambda: export(TWO, None), lambda: collect(TWO, None, "0" * 22)):
+            with self.assertRaisesRegex(CanvasError, "^Redis: AttributeError: "):
+                call()
+        for answer in (None, [None], [5, 6], [b"{}"] * 3):
+            client = mock.Mock()
+            client.mget.return_value = answer
+            with self.assertRaisesRegex(CanvasError, "mget of 2 keys answers otherwise"):
+                collect(TWO, client, "0" * 22)
+
     def test_options_that_are_none(self):
-        for options in ({"without_script": True}, {"no_such": 1}, {"run": "0" * 22}):
+        for options in ({"without_script": True}, {"no_such": 1}, {"run": "0" * 22},
+                        {"expires": 10 ** 4000}, {"queue": "\ud800"}):
             client = Dictionary()
             with self.assertRaises(CanvasError):
                 export(TWO, client, **options)
@@ -140,9 +156,22 @@ class Canvases(unittest.TestCase):
 
     def test_words_that_are_no_numbers(self):
         for how in ({"workers": "--help"}, {"turns": ["--help"]}, {"workers": 1.5},
-                    {"again": "all"}, {"again": 1}, {"again": ["tasks.add"]}):
+                    {"workers": 10 ** 4000}, {"turns": 5}, {"tasks": None}, {"tasks": [1]},
+                    {"again": "all"}, {"again": 1}, {"again": ["tasks.add"]},
+                    {"again": {"tasks.add": 5}}, {"again": {"tasks.add": "early,2:late"}}):
             with self.assertRaises(BadCall, msg=str(how)):
                 run(TWO, **how)
+
+    def test_what_is_no_signature_raises_nothing_else(self):
+        calls = [cured, on_celery] if celery else []
+        for wrong in ({}, {"task": 5}, {"task": "a", "options": [1]}, {"task": "a", "kwargs": [1]},
+                      {"task": "a", "subtask_type": "chord", "kwargs": {"body": None}},
+                      {"task": "a", "subtask_type": "chain", "kwargs": {"tasks": 5}}):
+            for call in (what_if, check, adapt, graph, messages, every_failure, *calls):
+                try:
+                    call(wrong)
+                except CanvasError:
+                    pass
 
     def test_one_that_is_none_is_one_of_many(self):
         found = what_if_each([{"task": "a"}, 5, b'{"task":"a"}\0{"task":"b"}', b"", {"task": "b"}])

@@ -33,14 +33,17 @@ def program() -> Program:
     """The program that is called: of $CANVAS, the wheel, the build in this checkout, or the PATH.
     Raises CanvasError where it isn't there, or isn't the right one."""
     path = Path(_path_of_program(os.environ.get("CANVAS"), os.environ.get("PATH")))
-    digest = hashlib.sha256(path.read_bytes()).hexdigest()
     record = Path(__file__).resolve().with_name("program.json")
-    if path.parent != record.parent or not record.exists():
-        return Program(str(path), VERSION, digest)
-    told = json.loads(record.read_text())
-    if told.pop("digest") != digest:
-        raise CanvasError(f"{path} isn't the program that was put into this package")
-    return Program(str(path), VERSION, digest, **told)
+    try:
+        digest = hashlib.sha256(path.read_bytes()).hexdigest()
+        if path.parent != record.parent or not record.exists():
+            return Program(str(path), VERSION, digest)
+        told = json.loads(record.read_text())
+        if told.pop("digest") != digest:
+            raise CanvasError(f"{path} isn't the program that was put into this package")
+        return Program(str(path), VERSION, digest, **told)
+    except (OSError, ValueError, TypeError, LookupError) as error:
+        raise CanvasError(f"{path} can't be compared with its record: {error}") from error
 
 
 @functools.lru_cache(maxsize=None)

@@ -10,7 +10,7 @@ import json
 import math
 import os
 import re
-from typing import Any, Dict, Iterable, Set
+from typing import Any, Dict, List, Set, Union
 
 from .errors import BadCall
 from .outcomes import Unreadable
@@ -27,7 +27,7 @@ _SAID = re.compile(r"(NotJson|UnknownState|UnknownException): in the result of t
 class Stored:
     """The stored results of a canvas's tasks, in the order of their keys."""
 
-    def __init__(self, keys: Iterable[str], found: Iterable[Any]) -> None:
+    def __init__(self, keys: List[str], found: List[Union[str, bytes, None]]) -> None:
         self._numbers = [key[-36:] for key in keys]
         self._texts = [it.encode(errors="surrogatepass") if isinstance(it, str) else it or b""
                        for it in found]
@@ -53,7 +53,8 @@ class Stored:
 
     def _set_aside(self, place: int, fault: str) -> None:
         mark = f"{self._mark} {place}"
-        told = _read(self._texts[place]) if fault == "NotJson" and place not in self._aside else None
+        is_first = fault == "NotJson" and place not in self._aside
+        told = _read(self._texts[place]) if is_first else None
         if told is None:
             told = {"status": "SUCCESS", "task_id": self._numbers[place],
                     "result": Unreadable(fault)}
@@ -94,7 +95,7 @@ def _fault(text: bytes) -> str:
 
 
 def _read(text: bytes) -> dict[str, Any] | None:
-    """What Python reads of a result, with an identifier and a failure that the program reads too."""
+    """What Python reads of a result. The program reads its identifier, and a failure, too."""
     try:
         told = json.loads(text)
         found = _plain({key: told[key] for key in ("status", "task_id")})
