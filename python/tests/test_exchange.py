@@ -39,6 +39,14 @@ class Starts(unittest.TestCase):
         self.assertIn(f"p_canvas-run-{number}".encode(), wanted)
 
 
+    def test_a_canvas_without_tasks_starts_nothing(self):
+        client = Dictionary()
+        empty = {"task": "celery.group", "subtask_type": "group", "kwargs": {"tasks": []}}
+        number = export(empty, client)
+        self.assertEqual(client.commands, [])
+        self.assertEqual(collect(empty, client, number).rows, [])
+
+
 class Results(unittest.TestCase):
     """What is asked of Redis, and made of it."""
 

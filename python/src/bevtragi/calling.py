@@ -87,7 +87,7 @@ def ask(words: list[str], given: bytes) -> tuple[str, str]:
     call = _ended(path, [*words, "--json"], given)
     out, said = (it.decode(errors="replace") for it in (call.stdout, call.stderr))
     line = said.partition("\n")[0]
-    if call.returncode == 0 and (out or words[0] in ("keys", "messages")):
+    if call.returncode == 0 and (out or words[0] in ("export", "keys", "messages")):
         return out, said
     if call.returncode == 1 and line.startswith("{"):
         told = json.loads(line)

@@ -24,10 +24,8 @@ def export(canvas: Canvas, client: Any, **options: Any) -> str:
         raise BadCall("an option of a start can't be so large a number")
     words = [f"--{name.replace('_', '-')}={value}" for name, value in options.items()]
     said = ask(["export", "-", f"--run={number}", *words], text_of(canvas))[0]
-    commands = commands_of(said.encode())
-    if len(commands) != 1:
-        raise BadCall("a client starts a canvas by one command: leave out `without_script`")
-    _by(client, "execute_command", *commands[0])
+    for command in commands_of(said.encode()):  # one; none of a canvas without tasks
+        _by(client, "execute_command", *command)
     return number
 
 
