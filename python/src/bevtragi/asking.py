@@ -110,7 +110,8 @@ def what_if_each(canvases: Iterable[Canvas], tasks: Answers = {}) -> list[Report
             raise CanvasError(f"`canvas run` gave {len(lines)} lines for {len(some)} canvases")
         said += lines
     left = iter(said)
-    found = [_each(next(left), asked, it, tasks) if isinstance(it, bytes) else it for it in texts]
+    found: list[Report | CanvasError] = [
+        _each(next(left), asked, it, tasks) if isinstance(it, bytes) else it for it in texts]
     check_names(tasks, _names(*(it for it in found if isinstance(it, Report))))
     return found
 

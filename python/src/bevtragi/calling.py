@@ -52,7 +52,8 @@ def _path_of_program(named: str | None, _path: str | None) -> str:
     here = Path(__file__).resolve()
     top = here.parent.parent.parent.parent
     own = [here.with_name("canvas")] + [top / "canvas"] * (top / "crates.txt").exists()
-    found = named or next((it for it in own if it.is_file()), None) or shutil.which("canvas")
+    there = next((str(it) for it in own if it.is_file()), None)
+    found = named or there or shutil.which("canvas")
     if not found:
         raise CanvasError("there is no program `canvas`: install the wheel, which has it; or name"
                           " it in $CANVAS; or build it, by `./canvas run FILE` in a checkout")

@@ -65,9 +65,9 @@ def plain(value: Any) -> Any:
 
 def complete(sig: Tree) -> None:
     """Gives a signature the members that Celery looks for, if its JSON leaves them out."""
-    for key, empty in (("args", []), ("kwargs", {}), ("options", {})):
+    for key, kind in (("args", list), ("kwargs", dict), ("options", dict)):
         if not sig.get(key):
-            sig[key] = empty
+            sig[key] = kind()
     sig.setdefault("subtask_type", None)
     sig.setdefault("immutable", False)
 

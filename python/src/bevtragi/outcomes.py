@@ -49,7 +49,7 @@ class Warning(NamedTuple):
     task: str
     pointer: str
     note: str
-    count: int = 1
+    count: int = 1  # type: ignore[assignment]
 
     def __str__(self) -> str:
         more = f", the first of {self.count}" if self.count > 1 else ""

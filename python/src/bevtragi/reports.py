@@ -137,7 +137,9 @@ class Report:
         return [f"{sign} {it}" for pair in pairs for sign, it in zip("-+", pair) if it is not None]
 
     def __eq__(self, other: object) -> bool:
-        return not self.differences(other) if isinstance(other, Report) else NotImplemented
+        if not isinstance(other, Report):
+            return NotImplemented
+        return not self.differences(other)
 
     def __repr__(self) -> str:
         return "\n".join(filter(None, [self.text(), *map(str, self.misfits), self.note]))

@@ -29,7 +29,7 @@ def text_of(canvas: Canvas) -> bytes:
         if isinstance(canvas, dict):
             return json.dumps(canvas, default=str, allow_nan=False).encode()
     except OSError as error:
-        raise BadCall(f"{canvas} can't be read: {error.strerror}") from error
+        raise BadCall(f"{str(canvas)} can't be read: {error.strerror}") from error
     except (TypeError, ValueError, RecursionError) as error:
         raise BadCall(f"this canvas can't be written as JSON: {error}") from error
     if isinstance(canvas, str) and canvas.lstrip()[:1] == "{":
@@ -61,7 +61,7 @@ def words_of(tasks: Answers, is_whole: bool = False) -> list[str]:
     if not isinstance(tasks, Mapping):
         raise BadCall(f"{tasks!r:.60} is no dictionary of what tasks answer")
     words = ["--adapt"] * is_whole
-    others = dict.fromkeys(("*", *OWN), tasks.get("*", 0)) if is_whole else {}
+    others: Dict[Any, Any] = dict.fromkeys(("*", *OWN), tasks.get("*", 0)) if is_whole else {}
     for key, answer in {**others, **tasks}.items():
         kind = answer if isinstance(answer, type) else type(answer)
         if issubclass(kind, Exception):
