@@ -1,4 +1,7 @@
-"""Sends a start cut at each of its lengths, with what `redis-cli --pipe` sends behind it."""
+"""Sends a start truncated at each length, and after it what `redis-cli --pipe` sends at its end.
+
+    python3 cut.py START SOCKET     a file with the start, and the socket of a Redis of its own
+"""
 
 import socket
 import sys
@@ -10,13 +13,15 @@ LINE_END = 2  # bytes that say nothing: redis-cli's own line end stands in for t
 
 with open(sys.argv[1], "rb") as file:
     start = file.read()
-port = int(sys.argv[2])
-server = redis.Redis(host="127.0.0.1", port=port, db=DATABASE)
+path = sys.argv[2]
+server = redis.Redis(unix_socket_path=path, db=DATABASE)
 behind = b"\r\n*2\r\n$4\r\nECHO\r\n$20\r\n" + b"0123456789abcdefghij" + b"\r\n"
 
 
 def send(text):
-    with socket.create_connection(("127.0.0.1", port), timeout=30) as link:
+    with socket.socket(socket.AF_UNIX) as link:
+        link.settimeout(30)
+        link.connect(path)
         link.sendall(b"*2\r\n$6\r\nSELECT\r\n$1\r\n%d\r\n" % DATABASE + text)
         link.shutdown(socket.SHUT_WR)
         while link.recv(65536):

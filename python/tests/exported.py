@@ -1,7 +1,7 @@
 """Runs the five flows on a real Celery worker, with no task failing and with each failing in turn,
 and compares what it calls and stores with what_if(). `./try-celery` starts it.
 
-    python3 exported.py PORT     the port of a Redis of its own on 127.0.0.1
+    python3 exported.py PLACE    a Redis of its own: the path of its socket, or a port of 127.0.0.1
 """
 
 import os
@@ -11,11 +11,10 @@ import sys
 import time
 from pathlib import Path
 
-import redis
-
 HERE = Path(__file__).resolve().parent
-sys.path.insert(0, str(HERE.parent / "src"))
+sys.path[:0] = [str(HERE.parent / "src"), str(HERE)]
 
+from places import client_of, url_of
 from bevtragi import adapt, collect, export, what_if
 
 SECONDS = 30
@@ -66,7 +65,7 @@ def compare(client):
 
 
 def main():
-    url = f"redis://127.0.0.1:{sys.argv[1]}/0"
+    url = url_of(sys.argv[1], 0)
     words = [sys.executable, "-B", "-m", "celery", "-A", "flow_tasks", "worker", "-Q", "flows",
              "-n", "flows@localhost", "-c", "2", "--without-gossip", "--without-mingle",
              "--without-heartbeat"]
@@ -74,7 +73,7 @@ def main():
                               stdout=subprocess.DEVNULL, stderr=subprocess.DEVNULL,
                               start_new_session=True)
     try:
-        return 1 if compare(redis.Redis.from_url(url)) else 0
+        return 1 if compare(client_of(url)) else 0
     finally:
         os.killpg(worker.pid, signal.SIGTERM)
         worker.wait(SECONDS)

@@ -5,15 +5,16 @@ import os
 import re
 from pathlib import Path
 
-import redis
 from celery import Celery
+
+from places import client_of
 
 REDIS = os.environ["CANVAS_REDIS"]
 FLOWS = Path(__file__).resolve().parent / "flows"
 
 app = Celery("flow_tasks", broker=REDIS, backend=REDIS, strict_typing=False)
 app.conf.task_default_queue = "flows"
-store = redis.Redis.from_url(REDIS)
+store = client_of(REDIS)
 
 
 def answer(task):

@@ -1,8 +1,8 @@
 """Starts the flows of `user_flows` by `apply_async()` on real workers, well and with tasks failing,
 each as it is and as `cured()` gives it, and says what became of each run. `./try-celery` calls it.
 
-    python3 started.py PORT [--write]    the port of a Redis of its own on 127.0.0.1
-    python3 started.py PORT --of FLOW    a JSON object for each run of one flow
+    python3 started.py PLACE [--write]    a Redis of its own: a socket's path, or a port of 127.0.0.1
+    python3 started.py PLACE --of FLOW    a JSON object for each run of one flow
 
 It empties database 1 of that Redis. It prints a line for each run that ends otherwise than
 flows/started-VERSION.jsonl says, and with --write it writes that file anew. The status is 1 if a
@@ -144,22 +144,22 @@ def started(store, flow, fails):
 
 def runs_of(name):
     """Each run of a flow, as a JSON object."""
-    import redis
     from bevtragi import cured
+    from places import client_of
     from user_flows import FLOWS
 
-    store = redis.Redis.from_url(os.environ["CANVAS_REDIS"])
+    store = client_of(os.environ["CANVAS_REDIS"])
     for label, fails in failures(FLOWS[name]()):
         yield {"flow": name, "fails": label, "started": started(store, FLOWS[name](), fails),
                "cured": started(store, cured(FLOWS[name]()), fails)}
 
 
-def runs(port):
+def runs(place):
     """Each run of each flow. A process of its own starts each flow, as a user's program would."""
     from user_flows import FLOWS
 
     for name in FLOWS:
-        words = [PYTHON, "-B", str(HERE / "started.py"), port, "--of", name]
+        words = [PYTHON, "-B", str(HERE / "started.py"), place, "--of", name]
         said = subprocess.run(words, stdout=subprocess.PIPE, check=True, timeout=20 * SECONDS)
         yield from map(json.loads, said.stdout.splitlines())
 
@@ -174,9 +174,10 @@ def start_worker():
 
 
 def main():
-    port, *words = sys.argv[1:]
-    os.environ["CANVAS_REDIS"] = f"redis://127.0.0.1:{port}/1"
+    place, *words = sys.argv[1:]
     sys.path[:0] = [str(HERE.parent / "src"), str(HERE)]
+    from places import url_of
+    os.environ["CANVAS_REDIS"] = url_of(place, 1)
     import celery
 
     if words[:1] == ["--of"]:
@@ -193,7 +194,7 @@ def main():
     worker = start_worker()
     found, differ = [], 0
     try:
-        for run in runs(port):
+        for run in runs(place):
             found.append(run)
             before = known.get((run["flow"], run["fails"]))
             if before != run:

@@ -11,6 +11,8 @@ import subprocess
 import sys
 import tempfile
 import unittest
+from datetime import date
+from decimal import Decimal
 from pathlib import Path
 from unittest import mock
 
@@ -18,6 +20,7 @@ HERE = Path(__file__).resolve().parent
 sys.path[:0] = [str(HERE.parent / "src"), str(HERE)]
 
 import bevtragi
+from dictionary import said_by
 from bevtragi import (BadCall, CanvasError, Failure, Picture, Refused, Report, adapt, check,
                       collect, every_failure, export, graph, messages, pytest_assertrepr_compare,
                       run, what_if, what_if_each)
@@ -45,12 +48,6 @@ def chain(*tasks, **options):
 
 def group(*tasks):
     return {"task": "celery.group", "subtask_type": "group", "kwargs": {"tasks": list(tasks)}}
-
-
-def said_by(words, given):
-    """What the program itself prints."""
-    return subprocess.run([bevtragi.program().path, *words], input=given, stdout=subprocess.PIPE,
-                          check=True).stdout.decode()
 
 
 class Flows(unittest.TestCase):
@@ -88,7 +85,7 @@ class Flows(unittest.TestCase):
                 stubs = ["--task", "*=7", "--task", f"{row.name}=raise:TypeError"]
                 wanted = said_by(["run", "-", "--explain", *stubs], text)
                 found = what_if(flow(name), {"*": 7, row.name: TypeError})
-                self.assertEqual(found.text() + "\n", wanted)
+                self.assertEqual((found.text() + "\n").encode(), wanted)
 
     def test_one_of_several_namesakes(self):
         report = what_if(flow("nightly"), {2: TimeoutError})
@@ -136,6 +133,8 @@ class Flows(unittest.TestCase):
             "#4 shop.refund fails: result 0"])
         self.assertEqual([it.name for it in every_failure(flow("nightly"))[2].rows[:3]],
                          ["report.count"] * 3)
+        found = every_failure(chain(task("a"), task("b")), {"a": 5})
+        self.assertEqual((found[2][1].result, found.well[1].result), (5, 5))
 
     def test_pictures_have_the_tasks_as_they_were_composed(self):
         picture = what_if(flow("order"), {"shop.ship": ConnectionError}).graph()
@@ -189,6 +188,12 @@ class Answers(unittest.TestCase):
         self.assertEqual([str(it) for it in found.result], names)
         for name in names:
             self.assertIn(f'\\nFAILURE {name}"]', found.graph())
+
+    def test_an_exception_of_a_users_own(self):
+        class OutOfStock(KeyError):
+            """One whose base has a name, too."""
+        for error in (OutOfStock, OutOfStock("A-17")):
+            self.assertEqual(what_if(task("a"), {"a": error}).result, Failure("OutOfStock"))
 
     def test_exceptions_that_tasks_raise_by_themselves(self):
         over = task("tasks.mul", 2 ** 60, 2)
@@ -252,10 +257,14 @@ class Many(unittest.TestCase):
         self.assertEqual(what_if_each([]), [])
 
     def test_more_than_one_call_takes(self):
-        canvases = [task("a", 0, number) for number in range(50)]
+        canvases = [task("a", 0, number) for number in range(70)]
         with mock.patch("bevtragi.asking.MOST", 7):
             found = what_if_each(canvases, {"a": 6})
-        self.assertEqual([it.result for it in found], [6] * 50)
+        self.assertEqual([it.result for it in found], [6] * 70)
+
+    def test_answers_by_number(self):
+        found = what_if_each([group(task("a"), task("a")), chain(task("b"), task("c"))], {2: 6})
+        self.assertEqual([it.result for it in found], [[0, 6], 6])
 
     def test_a_line_feed_in_a_text(self):
         text = b'{"task": "a",\n "args": ["x\ny"]}'
@@ -278,12 +287,52 @@ class Reports(unittest.TestCase):
         self.assertEqual(one.differences(what_if(task("shop.find")))[:2],
                          ["- #2 shop.charge SUCCESS 0", "- #3 shop.ship SUCCESS 0"])
 
+    def test_reports_that_differ_in_one_row_are_not_equal(self):
+        well = what_if(chain(task("a"), task("b")))
+        for canvas, answers in ((chain(task("a"), task("b")), {"a": 1}),
+                                (chain(task("c"), task("b")), {}),
+                                (chain(task("a")), {})):
+            other = what_if(canvas, answers)
+            self.assertNotEqual(well, other)
+            self.assertNotEqual(other, well)
+
+    def test_lists_have_every_task(self):
+        alarms = {"link_error": [task("alarm", 1), task("alarm", 2)]}
+        report = what_if(chain(task("a", **alarms), *[task("b")] * 5))
+        self.assertEqual((report.pending, report.never_run), (["alarm"] * 2, ["alarm"] * 2))
+        self.assertEqual([row.number for row in report.named("b")], [4, 5, 6, 7, 8])
+        self.assertEqual(report.succeeded, ["a"] + ["b"] * 5)
+
+    def test_a_group_fails_with_any_of_its_members(self):
+        report = what_if(group(task("a"), task("b"), task("c")), {"b": KeyError})
+        self.assertEqual((report.status, report.result), ("FAILURE", [0, Failure("KeyError"), 0]))
+
+    def test_tasks_past_the_first_256(self):
+        report = what_if(chain(*[task("a")] * 300), {290: KeyError})
+        self.assertEqual((report[289].due_to, report[291].due_to, report[300].due_to),
+                         (None, 290, 290))
+        chord = {"task": "celery.chord", "subtask_type": "chord",
+                 "kwargs": {"header": [task("a")] * 300, "body": task("b")}}
+        self.assertEqual(what_if(chord, {290: KeyError}).result,
+                         Failure("ChordError", 290, "KeyError"))
+
+    def test_a_picture_has_each_of_many_answers(self):
+        names = [f"shop.{number}" for number in range(30)]
+        report = what_if(group(*map(task, names)), {**dict.fromkeys(names, 1), names[-1]: KeyError})
+        self.assertIn("FAILURE KeyError", report.graph())
+        self.assertEqual(report.graph().count("SUCCESS 1"), 29)
+
     def test_what_a_notebook_shows(self):
         self.assertEqual(repr(what_if(task("a"))), "#1 a SUCCESS 0\nresult 0")
         picture = graph(task("a"))
         self.assertTrue(repr(picture).startswith("digraph"))
         with mock.patch("shutil.which", lambda name: None):
             self.assertIsNone(picture._repr_svg_())
+        with tempfile.TemporaryDirectory() as room, mock.patch.dict(os.environ, {"PATH": room}):
+            dot = Path(room, "dot")
+            dot.write_text("#!/bin/sh\necho '<svg/>'\n")
+            dot.chmod(0o755)
+            self.assertEqual(picture._repr_svg_(), "<svg/>\n")
 
     def test_a_picture_by_a_dot_that_fails(self):
         with tempfile.TemporaryDirectory() as room, mock.patch.dict(os.environ, {"PATH": room}):
@@ -340,6 +389,12 @@ class Profile(unittest.TestCase):
         first, second = messages(chain(task("tasks.add", 2, 2), task("tasks.mul", 8)))
         self.assertEqual((first["headers"]["task"], second["body"][0]), ("tasks.add", [4, 8]))
         self.assertEqual(messages(group()), [])
+        canvas = chain(task("shop.a"), task("shop.b"))
+        self.assertEqual([it["body"][0] for it in messages(canvas, {"shop.a": 7})], [[], [7]])
+
+    def test_what_json_does_not_know_becomes_its_text(self):
+        picture = graph(task("a", date(2026, 11, 26), Decimal("19.00")))
+        self.assertIn("a('2026-11-26', '19.00')", picture)
 
 
 class Workers(unittest.TestCase):
@@ -395,11 +450,17 @@ class Programs(unittest.TestCase):
             shutil.copytree(HERE.parent / "src" / "bevtragi", package)
             shutil.copy(bevtragi.program().path, package / "canvas")
             built_of = {"commit": "c0ffee", "toolchain": "kit"}
-            for digest, said in ((bevtragi.program().digest, "c0ffee kit"), ("0", "isn't the")):
+            right = bevtragi.program().digest
+            other = right[:-1] + ("0" if right[-1] == "1" else "1")
+            bin_of_another = Path(room, "bin")
+            bin_of_another.mkdir()
+            (bin_of_another / "canvas").symlink_to("/bin/true")
+            for digest, said in ((right, "c0ffee kit"), (other, "isn't the")):
                 (package / "program.json").write_text(json.dumps({**built_of, "digest": digest}))
                 text = ("import bevtragi\ntry: print(*bevtragi.program()[3:])\n"
                         "except bevtragi.CanvasError as error: print(error)")
                 env = {name: it for name, it in os.environ.items() if name != "CANVAS"}
+                env["PATH"] = f"{bin_of_another}:{env['PATH']}"
                 ran = subprocess.run([sys.executable, "-B", "-c", text], cwd=room, check=True,
                                      stdout=subprocess.PIPE, env={**env, "PYTHONPATH": room})
                 self.assertIn(said, ran.stdout.decode())
@@ -409,6 +470,8 @@ class Programs(unittest.TestCase):
                            ("echo no", "`canvas run` answered what can't be read"),
                            ("kill -9 $$", "`canvas run` was killed by signal 9"),
                            ("echo canvas: memory refused >&2; exit 2", "status 2: canvas: memory"),
+                           ("echo '{}'; echo canvas: stopped >&2; exit 2", "status 2: canvas: stopp"),
+                           ("printf 'canvas: \\377\\n' >&2; exit 2", "status 2: canvas: \ufffd$"),
                            ("echo \"error: unexpected argument '--json' found\" >&2; exit 1",
                             "status 1: error: unexpected argument '--json' found")):
             with self.fake(text), self.assertRaisesRegex(CanvasError, said):
@@ -420,6 +483,18 @@ class Programs(unittest.TestCase):
             what_if(task("a"))
         with self.fake("echo '{}'"), self.assertRaisesRegex(CanvasError, "gave 1 lines for 2"):
             what_if_each([task("a"), task("b")])
+
+    def test_what_it_is_called_with(self):
+        with tempfile.TemporaryDirectory() as room:
+            words = Path(room, "words")
+            with self.fake(f'echo "$@" >>{words}; exec {bevtragi.program().path} "$@"'):
+                run(task("a"), workers=3)
+                run(task("a"), workers=2, turns=[2, 1])
+                run(task("a"), again={"a": "early"})
+            said = words.read_text().splitlines()
+        self.assertIn("run - --workers=3 --json", said)
+        self.assertIn("turns - --workers=2 --turns=2,1 --again= --json", said)
+        self.assertIn("turns - --workers=1 --turns= --again=a:early --json", said)
 
     def test_other_programs(self):
         for path, said in (("/nowhere/canvas", "/nowhere/canvas can't be called"),

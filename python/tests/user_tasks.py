@@ -36,8 +36,8 @@ class Noted(Task):
     def __call__(self, *args, **kwargs):
         if "CANVAS_REDIS" not in os.environ:
             raise AssertionError("a task was called")
-        import redis
-        store = redis.Redis.from_url(REDIS)
+        from places import client_of
+        store = client_of(REDIS)
         self.__header__(*args, **kwargs)
         if not self.name.startswith("celery."):
             store.rpush("called", self.name)

@@ -5,11 +5,11 @@ use Rattle.canvas_task.specs.Text.{Text}
 use Rattle.canvas_export.specs.Setting.{Setting}
 use Rattle.canvas_celery.specs.Keys.{size_key, marker_key}
 
--- It does nothing where its last argument isn't `whole`, as in a text that was cut, nor where the
--- run's marker is there. Else it puts the chords' sizes under their keys, the run's marker, and
--- last the messages on the queue. Its keys are the marker, the queue and those of the sizes; its
--- arguments how long sizes are kept, the databases of the results and of the queue, the sizes, the
--- messages, and `whole`.
+-- It sets no key if its last argument isn't `whole`, as in a truncated text, if the server lacks a
+-- database, if the queue's key is there and is no list, or if the run's marker is there. Else it
+-- puts the chords' sizes under their keys, the run's marker, and last the messages on the queue.
+-- Its keys are the marker, the queue and those of the sizes; its arguments how long sizes are kept,
+-- the databases of the results and of the queue, the sizes, the messages, and `whole`.
 abbrev pub script : Text
 script =
     codes "if ARGV[#ARGV] ~= 'whole' then\n"
@@ -17,6 +17,11 @@ script =
     ++ (codes "end\n"
     ++ (codes "local function at(database)\n"
     ++ (codes "  if database ~= '' then redis.call('SELECT', database) end\n"
+    ++ (codes "end\n"
+    ++ (codes "at(ARGV[3])\n"
+    ++ (codes "local kind = redis.call('TYPE', KEYS[2]).ok\n"
+    ++ (codes "if kind ~= 'none' and kind ~= 'list' then\n"
+    ++ (codes "  return redis.error_reply('QUEUE nothing was started: the key of the queue is no list')\n"
     ++ (codes "end\n"
     ++ (codes "at(ARGV[2])\n"
     ++ (codes "if redis.call('EXISTS', KEYS[1]) == 1 then\n"
@@ -26,7 +31,7 @@ script =
     ++ (codes "redis.call('SET', KEYS[1], 'started')\n"
     ++ (codes "at(ARGV[3])\n"
     ++ (codes "for i = #KEYS + 2, #ARGV - 1 do redis.call('LPUSH', KEYS[2], ARGV[i]) end\n"
-    ++ codes "return #ARGV - #KEYS - 2\n")))))))))))))
+    ++ codes "return #ARGV - #KEYS - 2\n"))))))))))))))))))
 
 -- the databases of the results and of the queue; empty words where none is chosen
 abbrev pub database_words : Option (ℕ × ℕ) → List Text

@@ -14,15 +14,21 @@ use crate::starting::Size;
 use canvas_celery::{Run, marker_key, size_key};
 use std::alloc::{AllocError, Global};
 
-/// Looks whether the text came whole and whether the run was started before, then puts the chords'
-/// sizes under their keys, the run's marker, and last the messages on the queue. So whatever fails,
-/// a wrong kind of key too, fails before the first message is put there.
+/// Checks that the text came whole, that the queue's key can be a list, and that the run wasn't
+/// started before. Then puts the chords' sizes under their keys, the run's marker, and last the
+/// messages on the queue. A start that is refused, also for a database that the server lacks, sets
+/// no key.
 pub(crate) const SCRIPT: &str = concat!(
     "if ARGV[#ARGV] ~= 'whole' then\n",
     "  return redis.error_reply('CUT nothing was started: the text was cut')\n",
     "end\n",
     "local function at(database)\n",
     "  if database ~= '' then redis.call('SELECT', database) end\n",
+    "end\n",
+    "at(ARGV[3])\n",
+    "local kind = redis.call('TYPE', KEYS[2]).ok\n",
+    "if kind ~= 'none' and kind ~= 'list' then\n",
+    "  return redis.error_reply('QUEUE nothing was started: the key of the queue is no list')\n",
     "end\n",
     "at(ARGV[2])\n",
     "if redis.call('EXISTS', KEYS[1]) == 1 then\n",

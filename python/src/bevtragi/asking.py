@@ -11,7 +11,7 @@ from .checking import Figures, figures
 from .comparing import Question
 from .errors import BadCall, CanvasError, Refused
 from .reports import Failures, Picture, Report
-from .texts import Answers, Canvas, check_names, text_of, values, words_of
+from .texts import Answers, Canvas, check_names, is_huge, text_of, values, words_of
 
 __all__ = ["adapt", "check", "every_failure", "graph", "messages", "run", "what_if",
            "what_if_each"]
@@ -63,23 +63,34 @@ def _what_if(judge: Judge, tasks: Answers = {}, workers: int = 1,
 
 def _run(text: bytes, tasks: Answers, asked: list[str], workers: int = 1,
          turns: Sequence[int] | None = None, again: Again = False) -> Report:
-    if not all(isinstance(it, int) for it in (workers, *(turns or ()))):
+    listed = turns if isinstance(turns, Sequence) else () if turns is None else (None,)
+    if not all(isinstance(it, int) and not is_huge(it) for it in (workers, *listed)):
         raise BadCall("workers is a whole number, and turns are whole numbers")
-    if not isinstance(again, (bool, Mapping)):
-        raise BadCall(f"again is True, False, or what is delivered again by name, and not {again!r}")
     words = ["run", "-", f"--workers={workers}", *asked]
-    points = ["all"] * (again is True)
+    points = _points(again)
     if isinstance(again, Mapping):
         check_names(again, _names(_run(text, {}, asked)))
-        points = [f"{key}:{it}" for key, at in again.items()
-                  for it in ([at] if isinstance(at, str) else at)]
     if turns is not None or again:
         words[0] = "turns"
-        words += [f"--turns={','.join(map(str, turns or ()))}", f"--again={','.join(points)}"]
+        words += [f"--turns={','.join(map(str, listed))}", f"--again={','.join(points)}"]
     (*rows, end), beside = values(words, text)
     report = Report(rows, end, (asked, text), int(beside.split()[1]) if "Again" in beside else 0)
     check_names(tasks, _names(report))
     return report
+
+
+def _points(again: Again) -> list[str]:
+    """What is delivered again, in the program's words."""
+    if isinstance(again, bool):
+        return ["all"] * again
+    if not isinstance(again, Mapping):
+        raise BadCall(f"again is True, False, or what is delivered again by name, not {again!r}")
+    found = [(key, it) for key, at in again.items()
+             for it in (at if isinstance(at, (list, tuple)) else [at])]
+    for key, at in found:
+        if at not in ("early", "late"):
+            raise BadCall(f"BadAgain: {key} is delivered again \"early\" or \"late\", not {at!r}")
+    return [f"{key}:{at}" for key, at in found]
 
 
 def _names(*reports: Report) -> list[str]:
@@ -99,7 +110,8 @@ def what_if_each(canvases: Iterable[Canvas], tasks: Answers = {}) -> list[Report
             raise CanvasError(f"`canvas run` gave {len(lines)} lines for {len(some)} canvases")
         said += lines
     left = iter(said)
-    found = [_each(next(left), asked, it, tasks) if isinstance(it, bytes) else it for it in texts]
+    found: list[Report | CanvasError] = [
+        _each(next(left), asked, it, tasks) if isinstance(it, bytes) else it for it in texts]
     check_names(tasks, _names(*(it for it in found if isinstance(it, Report))))
     return found
 
@@ -134,7 +146,11 @@ def every_failure(canvas: Canvas, tasks: Answers = {}, error: Any = Exception, a
 
 def adapt(canvas: Canvas) -> dict[str, Any]:
     """A canvas that can be run, made of any that Celery writes. Raises Refused where none can."""
-    return dict(json.loads(ask(["adapt", "-"], text_of(canvas))[0]))
+    said = ask(["adapt", "-"], text_of(canvas))[0]
+    try:
+        return dict(json.loads(said))
+    except (TypeError, ValueError) as error:
+        raise CanvasError(f"`canvas adapt` answered what can't be read: {error}") from error
 
 
 def check(canvas: Canvas, tasks: Answers = {}, app: Any = None) -> Figures:

@@ -33,14 +33,17 @@ def program() -> Program:
     """The program that is called: of $CANVAS, the wheel, the build in this checkout, or the PATH.
     Raises CanvasError where it isn't there, or isn't the right one."""
     path = Path(_path_of_program(os.environ.get("CANVAS"), os.environ.get("PATH")))
-    digest = hashlib.sha256(path.read_bytes()).hexdigest()
     record = Path(__file__).resolve().with_name("program.json")
-    if path.parent != record.parent or not record.exists():
-        return Program(str(path), VERSION, digest)
-    told = json.loads(record.read_text())
-    if told.pop("digest") != digest:
-        raise CanvasError(f"{path} isn't the program that was put into this package")
-    return Program(str(path), VERSION, digest, **told)
+    try:
+        digest = hashlib.sha256(path.read_bytes()).hexdigest()
+        if path.parent != record.parent or not record.exists():
+            return Program(str(path), VERSION, digest)
+        told = json.loads(record.read_text())
+        if told.pop("digest") != digest:
+            raise CanvasError(f"{path} isn't the program that was put into this package")
+        return Program(str(path), VERSION, digest, **told)
+    except (OSError, ValueError, TypeError, LookupError) as error:
+        raise CanvasError(f"{path} can't be compared with its record: {error}") from error
 
 
 @functools.lru_cache(maxsize=None)
@@ -49,7 +52,8 @@ def _path_of_program(named: str | None, _path: str | None) -> str:
     here = Path(__file__).resolve()
     top = here.parent.parent.parent.parent
     own = [here.with_name("canvas")] + [top / "canvas"] * (top / "crates.txt").exists()
-    found = named or next((it for it in own if it.is_file()), None) or shutil.which("canvas")
+    there = next((str(it) for it in own if it.is_file()), None)
+    found = named or there or shutil.which("canvas")
     if not found:
         raise CanvasError("there is no program `canvas`: install the wheel, which has it; or name"
                           " it in $CANVAS; or build it, by `./canvas run FILE` in a checkout")
@@ -84,7 +88,7 @@ def ask(words: list[str], given: bytes) -> tuple[str, str]:
     call = _ended(path, [*words, "--json"], given)
     out, said = (it.decode(errors="replace") for it in (call.stdout, call.stderr))
     line = said.partition("\n")[0]
-    if call.returncode == 0 and (out or words[0] in ("keys", "messages")):
+    if call.returncode == 0 and (out or words[0] in ("export", "keys", "messages")):
         return out, said
     if call.returncode == 1 and line.startswith("{"):
         told = json.loads(line)

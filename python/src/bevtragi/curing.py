@@ -7,7 +7,7 @@ import uuid
 from typing import Any
 
 from .celery_run import celery_version
-from .marking import Tree, callbacks_of, complete, kind_of, members_of, plain
+from .marking import Tree, callbacks_of, complete, kind_of, members_of, plain, walked
 from .texts import Canvas, tree_of
 
 __all__ = ["cured"]
@@ -26,16 +26,19 @@ def cured(flow: Canvas) -> Any:
 
     What is left is what `differences(cured(flow))` names: as a `get()` that waits forever, or an
     error callback that only the first task of a body has. A start by `export()` has none of these.
-    Raises CanvasError if Celery isn't installed."""
+    Raises CanvasError if Celery isn't installed, and BadCall for what is no signature."""
     celery_version()
     from celery.canvas import Signature
     tree = plain(tree_of(flow))
-    _cure(tree)
-    if kind_of(tree) == "chord" and kind_of(tree["kwargs"]["body"]) == "chain":
-        # Since 5.3 the start of a chord gives its own identifier, or none, to the chain.
-        tree["options"].setdefault("task_id", str(uuid.uuid4()))
     kind = type(flow) if isinstance(flow, Signature) else Signature
-    return kind.from_dict(tree, app=_app_of(flow))
+    with walked():
+        if not isinstance(tree["task"], str):
+            raise TypeError("it has no name of a task")
+        _cure(tree)
+        if kind_of(tree) == "chord" and kind_of(tree["kwargs"]["body"]) == "chain":
+            # Since 5.3 the start of a chord gives its own identifier, or none, to the chain.
+            tree["options"].setdefault("task_id", str(uuid.uuid4()))
+        return kind.from_dict(tree, app=_app_of(flow))
 
 
 def _app_of(sig: Any) -> Any:

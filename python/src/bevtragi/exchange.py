@@ -9,7 +9,8 @@ from typing import Any
 from .calling import ask
 from .errors import BadCall, CanvasError
 from .reports import Report
-from .texts import Canvas, text_of, values
+from .stored import Stored
+from .texts import Canvas, is_huge, text_of, values
 
 __all__ = ["collect", "export"]
 
@@ -19,12 +20,12 @@ def export(canvas: Canvas, client: Any, **options: Any) -> str:
     run's number. The options are those of `canvas export` that have a value, as queue="orders".
     Raises Refused, BadCall for another option, and CanvasError if Redis refuses the start."""
     number = os.urandom(11).hex()
+    if any(map(is_huge, options.values())):
+        raise BadCall("an option of a start can't be so large a number")
     words = [f"--{name.replace('_', '-')}={value}" for name, value in options.items()]
     said = ask(["export", "-", f"--run={number}", *words], text_of(canvas))[0]
-    commands = commands_of(said.encode())
-    if len(commands) != 1:
-        raise BadCall("a client starts a canvas by one command: leave out `without_script`")
-    _by(client.execute_command, *commands[0])
+    for command in commands_of(said.encode()):  # one; none of a canvas without tasks
+        _by(client, "execute_command", *command)
     return number
 
 
@@ -57,27 +58,48 @@ def commands_of(text: bytes) -> list[list[bytes]]:
     return found
 
 
-def _by(call: Any, *words: Any) -> Any:
+def _by(client: Any, command: str, *words: Any) -> Any:
     """What a client answers. Whatever it raises is a CanvasError."""
     try:
-        return call(*words)
+        return getattr(client, command)(*words)
     except Exception as error:
         raise CanvasError(f"Redis: {type(error).__name__}: {error}") from error
+
+
+def _results(client: Any, keys: list[str]) -> list[str | bytes | None]:
+    """What is stored under each key."""
+    found = _by(client, "mget", keys) if keys else []
+    if not isinstance(found, (list, tuple)) or len(found) != len(keys) or \
+            not all(it is None or isinstance(it, (str, bytes)) for it in found):
+        raise CanvasError(f"Redis: mget of {len(keys)} keys answers otherwise: {found!r:.60}")
+    return [*found]
 
 
 def collect(canvas: Canvas, client: Any, run: str, complete: bool = False,
             prefix: str = "") -> Report:
     """The Report so far of such a run, by a client of the result backend, whose global_keyprefix is
     `prefix`. With `complete` tasks that a failure reaches have their state, as in what_if(), where
-    Celery leaves them pending. Raises CanvasError for a result that can't be read, and for what
-    the client raises."""
+    Celery leaves them pending. A stored result that can't be read is an Unreadable. Raises
+    CanvasError for the result of another task, and for what the client raises."""
     text = text_of(canvas)
     keys = ask(["keys", "-", f"--run={run}", f"--prefix={prefix}"], text)[0].split("\n")[:-1]
-    found = _by(client.mget, keys) if keys else []
-    lines = ((it.encode() if isinstance(it, str) else it or b"") + b"\n" for it in found)
-    with tempfile.NamedTemporaryFile(suffix=".json") as file:
-        file.write(text)
-        file.flush()
-        words = ["collect", file.name, f"--run={run}"] + ["--complete"] * complete
-        *rows, end = values(words, b"".join(lines))[0]
+    stored = Stored(keys, _results(client, keys))
+    try:
+        with tempfile.NamedTemporaryFile(suffix=".json") as file:
+            file.write(text)
+            file.flush()
+            words = ["collect", file.name, f"--run={run}"] + ["--complete"] * complete
+            *rows, end = _collected(words, stored)
+    except OSError as error:
+        raise CanvasError(f"there is no place for a temporary file: {error}") from error
     return Report(rows, end)
+
+
+def _collected(words: list[str], stored: Stored) -> list[dict[str, Any]]:
+    """What the program tells of stored results, whichever of them can't be read."""
+    while True:
+        try:
+            return [stored.told(it) for it in values(words, stored.lines())[0]]
+        except BadCall as error:
+            if not stored.set_aside(error):
+                raise

@@ -7,9 +7,12 @@ the task goes: into messages, chains, chords and callbacks.
 from __future__ import annotations
 
 import json
-from typing import Any, Dict, Set
+from contextlib import contextmanager
+from typing import Any, Dict, Iterator, Set
 
-__all__ = ["Marked", "callbacks_of", "complete", "kind_of", "members_of", "plain"]
+from .errors import BadCall
+
+__all__ = ["Marked", "callbacks_of", "complete", "kind_of", "members_of", "plain", "walked"]
 
 CANVASES = ("chain", "group", "chord")
 MAPS = ("celery.map", "celery.starmap", "celery.chunks")
@@ -44,6 +47,15 @@ def _listed(found: Any) -> list[Tree]:
             if isinstance(it, dict)]
 
 
+@contextmanager
+def walked() -> Iterator[None]:
+    """Raises BadCall if what is walked isn't made as signatures are."""
+    try:
+        yield
+    except (AttributeError, LookupError, TypeError, RecursionError) as error:
+        raise BadCall(f"this canvas isn't a signature of Celery: {error}") from error
+
+
 def plain(value: Any) -> Any:
     """A copy of dictionaries and lists, with the same other values in it."""
     if isinstance(value, dict):
@@ -53,9 +65,9 @@ def plain(value: Any) -> Any:
 
 def complete(sig: Tree) -> None:
     """Gives a signature the members that Celery looks for, if its JSON leaves them out."""
-    for key, empty in (("args", []), ("kwargs", {}), ("options", {})):
+    for key, kind in (("args", list), ("kwargs", dict), ("options", dict)):
         if not sig.get(key):
-            sig[key] = empty
+            sig[key] = kind()
     sig.setdefault("subtask_type", None)
     sig.setdefault("immutable", False)
 
@@ -70,7 +82,8 @@ class Marked:
     def __init__(self, canvas: Tree) -> None:
         self.names: Dict[str, str] = {}
         self.in_maps: Set[str] = set()
-        self.tree = self._copy(canvas, {})
+        with walked():
+            self.tree = self._copy(canvas, {})
 
     def copy(self) -> Any:
         """The canvas, for Celery to change."""

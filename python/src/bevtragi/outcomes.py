@@ -6,7 +6,7 @@ import json
 import re
 from typing import Any, NamedTuple
 
-__all__ = ["Failure", "Warning", "is_exception", "shown"]
+__all__ = ["Failure", "Unreadable", "Warning", "is_exception", "shown"]
 
 
 class Failure(NamedTuple):
@@ -34,6 +34,14 @@ class Failure(NamedTuple):
 _CHORD_ERROR = re.compile(r"Dependency \S*([0-9a-fA-F]{8}) raised (.*)", re.S)
 
 
+class Unreadable(NamedTuple):
+    """A stored result that can't be read, and the program's name for the reason, as "NotJson"."""
+    why: str
+
+    def __str__(self) -> str:
+        return self.why
+
+
 class Warning(NamedTuple):
     """What may surprise: its kind, as "failure-before-group"; the task and the JSON pointer of the
     first signature that has it, and how many have it."""
@@ -41,7 +49,7 @@ class Warning(NamedTuple):
     task: str
     pointer: str
     note: str
-    count: int = 1
+    count: int = 1  # type: ignore[assignment]
 
     def __str__(self) -> str:
         more = f", the first of {self.count}" if self.count > 1 else ""
@@ -52,7 +60,7 @@ def shown(result: Any) -> str:
     """A result as the program prints it."""
     if isinstance(result, list):
         return "[" + ", ".join(map(shown, result)) + "]"
-    if isinstance(result, Failure):
+    if isinstance(result, (Failure, Unreadable)):
         return str(result)
     return "-" if result is None else json.dumps(result, separators=(",", ":"))
 

@@ -20,8 +20,9 @@ __all__ = ["Failures", "Picture", "Report", "Row", "pytest_assertrepr_compare"]
 
 
 class Row(NamedTuple):
-    """A task. Its result is a value, a Failure, or None while it is pending. `ran`: whether it was
-    called; `due_to`: which one made it fail without a call. Celery's workers tell neither."""
+    """A task. Its result is a value, a Failure, an Unreadable, or None while it is pending. `ran`:
+    whether it was called; `due_to`: which one made it fail without a call. Celery's workers tell
+    neither."""
     number: int
     name: str
     status: str
@@ -68,9 +69,9 @@ class Report:
                  asked: tuple[list[str], bytes] | None = None, again: int = 0) -> None:
         self.rows = [_row(number, it) for number, it in enumerate(rows, 1)]
         self.status, self.result, self.again = end["status"], _result(end, rows), again
-        self.succeeded, self.failed, self.pending = (
+        self.succeeded, self.failed, self.pending, self.unreadable = (
             [row.name for row in self.rows if row.status == status]
-            for status in ("SUCCESS", "FAILURE", "PENDING"))
+            for status in ("SUCCESS", "FAILURE", "PENDING", "UNREADABLE"))
         if asked:
             self._asked = asked
             self.ran, self.never_run = (
@@ -136,7 +137,9 @@ class Report:
         return [f"{sign} {it}" for pair in pairs for sign, it in zip("-+", pair) if it is not None]
 
     def __eq__(self, other: object) -> bool:
-        return not self.differences(other) if isinstance(other, Report) else NotImplemented
+        if not isinstance(other, Report):
+            return NotImplemented
+        return not self.differences(other)
 
     def __repr__(self) -> str:
         return "\n".join(filter(None, [self.text(), *map(str, self.misfits), self.note]))

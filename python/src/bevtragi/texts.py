@@ -11,7 +11,8 @@ from typing import Any, Dict, Iterable, Mapping, Type, Union
 from .calling import ask
 from .errors import BadCall, CanvasError
 
-__all__ = ["Answers", "Canvas", "check_names", "text_of", "tree_of", "values", "words_of"]
+__all__ = ["Answers", "Canvas", "check_names", "is_huge", "text_of", "tree_of", "values",
+           "words_of"]
 
 #: The program's own tasks.
 OWN = ("tasks.add", "tasks.div", "tasks.ident", "tasks.log_error", "tasks.mul", "tasks.xsum")
@@ -28,7 +29,7 @@ def text_of(canvas: Canvas) -> bytes:
         if isinstance(canvas, dict):
             return json.dumps(canvas, default=str, allow_nan=False).encode()
     except OSError as error:
-        raise BadCall(f"{canvas} can't be read: {error.strerror}") from error
+        raise BadCall(f"{str(canvas)} can't be read: {error.strerror}") from error
     except (TypeError, ValueError, RecursionError) as error:
         raise BadCall(f"this canvas can't be written as JSON: {error}") from error
     if isinstance(canvas, str) and canvas.lstrip()[:1] == "{":
@@ -57,23 +58,25 @@ def tree_of(canvas: Canvas) -> dict[str, Any]:
 
 def words_of(tasks: Answers, is_whole: bool = False) -> list[str]:
     """What tasks answer, in the program's words; and of all others, in a canvas that is adapted."""
+    if not isinstance(tasks, Mapping):
+        raise BadCall(f"{tasks!r:.60} is no dictionary of what tasks answer")
     words = ["--adapt"] * is_whole
-    others = dict.fromkeys(("*", *OWN), tasks.get("*", 0)) if is_whole else {}
+    others: Dict[Any, Any] = dict.fromkeys(("*", *OWN), tasks.get("*", 0)) if is_whole else {}
     for key, answer in {**others, **tasks}.items():
         kind = answer if isinstance(answer, type) else type(answer)
         if issubclass(kind, Exception):
             answer = "raise:" + kind.__name__
-        elif not isinstance(answer, (int, str)) or kind is bool or _is_huge(answer):
-            what = "so large a number" if _is_huge(answer) else repr(answer)
+        elif not isinstance(answer, (int, str)) or kind is bool or is_huge(answer):
+            what = "so large a number" if is_huge(answer) else repr(answer)
             raise BadCall(f"a task can't answer {what}: that is a whole number, an exception,"
                           ' or one of "add", "div", "ident", "log_error", "mul" and "xsum"')
         words += ["--task", f"{'#' * isinstance(key, int)}{key}={answer}"]
     return words
 
 
-def _is_huge(answer: Any) -> bool:
+def is_huge(value: Any) -> bool:
     """Whether a number is one that Python doesn't write as a text."""
-    return isinstance(answer, int) and answer.bit_length() > 10_000
+    return isinstance(value, int) and value.bit_length() > 10_000
 
 
 def check_names(keys: Iterable[str | int], names: list[str]) -> None:

@@ -1,0 +1,54 @@
+# What ./canvas and ./try answer while there is no program: help, the version, an unknown command, and a FILE that can't be read. The program answers
+# everything else. Whoever reads this has set `top`.
+
+commands=(run turns normal check adapt graph messages export keys collect help)
+
+# Sets `command`, and from the words after it `files` and `options`, each with its value.
+read_words() {
+  command="${1:-}" files=() options=()
+  while (($# > 1)); do
+    shift
+    case "$command $1" in
+      *' --') files+=("${@:2}") && return 0 ;;
+      *' --workers' | *' --turns' | *' --again' | *' --task' | *' --tasks' | *' --rename' | *' --results' | *' --of' | *' --queue' | *' --prefix' | \
+        *' --expires' | *' --broker-db' | *' --backend-db' | 'export --run' | 'keys --run' | 'collect --run')
+        options+=("${@:1:2}")
+        if (($# > 1)); then shift; fi
+        ;;
+      *' -'?*) options+=("$1") ;;
+      *) files+=("$1") ;;
+    esac
+  done
+}
+
+# Says what is wrong with the words, as the program does, and ends.
+refuse_words() {
+  printf "error: %s\n\nUsage: canvas <COMMAND>\n\nFor more information, try '--help'.\n" "$1" >&2 || :
+  exit 1
+}
+
+# Answers and ends, unless only the program can answer.
+answer_unbuilt() {
+  local file names="${commands[*]}"
+  local -a unread=()
+  case "$command ${options[*]-} " in
+    'help '* | '--help '* | '-h '* | *' --help '* | *' -h '*)
+      printf '%s\n' "Usage: canvas COMMAND FILE [OPTIONS]" "Commands: $names" \
+        "No build of this tree is here yet: the program's own help comes once it is built. Its manual is docs/canvas.1: man -l docs/canvas.1"
+      exit 0
+      ;;
+    '--version '* | '-V '*)
+      sed -n 's/.*VERSION: &str = "\(.*\)".*/canvas \1/p' "$top/crates/canvas_words/src/program.rt"
+      exit 0
+      ;;
+    ' '*) refuse_words "'canvas' requires a subcommand but one was not provided"$'\n'"  [subcommands: ${names// /, }]" ;;
+    -*) refuse_words "unexpected argument '$command' found" ;;
+  esac
+  if [[ " $names " != *" $command "* ]]; then refuse_words "unrecognized subcommand '$command'"; fi
+  for file in "${files[@]}"; do
+    if [ "$file" != - ] && { [ ! -r "$file" ] || [ -d "$file" ]; }; then unread+=("$file"); fi
+  done
+  if ((${#unread[@]} == 0 || ${#unread[@]} < ${#files[@]})) || [[ " ${options[*]-} " == *' --json '* ]]; then return 0; fi
+  printf 'canvas: cannot read %s\n' "${unread[@]}" >&2 || :
+  exit 1
+}
