@@ -22,8 +22,8 @@ sys.path[:0] = [str(HERE.parent / "src"), str(HERE)]
 import bevtragi
 from dictionary import said_by
 from bevtragi import (BadCall, CanvasError, Failure, Picture, Refused, Report, adapt, check,
-                      collect, every_failure, export, graph, messages, pytest_assertrepr_compare,
-                      run, what_if, what_if_each)
+                      every_failure, graph, messages, pytest_assertrepr_compare, run, what_if,
+                      what_if_each)
 
 try:
     import flows
@@ -395,35 +395,6 @@ class Profile(unittest.TestCase):
     def test_what_json_does_not_know_becomes_its_text(self):
         picture = graph(task("a", date(2026, 11, 26), Decimal("19.00")))
         self.assertIn("a('2026-11-26', '19.00')", picture)
-
-
-class Workers(unittest.TestCase):
-    """The start on Celery's workers, and its results, without either."""
-
-    def test_a_start_and_its_results(self):
-        canvas = chain(task("shop.a", 1), task("shop.b"))
-        client = mock.Mock()
-        number = export(canvas, client, queue="orders")
-        words = client.execute_command.call_args[0]
-        self.assertEqual((words[0], b"orders" in words), (b"EVAL", True))
-        first = json.loads(next(it for it in words if it.startswith(b"{")))["headers"]["id"]
-        done = {"status": "SUCCESS", "result": 5, "task_id": first, "traceback": None}
-        client.mget.side_effect = lambda keys: [json.dumps(done).encode(), None][:len(keys)]
-        report = collect(canvas, client, number)
-        self.assertEqual([row[1:] for row in report.rows], [
-            ("shop.a", "SUCCESS", 5, None, None), ("shop.b", "PENDING", None, None, None)])
-        self.assertEqual(str(report), "#1 shop.a SUCCESS 5\n#2 shop.b PENDING -\nresult -")
-        for call in (lambda: report.ran, lambda: report.never_run, report.graph):
-            with self.assertRaisesRegex(CanvasError, "of a run on Celery's workers"):
-                call()
-        with self.assertRaisesRegex(CanvasError, "OtherTask: in the result of task 1"):
-            collect(canvas, client, number[::-1])
-        with self.assertRaisesRegex(BadCall, "BadRun"):
-            collect(canvas, client, "7")
-        client.mget.side_effect = lambda keys: [json.dumps(done), None]
-        self.assertEqual(collect(canvas, client, number), report)
-        with self.assertRaises(Refused):
-            export(chain(task("a", None)), client)
 
 
 class Programs(unittest.TestCase):

@@ -5,12 +5,13 @@ import re
 import sys
 import unittest
 from pathlib import Path
+from unittest import mock
 
 HERE = Path(__file__).resolve().parent
 sys.path[:0] = [str(HERE.parent / "src"), str(HERE)]
 
 from dictionary import Dictionary, said_by, stored
-from bevtragi import Failure, collect, export
+from bevtragi import BadCall, CanvasError, Failure, Refused, collect, export
 from bevtragi.exchange import commands_of
 
 THREE = {"task": "celery.chain", "subtask_type": "chain", "kwargs": {"tasks": [
@@ -73,6 +74,35 @@ class Results(unittest.TestCase):
         report = collect(THREE, client, self.RUN, complete=True)
         self.assertEqual(report.failed, ["shop.b", "shop.c"])
         self.assertEqual(report.result, Failure("OutOfStock"))
+
+
+class Runs(unittest.TestCase):
+    """A start and its results."""
+
+    def test_a_start_and_its_results(self):
+        canvas = {**THREE, "kwargs": {"tasks": THREE["kwargs"]["tasks"][:2]}}
+        client = mock.Mock()
+        number = export(canvas, client, queue="orders")
+        words = client.execute_command.call_args[0]
+        self.assertEqual((words[0], b"orders" in words), (b"EVAL", True))
+        first = json.loads(next(it for it in words if it.startswith(b"{")))["headers"]["id"]
+        done = {"status": "SUCCESS", "result": 5, "task_id": first, "traceback": None}
+        client.mget.side_effect = lambda keys: [json.dumps(done).encode(), None][:len(keys)]
+        report = collect(canvas, client, number)
+        self.assertEqual([row[1:] for row in report.rows], [
+            ("shop.a", "SUCCESS", 5, None, None), ("shop.b", "PENDING", None, None, None)])
+        self.assertEqual(str(report), "#1 shop.a SUCCESS 5\n#2 shop.b PENDING -\nresult -")
+        for call in (lambda: report.ran, lambda: report.never_run, report.graph):
+            with self.assertRaisesRegex(CanvasError, "of a run on Celery's workers"):
+                call()
+        with self.assertRaisesRegex(CanvasError, "OtherTask: in the result of task 1"):
+            collect(canvas, client, number[::-1])
+        with self.assertRaisesRegex(BadCall, "BadRun"):
+            collect(canvas, client, "7")
+        client.mget.side_effect = lambda keys: [json.dumps(done), None]
+        self.assertEqual(collect(canvas, client, number), report)
+        with self.assertRaises(Refused):
+            export({"task": "a", "args": [None]}, client)
 
 
 class Fakes(unittest.TestCase):
