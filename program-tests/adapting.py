@@ -93,10 +93,21 @@ def options(sig):
     return sig["options"]
 
 
-def link_error(sig, errback):
-    found = rules.callbacks(sig, "link_error")
-    if errback not in found:
-        options(sig)["link_error"] = found + [errback]
+def once(callbacks):
+    """The first of callbacks that are written alike: 1, 1.0 and true differ."""
+    found = {}
+    for callback in callbacks:
+        found.setdefault(compact(callback), callback)
+    return [*found.values()]
+
+
+def link_errors(sig, errbacks):
+    """Adds those that the signature hasn't."""
+    own = rules.callbacks(sig, "link_error")
+    known = {*map(compact, own)}
+    added = [it for it in once(errbacks) if compact(it) not in known]
+    if added:
+        options(sig)["link_error"] = own + added
 
 
 def link(sig, callback):
@@ -105,9 +116,7 @@ def link(sig, callback):
 
 def own_callbacks(sig):
     """The links of a signature and its error callbacks, of those alike the first."""
-    errbacks = rules.callbacks(sig, "link_error")
-    return rules.callbacks(sig, "link"), [it for at, it in enumerate(errbacks)
-                                          if it not in errbacks[:at]]
+    return rules.callbacks(sig, "link"), once(rules.callbacks(sig, "link_error"))
 
 
 def take_callbacks(sig):
@@ -126,8 +135,7 @@ def give(sig, links, errbacks, is_followed=False):
     if form(sig) and not (form(sig) == "group" and is_followed):
         for callback in links:
             link(sig, callback)
-        for errback in errbacks:
-            link_error(sig, errback)
+        link_errors(sig, errbacks)
 
 
 def hand_on(sig, is_followed=False):
@@ -410,6 +418,8 @@ ROWS = [
     (chain(primitive("chord", header=[A], body=B), errbacks=[ALARM]),
      dict(chain(primitive("chord", header=[A], body=alarmed(B))), options={}), 1),
     (chain(alarmed(A), errbacks=[ALARM, ALARM]), dict(chain(alarmed(A)), options={}), 1),
+    (chain(A, errbacks=[task("a", True), task("a", 1)]), dict(chain(
+        dict(A, options={"link_error": [task("a", "true"), task("a", 1)]})), options={}), 3),
     (group(A, group(B, C), D), group(A, B, C, D), 1),
     (chain(A, group(A, group(B, C), D)), chain(A, group(A, C, B, D)), 1),
     (chain(A, group(group(A, group(B, C)), D)), chain(A, group(C, B, A, D)), 2),

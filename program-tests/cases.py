@@ -16,6 +16,7 @@ A case begins with a line `== NAME`. The first sign of each other line says what
     |- TEXT     the same, with escapes
     |~ NOTATION      the same, in the shorter notation
     @ NAME      the lines of input behind it are those of a file of that name, until `@ -`
+    @! NAME     the file of that name may not be read
     > LINE      a line of the output
     ># LINE     the same, in which #7 stands for the identifier of task 7
     >- TEXT     a piece of the output with no line feed, with escapes
@@ -25,6 +26,7 @@ A case begins with a line `== NAME`. The first sign of each other line says what
     !! full     standard error takes nothing
     ? N         the status, where it isn't 0
     = N         each run has N MiB of memory
+    * N         each run has N threads at least
     % LINE      each shorter input has to end in status 1 with this line of standard error
 
 Escapes are those of JSON's texts, and \\xff for a byte. A line that begins with # is a comment, and
@@ -121,6 +123,8 @@ class Case:
     status: int = 0
     prefixes: str = None
     room: int = None
+    threads: int = None
+    forbidden: list = field(default_factory=list)
     is_folder: bool = False
     is_full: bool = False
     is_mute: bool = False
@@ -152,6 +156,7 @@ class Case:
             "|-": lambda: self.others.append(unescaped(text)),
             "|~": lambda: self.others.append(drawn(repeated(text))),
             "@": lambda: setattr(self, "file", text),
+            "@!": lambda: self.forbidden.append(text),
             ">": lambda: self.wants(text + "\n"),
             ">#": lambda: self.wants(identified(text) + "\n"),
             ">-": lambda: self.wants(unescaped(text)),
@@ -161,6 +166,7 @@ class Case:
             "!!": lambda: setattr(self, "is_mute", True),
             "?": lambda: setattr(self, "status", int(text)),
             "=": lambda: setattr(self, "room", int(text) << 20),
+            "*": lambda: setattr(self, "threads", int(text)),
             "%": lambda: setattr(self, "prefixes", text + "\n"),
         }[sign]()
 

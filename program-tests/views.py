@@ -68,10 +68,10 @@ def status_of(states):
     return next((STATES[it] for it in (str, type(None)) if it in map(type, states)), "SUCCESS")
 
 
-def at_fault(row, stubs):
+def at_fault(row, stubs, number):
     """The member of a row that says which parameter makes its call a TypeError, null where none
     does; nothing of any other task."""
-    task = rules.answers_as(stubs, row.name)
+    task = rules.answers_as(stubs, row.name, number)
     if not row.ran or row.state != "TypeError" or task is None:
         return {}
     return {"parameter": (rules.blamed(task, *row.call) or [None])[0]}
@@ -84,9 +84,9 @@ def json_report(canvas, tells=True, made=same, stubs=None):
     lines = [{"name": row.name, "result": result_of(made(row.state)),
               "status": STATES[type(row.state)], "task_id": identifier(task)}
              for task, row in enumerate(walk.rows, 1)]
-    for line, row in zip(lines, walk.rows if tells else []):
-        line.update(ran=row.ran, due_to=row.due and identifier(row.due))
-        line.update(at_fault(row, walk.stubs))
+    for task, row in enumerate(walk.rows if tells else [], 1):
+        lines[task - 1].update(ran=row.ran, due_to=row.due and identifier(row.due))
+        lines[task - 1].update(at_fault(row, walk.stubs, task))
     states = [walk.rows[end - 1].state for end in walk.ends]
     results = [result_of(made(it)) for it in states]
     status = status_of(states)
@@ -112,9 +112,9 @@ def reason(row):
     return "" if row.ran else " (will not run)"
 
 
-def explained(canvas):
+def explained(canvas, stubs=None):
     """The text that `canvas run --explain` prints."""
-    walk = Walk(canvas)
+    walk = Walk(canvas, stubs)
     values = [numbered(row.state) for row in walk.rows]
     lines = ["#%d %s %s %s%s\n" % (task, row.name, STATES[type(row.state)], value, reason(row))
              for task, (row, value) in enumerate(zip(walk.rows, values), 1)]
@@ -252,9 +252,9 @@ def body_of(sig):
     return sig["kwargs"]["body"]
 
 
-def picture(canvas, ran=False):
+def picture(canvas, ran=False, stubs=None):
     """The text that `canvas graph` prints, with `--run` where the canvas ran."""
-    return Picture(canvas, Walk(canvas).rows if ran else None).text()
+    return Picture(canvas, Walk(canvas, stubs).rows if ran else None).text()
 
 
 def in_any_order(text):

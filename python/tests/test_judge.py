@@ -310,7 +310,7 @@ class NothingElse(unittest.TestCase):
             before = json.dumps(flow, default=str)
             on_celery(flow, {"*": 1}, user_tasks.app)
             self.assertEqual(json.dumps(flow, default=str), before)
-            self.assertNotIn("task_id", before)
+            self.assertEqual("task_id" in before, make is user_flows.frozen)
 
     def test_nothing_is_logged_or_warned_of(self):
         with self.assertNoLogs() if hasattr(self, "assertNoLogs") else mock.MagicMock():

@@ -288,3 +288,27 @@ def guide_map():
 @flow
 def guide_group_in_a_chain():
     return chain(add_two.s(4, 4), group(multiply.s(it) for it in range(3)), xsum.s(), add_two.s(1))
+
+
+# ---- signatures that were started or stamped
+
+@flow
+def frozen():
+    """A chord as it is left by a first start, which freezes its header and its body."""
+    paid = chord([one.s(1), two.s(2)], three.s())
+    paid.body.freeze()
+    for number, member in enumerate(paid.tasks):
+        member.freeze(chord=paid.body, group_index=number)
+    paid.tasks = group(paid.tasks)
+    paid.tasks.options.update(task_id="before", chord=paid.body, root_id=None, parent_id=None)
+    return paid.set(task_id="before")
+
+
+@flow
+def stamped():
+    """A chain with stamps, read from JSON as Celery 5.3 and later write it."""
+    stamps = {"stamped_headers": ["tenant"], "tenant": "acme"}
+    parts = [app.signature("step.one", args=[1], options=stamps),
+             app.signature("step.two", options={**stamps, "stamps": {"tenant": ["acme"]}})]
+    text = json.dumps(dict(chain(parts), options=stamps))
+    return Signature.from_dict(json.loads(text))

@@ -37,6 +37,8 @@ HOST = "bevtragi"
 class Consumer(ResultConsumer):
     """Celery's own, which waits in this thread though gevent or eventlet be there."""
 
+    _pubsub: Any
+
     def __init__(self, *args: Any, **kwargs: Any) -> None:
         super().__init__(*args, **kwargs)
         self.drainer = drainers["default"](self)
@@ -114,6 +116,7 @@ class App(Celery):
     `user` is the application whose tasks have the parameters; without one a task takes any."""
 
     session: Any  # a celery_session.Session
+    finalized: bool
 
     def __init__(self, user: Any = None) -> None:
         super().__init__(HOST, amqp=Messages, loader="celery.loaders.app:AppLoader",

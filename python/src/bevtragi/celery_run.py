@@ -8,7 +8,7 @@ from __future__ import annotations
 import functools
 import operator
 import threading
-from typing import Any, Callable, Dict, Iterator, List, Mapping, Union
+from typing import Any, Dict, Iterator, List, Mapping, Union
 
 from .binding import misfits
 from .celery_store import NothingComes
@@ -23,7 +23,7 @@ __all__ = ["CeleryRun", "Judge", "celery_answers", "celery_version", "on_celery"
 CeleryAnswers = Mapping[Union[str, int], Any]
 
 #: What the program's own tasks do.
-BEHAVIOURS: Dict[str, Callable[..., Any]] = {
+BEHAVIOURS: Dict[str, Any] = {
     "add": operator.add, "mul": operator.mul, "div": operator.floordiv, "xsum": sum,
     "ident": lambda value: value, "log_error": lambda uuid: 0}
 

@@ -60,7 +60,7 @@ class Session:
         finally:
             self.app.session = before
 
-    def started(self, tree: Any, kind: type) -> Any:
+    def started(self, tree: Any, kind: Any) -> Any:
         """What `apply_async()` of a canvas gives, which is of that class of signatures, if it is
         one. Raises what it raises."""
         if not issubclass(kind, Signature):
