@@ -3,6 +3,10 @@
 #![tactic(auto)]
 
 #[cfg(test)]
+mod called;
+#[cfg(test)]
+mod early;
+#[cfg(test)]
 mod inputs;
 #[cfg(test)]
 mod own_tasks;

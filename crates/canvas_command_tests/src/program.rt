@@ -54,6 +54,23 @@ where
     }
 }
 
+/// Whether the program with these tasks answers words and an input with status 0.
+pub(crate) fn is_answered<S, T>(rt: &S, tasks: &T, line: &str, input: &str) -> bool
+where
+    S: Files + Threads + Wait + RandomSource + AllocGlobal + Sync,
+    T: Tasks + Sync,
+{
+    let mut written: Vec<u8> = Vec::new(rt.alloc());
+    let mut told: Vec<u8> = Vec::new(rt.alloc());
+    match words(rt.alloc(), line) {
+        Ok(words) => {
+            let mut bytes = input.as_bytes();
+            command(rt, tasks, &words, &mut bytes, &mut written, &mut told) == 0
+        }
+        Err(_) => false,
+    }
+}
+
 /// Whether the program answers a line so if it has the built-in tasks.
 pub(crate) fn answers_to<S, R: Read>(
     rt: &S,
