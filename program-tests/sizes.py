@@ -34,7 +34,7 @@ def cut(dice, found):
 
 
 def many_tasks(dice):
-    """A canvas of so many tasks."""
+    """A canvas with this number of tasks."""
     found = [simple(dice) for _ in range(size(dice))]
     way = dice.randrange(5)
     if way == 0:
@@ -52,7 +52,7 @@ def many_tasks(dice):
 
 
 def items(dice):
-    """A map of so many items."""
+    """A map with this number of items."""
     which = dice.choice(faults.MAPS)
     found = [dice.choice([it, -it, 1.5, "x", None]) for it in range(size(dice))]
     it = found if which == "celery.map" else [[it] for it in found]
@@ -89,7 +89,7 @@ ADAPTED = [items, members, alarms, long_text]
 
 
 def file_of_tasks(dice):
-    """A file of so many answers, with what is ignored among them, and the answers by name."""
+    """A file with this number of answers and some lines that are ignored, and the answers by name."""
     stubs, lines = {}, []
     for number in range(size(dice)):
         lines += dice.choices([[], [""], ["# n%d=1" % number]], [18, 1, 1])[0]
@@ -134,7 +134,7 @@ def line_of(canvas):
 
 
 def run_of_lines(place, dice):
-    """A run of so many canvases."""
+    """A run of this number of canvases."""
     canvases = [a_line(dice) for _ in range(65 + dice.randrange(200))]
     with_null = dice.randrange(2)
     texts = [json.dumps(it, indent=with_null or None) for it in canvases]
