@@ -1,5 +1,5 @@
 //! Reports as texts or as JSON, and results that decide the status.
-ghost use Rattle.std.specs.Prelude.{◌≡◌, [], IfOk, string_bytes};
+ghost use Rattle.std.specs.Prelude.{◌≡◌, [], IfOk, option_map, string_bytes};
 ghost use Rattle.canvas_report.specs.Failing.{any_failed};
 ghost use Rattle.canvas_semantics.specs.Evaluation.{with_states};
 ghost use Rattle.canvas_semantics.specs.Line.{ends_of, tree_of};
@@ -141,7 +141,8 @@ impl Manner {
         refusal: Refusal,
     ) -> Answer
         ensures { (text : Text) × AnswersPart text refusal result
-            × IsEarlyText self.now.form (tree_of plans.now.shown) stored text }
+            × IsEarlyText self.now.form (tree_of plans.now.shown)
+            (option_map (λ r. r.now) stored) text }
     {
         let text = self.early_text(alloc, plans, source, stored);
         Answer::in_part(alloc, text, refusal)
@@ -154,7 +155,8 @@ impl Manner {
         source: &Source<'_, T>,
         stored: Option<&Report>,
     ) -> Option<String>
-        ensures { IsEarlyText self.now.form (tree_of plans.now.shown) stored (bytes_of result) }
+        ensures { IsEarlyText self.now.form (tree_of plans.now.shown)
+            (option_map (λ r. r.now) stored) (bytes_of result) }
     {
         match stored {
             Some(report) if source.errors.is_empty() => {

@@ -1,5 +1,5 @@
 //! Runs that ended early.
-ghost use Rattle.std.specs.Prelude.{◌≡◌};
+ghost use Rattle.std.specs.Prelude.{◌≡◌, option_map};
 ghost use Rattle.canvas_semantics.specs.Line.{tree_of};
 ghost use Rattle.canvas_command.specs.Runs.{IsEarlyReport, refusal_of, rows_in};
 
@@ -27,7 +27,7 @@ pub fn refused(fault: &RunFault) -> Refusal
 
 /// What a run stored that ended early.
 fn stored(fault: &RunFault) -> Option<&Report>
-    ensures { result ≡ rows_in fault.now }
+    ensures { option_map (λ r. r.now) result ≡ rows_in fault.now }
 {
     match fault {
         RunFault::Halted {
