@@ -142,7 +142,7 @@ impl Manner {
     ) -> Answer
         ensures { (text : Text) × AnswersPart text refusal result
             × IsEarlyText self.now.form (tree_of plans.now.shown)
-            (option_map (λ r. r.now) stored) text }
+            (option_map (λ r. r.now) stored.entry) text }
     {
         let text = self.early_text(alloc, plans, source, stored);
         Answer::in_part(alloc, text, refusal)
@@ -156,7 +156,7 @@ impl Manner {
         stored: Option<&Report>,
     ) -> Option<String>
         ensures { IsEarlyText self.now.form (tree_of plans.now.shown)
-            (option_map (λ r. r.now) stored) (bytes_of result) }
+            (option_map (λ r. r.now) stored.entry) (bytes_of result) }
     {
         match stored {
             Some(report) if source.errors.is_empty() => {
