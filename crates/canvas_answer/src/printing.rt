@@ -119,14 +119,19 @@ fn write_escaped<W: Write>(out: &mut W, text: &str) -> io::Result<()> {
 fn is_line_byte(byte: u8) -> bool
     ensures { result ≡ is_line_byte byte }
 {
-    byte == b'\n' || (b' '..=b'~').contains(&byte)
+    byte == b'\n' || byte >= b' ' && byte <= b'~'
 }
 
 /// Whether each byte is printable ASCII or ends a line.
 fn are_lines(bytes: &[u8]) -> bool
     ensures { result ≡ list_all is_line_byte bytes.now }
 {
-    bytes.iter().all(|byte| is_line_byte(*byte))
+    // Without an early end it is compiled to a few instructions for sixteen bytes.
+    let mut are = true;
+    for byte in bytes {
+        are &= is_line_byte(*byte);
+    }
+    are
 }
 
 /// Writes lines so that nothing but printable ASCII and line feeds reaches the reader.
