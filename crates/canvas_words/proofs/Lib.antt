@@ -1,1 +1,4 @@
 pub mod AllCommands
+pub mod Making
+pub mod Added
+pub mod Simplicity

@@ -1,5 +1,10 @@
 //! The arguments of the commands.
 
+ghost use Rattle.std.specs.Prelude.{◌≡◌, [], false, map, IfOk};
+ghost use Rattle.std.specs.List.{All};
+ghost use Rattle.clap.specs.Walk.{rule_of};
+ghost use Rattle.canvas_words.specs.steps.Rules.{named, rule};
+
 use canvas_semantics::MOST_WORKERS;
 use clap::builder::ValueParser;
 use clap::{Arg, ArgAction};
@@ -244,7 +249,11 @@ pub(crate) const COMPLETE_RESULTS: Argument = Argument {
 };
 
 impl Argument {
-    fn named<'a>(&self, alloc: Global) -> Arg<'a> {
+    fn named<'a>(&self, alloc: Global) -> Arg<'a>
+        ensures rule { rule_of result ≡ named self.now.takes self.now }
+        ensures local { result.global ≡ false }
+        ensures free { result.conflicts.items ≡ [] }
+    {
         let argument = Arg::new(alloc, self.name).help(self.help);
         match self.takes {
             Takes::Word => argument,
@@ -261,23 +270,26 @@ impl Argument {
         }
     }
 
-    fn as_clap<'a>(&self, alloc: Global) -> Result<Arg<'a>, AllocError> {
+    fn as_clap<'a>(&self, alloc: Global) -> Result<Arg<'a>, AllocError>
+        ensures rule { IfOk result (λ a. rule_of a ≡ rule self.now) }
+        ensures local { IfOk result (λ a. a.global ≡ false) }
+    {
         let argument = self.named(alloc);
         match self.given {
             Given::Always => Ok(argument.required(true)),
             Given::Maybe => Ok(argument),
             Given::Else(value) => Ok(argument.default_value(value)),
-            Given::With(other) => argument.requires_arg(other),
+            Given::With(other) => Ok(argument.requires_arg(other)?),
             Given::Against(other, third) => argument.conflicts_with(other)?.requires_arg(third),
         }
     }
 }
 
 /// The arguments of a list, in its order.
-pub(crate) fn arguments_of<'a>(
-    alloc: Global,
-    list: &[Argument],
-) -> Result<Vec<Arg<'a>>, AllocError> {
+pub(crate) fn arguments_of<'a>(alloc: Global, list: &[Argument]) -> Result<Vec<Arg<'a>>, AllocError>
+    ensures rules { IfOk result (λ args. map rule_of args.items ≡ map rule list.now) }
+    ensures local { IfOk result (λ args. All (λ a. a.global ≡ false) args.items) }
+{
     let mut arguments = Vec::with_capacity(alloc, list.len())?;
     for argument in list {
         arguments.push(argument.as_clap(alloc)?)?;

@@ -1,5 +1,12 @@
 //! What help says of each command, and its arguments.
 
+ghost use Rattle.std.specs.Prelude.{◌≡◌, false, map, IfOk, Option};
+ghost use Rattle.std.specs.List.{All};
+ghost use Rattle.clap.specs.Simple.{shape_of};
+ghost use Rattle.clap.specs.declared.builder.command.Command.TheViews.{out-Command};
+ghost use Rattle.canvas_words.specs.Options.{command, options, offered, IsNamed};
+ghost use Rattle.canvas_words.specs.steps.Rules.{rule};
+
 use crate::Subcommand;
 use crate::arguments::{
     ADAPT, AGAIN, Argument, BACKEND_DATABASE, BROKER_DATABASE, COMPLETE, COMPLETE_RESULTS, EACH,
@@ -96,7 +103,9 @@ impl Subcommand {
         }
     }
 
-    fn arguments<'a>(self) -> &'a [Argument] {
+    fn arguments<'a>(self) -> &'a [Argument]
+        ensures { map rule result.now ≡ options self }
+    {
         match self {
             Subcommand::Run => &RUN_ARGUMENTS,
             Subcommand::Turns => &TURNS_ARGUMENTS,
@@ -111,22 +120,38 @@ impl Subcommand {
         }
     }
 
-    fn as_clap<'a>(self, alloc: Global) -> Result<Command<'a>, AllocError> {
+    fn as_clap<'a>(self, alloc: Global) -> Result<Command<'a>, AllocError>
+        ensures shape { IfOk result (λ c. shape_of c ≡ command self) }
+        ensures local { IfOk result (λ c. (out-Command c).has_globals ≡ false) }
+    {
         let arguments = arguments_of(alloc, self.arguments())?;
-        Command::new(alloc, self.name())
-            .about(self.about())
-            .args(arguments)
+        let plain = Command::new(alloc, self.name()).about(self.about());
+        Ok(plain.args(arguments)?)
     }
 }
 
-/// The command of a name, or all where none has it.
-pub(crate) fn commands_of<'a>(alloc: Global, name: &str) -> Result<Vec<Command<'a>>, AllocError> {
-    let one = Subcommand::named(name);
-    let mut commands = Vec::new(alloc);
-    for command in Subcommand::ALL {
-        if one.is_none() || one == Some(command) {
-            commands.push(command.as_clap(alloc)?)?;
-        }
+/// Some commands, in their order.
+fn commands_in<'a>(alloc: Global, list: &[Subcommand]) -> Result<Vec<Command<'a>>, AllocError>
+    ensures shapes { IfOk result (λ made. map shape_of made.items ≡ map command list.now) }
+    ensures local { IfOk result
+        (λ made. All (λ c. (out-Command c).has_globals ≡ false) made.items) }
+{
+    let mut commands = Vec::with_capacity(alloc, list.len())?;
+    for command in list {
+        commands.push(command.as_clap(alloc)?)?;
     }
     Ok(commands)
+}
+
+/// The command of a name, or all where none has it.
+pub(crate) fn commands_of<'a>(alloc: Global, name: &str) -> Result<Vec<Command<'a>>, AllocError>
+    ensures shapes { IfOk result (λ made. (one : Option Subcommand) × IsNamed name.now one
+        × (map shape_of made.items ≡ map command (offered one))) }
+    ensures local { IfOk result
+        (λ made. All (λ c. (out-Command c).has_globals ≡ false) made.items) }
+{
+    match Subcommand::named(name) {
+        Some(command) => commands_in(alloc, &[command]),
+        None => commands_in(alloc, &Subcommand::ALL),
+    }
 }

@@ -7,8 +7,9 @@ pub const SHORT_NOTES: &str = "\
 /// What is printed, what turns and a normal line are, and what the statuses and the codes of
 /// refusals mean.
 pub const NOTES: &str = "\
-A report has a line for each task, `ID NAME STATE VALUE`, in the order of the file: a task, its links,
-its error callbacks, then what follows; a header before its body. Its last line is the result.
+A report has a line for each task, `ID NAME STATE VALUE`, in the order of the file: a task, its
+links, its error callbacks, then what follows; a header before its body. Its last line is the
+result.
 
 `run` has two workers and more work on threads, each on its own where one can be made;
 under `turns` they take turns on one. At a turn a worker makes one step, such as to take a message
@@ -16,13 +17,13 @@ or to store an outcome. Whatever the workers and their turns, the report of a ca
 list of turns is decimal numbers from 1, separated by single commas, with no sign, space or leading
 zero: another is refused (BadTurn).
 
-Under `turns --again` a worker has the envelope that it holds delivered again at the points of a list, as
-1:early,1:late: a task's number, a colon, and `early`, before the first store of the task's message, or
-`late`, before its envelope is acknowledged. The first worker that comes to a point spends the entry.
-The report stays as it is: a store of a message that was run before answers Again and changes nothing,
-and standard error says how many did. A list is written as one of turns is. In place of a number it
-may have a name, for all tasks of that name; `all` is each task at both points. Another is refused
-(BadAgain).
+Under `turns --again` a worker has the envelope that it holds delivered again at the points of a
+list, as 1:early,1:late: a task's number, a colon, and `early`, before the first store of the
+task's message, or `late`, before its envelope is acknowledged. The first worker that comes to a
+point spends the entry. The report stays as it is: a store of a message that was run before answers
+Again and changes nothing, and standard error says how many did. A list is written as one of turns
+is. In place of a number it may have a name, for all tasks of that name; `all` is each task at both
+points. Another is refused (BadAgain).
 
 The built-in tasks are tasks.add(x, y), tasks.mul(x, y), tasks.div(x, y), which rounds down,
 tasks.ident(x), tasks.xsum(numbers), which adds up a list, and tasks.log_error(uuid), which gives
@@ -85,13 +86,14 @@ With --json each command prints a refusal as an object on standard error: of a c
 name, note, pointer and task (those of the first signature that has it, or null), and else, as of a
 file that can't be read or of bad words, with name and note.
 
-`graph` prints a picture for Graphviz, as in `canvas graph FILE --run | dot -Tsvg -o canvas.svg`: from left to
-right in time, groups and chords as frames, links and error callbacks dashed. `messages` prints what a
-worker would get: the body, the headers and the properties of each message, as texts.
+`graph` prints a picture for Graphviz, as in `canvas graph FILE --run | dot -Tsvg -o canvas.svg`:
+from left to right in time, groups and chords as frames, links and error callbacks dashed.
+`messages` prints what a worker would get: the body, the headers and the properties of each
+message, as texts.
 
-`export` prints the commands that start a canvas on Celery's own workers, with Redis as broker and result
-backend, `keys` the keys under which these store its results, and `collect` its report, from these results
-on standard input, one a line:
+`export` prints the commands that start a canvas on Celery's own workers, with Redis as broker and
+result backend, `keys` the keys under which these store its results, and `collect` its report, from
+these results on standard input, one a line:
     canvas export FILE --run HEX22 | redis-cli --pipe
     canvas keys FILE --run HEX22 | xargs -r redis-cli --raw MGET | canvas collect FILE --run HEX22
 A run's number is used once (another is refused as BadRun). `collect --complete` gives tasks that a
@@ -105,9 +107,10 @@ NotJson, OtherTask, UnknownState, UnknownException (a failure that names none).
 Status:
   0  the answer is on standard output
   1  refused: the command line, the file, the canvas or the output; standard error says why
-  2  ended early for want of memory; standard output has what was stored, where memory was left for it
-  3  with --fail: the report is on standard output, and the canvas's result is a failure; with --strict:
-     there is a warning
+  2  ended early for want of memory; standard output has what was stored, where memory was left
+     for it
+  3  with --fail: the report is on standard output, and the canvas's result is a failure; with
+     --strict: there is a warning
 
 A canvas is refused by one line, `canvas: refused CODE NAME`:
    1 TooLarge          more than 1,048,576 bytes
@@ -116,7 +119,8 @@ A canvas is refused by one line, `canvas: refused CODE NAME`:
    4 UnknownPrimitive  another subtask_type than null, chain, group and chord
    5 BadArgs           a member of the wrong form, or an argument of the wrong kind
    6 BadNumber         a number that isn't whole, or is past 2^60 on either side
-   7 OnCanvas          arguments, links or callbacks on a chain, group or chord, or one of these as a callback
+   7 OnCanvas          arguments, links or callbacks on a chain, group or chord, or one of these
+                       as a callback
    8 Frozen            options.chord is there
    9 EmptyChain        a chain with no tasks
   10 NestedGroup       a member of a group or header ends in a group

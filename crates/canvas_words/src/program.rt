@@ -1,5 +1,10 @@
 //! The program's words: its commands, its version and its help.
 
+ghost use Rattle.std.specs.Prelude.{◌≡◌, [], false, true, codes, map, IfOk, Option, string_bytes};
+ghost use Rattle.clap.specs.Simple.{app_of, new_shape, subcommand_of, subcommand_rows_of};
+ghost use Rattle.clap.specs.declared.builder.command.Command.TheViews.{out-Command};
+ghost use Rattle.canvas_words.specs.Options.{first_word, offered, program, IsAsked, IsNamed};
+
 use crate::Subcommand;
 use crate::commands::commands_of;
 use crate::help::{NOTES, SHORT_NOTES};
@@ -11,32 +16,51 @@ use std::alloc::{AllocError, Global};
 const VERSION: &str = "0.1.0";
 
 /// The program without its commands.
-fn plain_program<'a>(alloc: Global) -> Result<Command<'a>, AllocError> {
-    Command::new(alloc, "canvas")
+fn plain_program<'a>(alloc: Global) -> Result<Command<'a>, AllocError>
+    ensures { IfOk result (λ c. app_of c ≡ record {
+      top = record (new_shape (codes "canvas")) { no_binary_name = true; has_version = true };
+      subs = [];
+    }) }
+{
+    let program = Command::new(alloc, "canvas")
         .about("Runs Celery canvases: chains, groups and chords of tasks")
         .version(VERSION)
         .after_help(SHORT_NOTES)
         .after_long_help(NOTES)
-        .no_binary_name(true)
-        .bin_name("canvas")
+        .no_binary_name(true);
+    Ok(program.bin_name("canvas")?)
 }
 
 /// The program with the command of a name, or with all where none has it.
-fn program_of<'a>(alloc: Global, name: &str) -> Result<Command<'a>, AllocError> {
+fn program_of<'a>(alloc: Global, name: &str) -> Result<Command<'a>, AllocError>
+    ensures { IfOk result (λ c. (one : Option Subcommand) × IsNamed name.now one
+        × (app_of c ≡ program (offered one))) }
+{
     let commands = commands_of(alloc, name)?;
-    plain_program(alloc)?
-        .subcommand_required(true)
-        .subcommands(commands)
+    let plain = plain_program(alloc)?.subcommand_required(true);
+    Ok(plain.subcommands(commands)?)
+}
+
+/// The first of the words.
+fn first_of(words: &[String]) -> &str
+    ensures { result.now ≡ first_word (map string_bytes words.now) }
+{
+    match words.first() {
+        Some(word) => word.as_str(),
+        None => "",
+    }
 }
 
 /// Parses the words behind the program's name. Where they begin with a command, the others aren't
 /// made, since none of them is asked.
-fn matches_of<'w>(alloc: Global, words: &'w [String]) -> Result<ArgMatches<'w>, Error> {
-    let name = match words.first() {
-        Some(word) => word.as_str(),
-        None => "",
-    };
-    program_of(alloc, name)?.try_get_matches_from(words)
+fn matches_of<'w>(alloc: Global, words: &'w [String]) -> Result<ArgMatches<'w>, Error>
+    ensures { IfOk result (λ m. (one : Option Subcommand)
+        × IsNamed (first_word (map string_bytes words.entry.now)) one
+        × (subcommand_rows_of m
+        ≡ subcommand_of (program (offered one)) (map string_bytes words.entry.now))) }
+{
+    let program = program_of(alloc, first_of(words))?;
+    Ok(program.try_get_matches_from(words)?)
 }
 
 /// The command that the words behind the program's name ask for, with its arguments. Help, the
@@ -44,7 +68,9 @@ fn matches_of<'w>(alloc: Global, words: &'w [String]) -> Result<ArgMatches<'w>, 
 pub fn read_words<'w>(
     alloc: Global,
     words: &'w [String],
-) -> Result<(Subcommand, ArgMatches<'w>), Error> {
+) -> Result<(Subcommand, ArgMatches<'w>), Error>
+    ensures { IfOk result (λ r. IsAsked (map string_bytes words.entry.now) r.0 r.1) }
+{
     let mut matches = matches_of(alloc, words)?;
     let Some((name, given)) = matches.remove_subcommand() else {
         return Err(no_command(alloc));

@@ -1,0 +1,137 @@
+-- The words of the program: its commands, and the options of each, as the crate `clap` reads words
+-- by them (clap_builder 4.6.7: what a word is and what a command's matches are, `subcommand_of`).
+use Rattle.std.specs.Prelude.{◌≡◌, ◌≢◌, ℕ, List, [], ◌∷◌, Option, Some, None, map, true, false, codes}
+use Rattle.clap.specs.Matches.{found_of}
+use Rattle.clap.specs.Simple.{App, Shape, new_rule, new_shape, subcommand_of}
+use Rattle.clap.specs.Walk.{Rule, rows_of}
+use Rattle.clap.specs.declared.builder.action.ArgAction.TheVariants.{Append, SetTrue}
+use Rattle.clap.specs.declared.builder.value_parser.ValueParser.TheVariants.{Unsigned}
+use Rattle.clap.specs.declared.parser.matches.ArgMatches.{ArgMatches}
+use Rattle.canvas_words.specs.Names.{command_name}
+use Rattle.canvas_words.specs.declared.subcommand.Subcommand.{Subcommand}
+use Rattle.canvas_words.specs.declared.subcommand.Subcommand.TheVariants.{Run, Turns, Normal, Check, Adapt, Graph, Messages, Export, Keys, Collect}
+
+-- ---- kinds of options
+
+-- the word without a name: it has to be there
+abbrev pub file : Rule
+file = record (new_rule (codes "FILE")) { required = true }
+
+-- `--NAME`
+abbrev pub flag : List ℕ → Rule
+flag name = record (new_rule name) { long = Some name; action = Some SetTrue }
+
+-- `--NAME TEXT`
+abbrev pub text : List ℕ → Rule
+text name = record (new_rule name) { long = Some name; value_names = 1 }
+
+-- the same as often as it is given
+abbrev pub texts : List ℕ → Rule
+texts name = record (text name) { action = Some Append }
+
+-- `--NAME N`, a whole number between two
+abbrev pub number : List ℕ → (least most : ℕ) → Rule
+number name least most = record (text name) { parser = Some (Unsigned least most) }
+
+-- where it isn't given it is this
+abbrev pub or_else : List ℕ → Rule → Rule
+or_else value r = record r { defaults = value ∷ [] }
+
+-- it may be given only with another, or not with another
+abbrev pub tied : Rule → Rule
+tied r = record r { is_free = false }
+
+abbrev pub needed : Rule → Rule
+needed r = record r { required = true }
+
+-- ---- the options of several commands
+
+abbrev pub workers : Rule
+workers = or_else (codes "1") (number (codes "workers") 1 16)
+
+abbrev pub adapt : Rule
+adapt = flag (codes "adapt")
+
+abbrev pub task : Rule
+task = texts (codes "task")
+
+abbrev pub tasks : Rule
+tasks = text (codes "tasks")
+
+abbrev pub turns : Rule
+turns = text (codes "turns")
+
+abbrev pub json : Rule
+json = flag (codes "json")
+
+abbrev pub fail : Rule
+fail = flag (codes "fail")
+
+abbrev pub of_run : Rule
+of_run = needed (text (codes "run"))
+
+abbrev pub prefix : Rule
+prefix = text (codes "prefix")
+
+-- ---- commands
+
+abbrev pub options : Subcommand → List Rule
+options Run =
+    file ∷ workers ∷ adapt ∷ task ∷ tasks ∷ json ∷ flag (codes "explain") ∷ flag (codes "each")
+    ∷ tied (flag (codes "null")) ∷ fail ∷ []
+options Turns =
+    file ∷ workers ∷ turns ∷ text (codes "again") ∷ adapt ∷ task ∷ tasks ∷ json ∷ fail ∷ []
+options Normal = file ∷ json ∷ []
+options Check = file ∷ adapt ∷ task ∷ tasks ∷ json ∷ flag (codes "strict") ∷ []
+options Adapt = file ∷ texts (codes "rename") ∷ json ∷ []
+options Graph =
+    file ∷ flag (codes "run") ∷ workers ∷ adapt ∷ task ∷ tasks ∷ tied (text (codes "results"))
+    ∷ tied (text (codes "of")) ∷ tied (flag (codes "complete")) ∷ json ∷ []
+options Messages = file ∷ workers ∷ turns ∷ adapt ∷ task ∷ tasks ∷ json ∷ []
+options Export =
+    file ∷ of_run ∷ adapt ∷ or_else (codes "celery") (text (codes "queue")) ∷ prefix
+    ∷ or_else (codes "86400") (number (codes "expires") 1 1000000000)
+    ∷ number (codes "broker-db") 0 1000000 ∷ number (codes "backend-db") 0 1000000
+    ∷ flag (codes "without-script") ∷ json ∷ []
+options Keys = file ∷ of_run ∷ adapt ∷ prefix ∷ json ∷ []
+options Collect = file ∷ of_run ∷ adapt ∷ flag (codes "complete") ∷ json ∷ []
+
+abbrev pub command : Subcommand → Shape
+command c = record (new_shape (command_name c)) { rules = options c }
+
+-- the program with some commands
+abbrev pub program : List Subcommand → App
+program cs =
+    record {
+      top = record (new_shape (codes "canvas")) {
+        is_leaf = false;
+        no_binary_name = true;
+        has_version = true;
+        subcommand_required = true;
+      };
+      subs = map command cs;
+    }
+
+abbrev pub all : List Subcommand
+all = Run ∷ Turns ∷ Normal ∷ Check ∷ Adapt ∷ Graph ∷ Messages ∷ Export ∷ Keys ∷ Collect ∷ []
+
+-- the command of a name
+abbrev pub IsNamed : List ℕ → Option Subcommand → Type 0
+IsNamed name (Some c) = name ≡ command_name c
+IsNamed name None = (c : Subcommand) → name ≢ command_name c
+
+-- The parser is given the command that the first word names, or all where it names none.
+abbrev pub offered : Option Subcommand → List Subcommand
+offered (Some c) = c ∷ []
+offered None = all
+
+abbrev pub first_word : List (List ℕ) → List ℕ
+first_word [] = []
+first_word (w ∷ ws) = w
+
+-- the command that the words ask for, and what is given for its options
+abbrev pub IsAsked : List (List ℕ) → Subcommand → ArgMatches → Type 0
+IsAsked words c given =
+    (one : Option Subcommand) × IsNamed (first_word words) one
+    × (subcommand_of (program (offered one)) words
+    ≡ Some (command_name c, rows_of (found_of given)))
