@@ -43,6 +43,7 @@ class WithoutCelery(unittest.TestCase):
     def test_reports_have_no_note(self):
         report = what_if(ORDER, {"shop.charge": ConnectionError})
         self.assertEqual((report.note, str(report)), ("", report.text()))
+        self.assertFalse(hasattr(report, "on_celery"))
         self.assertEqual(str(report).splitlines()[-1],
                          "result ChordError: Dependency #2 raised ConnectionError")
         self.assertNotIn("Celery", str(every_failure(ORDER)))

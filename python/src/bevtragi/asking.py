@@ -9,17 +9,24 @@ from .calling import ask
 from .celery_run import Judge
 from .checking import Figures, figures
 from .comparing import Question
-from .errors import BadCall, CanvasError, Refused
+from .errors import BadCall, CanvasError, Refused, hidden
+from .outcomes import is_exception
+from .recorded import recorded_answers
 from .reports import Failures, Picture, Report
-from .texts import Answers, Canvas, check_names, is_huge, text_of, values, words_of
+from .texts import Answers, Canvas, check_names, is_huge, named, text_of, values, words_of
 
 __all__ = ["adapt", "check", "every_failure", "graph", "messages", "run", "what_if",
            "what_if_each"]
 
+__tracebackhide__ = hidden
+
 #: The canvases of a call at most, and the bytes of each.
 MOST, MOST_BYTES = 60, 1_048_577
 
-Again = Union[bool, Mapping[Union[str, int], Union[str, Sequence[str]]]]
+#: The numbers that a task may answer lie between this and its negative.
+MOST_NUMBER = 2 ** 60
+
+Again = Union[bool, Mapping[Any, Union[str, Sequence[str]]]]
 
 
 def run(canvas: Canvas, tasks: Answers = {}, workers: int = 1, turns: Sequence[int] | None = None,
@@ -32,22 +39,42 @@ def run(canvas: Canvas, tasks: Answers = {}, workers: int = 1, turns: Sequence[i
              stored, or "late", before it is acknowledged. True is everything, both ways
 
     Raises BadCall; and Refused, also for arguments of kinds of which adapt() makes texts."""
-    return _run(text_of(canvas), tasks, words_of(tasks), workers, turns, again)
+    return _run(text_of(canvas), named(tasks), words_of(tasks), workers, turns, again)
 
 
 def what_if(canvas: Canvas, tasks: Answers = {}, workers: int = 1,
-            turns: Sequence[int] | None = None, again: Again = False, app: Any = None) -> Report:
+            turns: Sequence[int] | None = None, again: Again = False, app: Any = None,
+            answers: Any = None) -> Report:
     """run() of a canvas that is adapted first, so that arguments may be anything, where each task
     answers 0 that `tasks` doesn't name. Raises BadCall and Refused.
 
-    app  your Celery application: the report's `warnings` then name tasks that it doesn't know, and
-         calls that its tasks don't take; and `on_celery` has tasks with its parameters
+    app      your Celery application: the report's `warnings` then name tasks that it doesn't know,
+             and calls that its tasks don't take; and `on_celery` has tasks with its parameters
+    answers  a run that is over: a report of collect(), or the pathlib.Path of a file with stored
+             results. Its tasks answer and fail as they did, unless `tasks` names them. A result
+             that isn't a whole number counts as 0; rehearse() takes any
 
     Each task after a failure fails, too. Celery leaves some of these PENDING forever: a group or
     chord after a failed task, with what waits for it, and what waits for a failed chord in a
     header. docs/CELERY.md lists all that differs. If Celery is installed, print() of the report
     says where its code does otherwise."""
-    return _what_if(_judge(canvas, app), tasks, workers, turns, again)
+    judge = _judge(canvas, app)
+    return _what_if(judge, _with_recorded(judge.text, named(tasks), answers), workers, turns, again)
+
+
+def _with_recorded(text: bytes, tasks: dict[Any, Any], answers: Any) -> dict[Any, Any]:
+    """What tasks answer, and what those that aren't named answered in a run that is over."""
+    if answers is None:
+        return tasks
+    names = dict(enumerate(_names(_run(text, {}, words_of({}, True))), 1))
+    recorded = {number: it if is_exception(it) or _is_number(it) else 0
+                for number, it in recorded_answers(answers, names).items()
+                if names[number] not in tasks}
+    return {**recorded, **tasks}
+
+
+def _is_number(it: Any) -> bool:
+    return isinstance(it, int) and not isinstance(it, bool) and abs(it) <= MOST_NUMBER
 
 
 def _judge(canvas: Canvas, app: Any = None) -> Judge:
@@ -57,6 +84,7 @@ def _judge(canvas: Canvas, app: Any = None) -> Judge:
 
 def _what_if(judge: Judge, tasks: Answers = {}, workers: int = 1,
              turns: Sequence[int] | None = None, again: Again = False) -> Report:
+    tasks = named(tasks)
     report = _run(judge.text, tasks, words_of(tasks, True), workers, turns, again)
     return report.asked_of(Question(judge, tasks))
 
@@ -67,14 +95,15 @@ def _run(text: bytes, tasks: Answers, asked: list[str], workers: int = 1,
     if not all(isinstance(it, int) and not is_huge(it) for it in (workers, *listed)):
         raise BadCall("workers is a whole number, and turns are whole numbers")
     words = ["run", "-", f"--workers={workers}", *asked]
+    again = named(again) if isinstance(again, Mapping) else again
     points = _points(again)
     if isinstance(again, Mapping):
         check_names(again, _names(_run(text, {}, asked)))
     if turns is not None or again:
         words[0] = "turns"
         words += [f"--turns={','.join(map(str, listed))}", f"--again={','.join(points)}"]
-    (*rows, end), beside = values(words, text)
-    report = Report(rows, end, (asked, text), int(beside.split()[1]) if "Again" in beside else 0)
+    *rows, end = values(words, text)
+    report = Report(rows, end, (asked, text), end.get("again", 0))
     check_names(tasks, _names(report))
     return report
 
@@ -100,12 +129,13 @@ def _names(*reports: Report) -> list[str]:
 def what_if_each(canvases: Iterable[Canvas], tasks: Answers = {}) -> list[Report | CanvasError]:
     """what_if() of each canvas, in order, by few calls of the program; or the Refused or BadCall of
     one. Raises BadCall for what is no answer, and for a name that no canvas has."""
+    tasks = named(tasks)
     texts, asked = [_text_or_error(it) for it in canvases], words_of(tasks, True)
     whole = [it for it in texts if isinstance(it, bytes)]
     said: list[Any] = []
     for some in (whole[start:start + MOST] for start in range(0, len(whole), MOST)):
         lines = values(["run", "-", "--each", "--null", *asked],
-                       b"".join(text + b"\0" for text in some))[0]
+                       b"".join(text + b"\0" for text in some))
         if len(lines) != len(some):
             raise CanvasError(f"`canvas run` gave {len(lines)} lines for {len(some)} canvases")
         said += lines
@@ -137,7 +167,7 @@ def every_failure(canvas: Canvas, tasks: Answers = {}, error: Any = Exception, a
                   ) -> Failures:
     """The what_if() of each task failing, by its number; print() it. If Celery is installed,
     each line also says where its code does otherwise. Raises as what_if()."""
-    judge = _judge(canvas, app)
+    judge, tasks = _judge(canvas, app), named(tasks)
     well = _what_if(judge, tasks)
     found = Failures((it.number, _what_if(judge, {**tasks, it.number: error})) for it in well.rows)
     found.well = well
@@ -166,5 +196,5 @@ def graph(canvas: Canvas) -> Picture:
 
 def messages(canvas: Canvas, tasks: Answers = {}) -> list[dict[str, Any]]:
     """The headers, properties and body of each message that a run publishes. Raises Refused."""
-    said = values(["messages", "-", *words_of(tasks)], text_of(canvas))[0]
+    said = values(["messages", "-", *words_of(tasks)], text_of(canvas))
     return [{name: json.loads(text) for name, text in it.items()} for it in said]

@@ -6,10 +6,13 @@ import functools
 import inspect
 from typing import Any, Iterator
 
+from .errors import hidden
 from .marking import Tree, callbacks_of, kind_of
 from .outcomes import Warning
 
-__all__ = ["misfits"]
+__all__ = ["is_called_in_place", "misfits"]
+
+__tracebackhide__ = hidden
 
 #: The arguments of an error callback of more than one parameter, which Celery calls in place.
 IN_PLACE = 3
@@ -66,7 +69,7 @@ def _of_callback(sig: Tree, at: str, app: Any) -> Iterator[Warning]:
     if kind_of(sig) is not None or sig.get("task") not in app.tasks:
         yield from _of(sig, at, 1, app)
         return
-    in_place = _is_called_in_place(app.tasks[sig["task"]])
+    in_place = is_called_in_place(app.tasks[sig["task"]])
     given = 0 if sig.get("immutable") else IN_PLACE if in_place else 1
     error = _refusal(sig, given, app)
     if error:
@@ -89,7 +92,7 @@ def _refusal(sig: Tree, given: int, app: Any) -> str:
     return ""
 
 
-def _is_called_in_place(task: Any) -> bool:
+def is_called_in_place(task: Any) -> bool:
     """By Celery's rule for error callbacks: a function that isn't bound, of several parameters."""
     header = getattr(task, "__header__", None)
     if header is None or isinstance(header, functools.partial):

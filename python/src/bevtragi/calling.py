@@ -12,9 +12,11 @@ from pathlib import Path
 from typing import NamedTuple
 
 from . import VERSION
-from .errors import BadCall, CanvasError, Refused
+from .errors import BadCall, CanvasError, Refused, hidden
 
 __all__ = ["Program", "ask", "program"]
+
+__tracebackhide__ = hidden
 
 #: The seconds that a call may take.
 SECONDS = 60

@@ -13,14 +13,16 @@ from typing import Any, Dict, Iterator, List, Mapping, Union
 from .binding import misfits
 from .celery_store import NothingComes
 from .checking import warnings_of
-from .errors import BadCall, CanvasError
+from .errors import BadCall, CanvasError, hidden
 from .marking import Marked
 from .outcomes import Warning, is_exception
-from .texts import Answers, Canvas, check_names, text_of, tree_of, values, words_of
+from .texts import Answers, Canvas, check_names, named, text_of, tree_of, values, words_of
 
 __all__ = ["CeleryRun", "Judge", "celery_answers", "celery_version", "on_celery", "said"]
 
-CeleryAnswers = Mapping[Union[str, int], Any]
+__tracebackhide__ = hidden
+
+CeleryAnswers = Mapping[Any, Any]
 
 #: What the program's own tasks do.
 BEHAVIOURS: Dict[str, Any] = {
@@ -59,17 +61,20 @@ class CeleryRun:
 
     @functools.cached_property
     def states(self) -> Dict[str, List[str]]:
-        names: Dict[str, str] = {}
-        for message in self._session.messages:
-            names.setdefault(message.headers["id"], message.headers["task"])
-            for number, name in _identified(message.payload[2]):
-                names.setdefault(number, name)
         found: Dict[str, List[str]] = {}
-        for number, mark in names.items():
-            if mark in self._session.names:
-                state = self._session.state_of(number)
-                found.setdefault(self._session.names[mark], []).append(state)
+        for number, name in self.identified().items():
+            found.setdefault(name, []).append(self._session.state_of(number))
         return found
+
+    def identified(self) -> Dict[str, str]:
+        """The names of the tasks by their identifiers."""
+        marks: Dict[str, str] = {}
+        for message in self._session.messages:
+            marks.setdefault(message.headers["id"], message.headers["task"])
+            for number, mark in _identified(message.payload[2]):
+                marks.setdefault(number, mark)
+        names = self._session.names
+        return {number: names[mark] for number, mark in marks.items() if mark in names}
 
     def __repr__(self) -> str:
         end = ""
@@ -126,7 +131,7 @@ class Judge:
     @functools.cached_property
     def places(self) -> list[str]:
         """The mark of each row of what_if(). Raises Refused where what_if() does."""
-        *rows, _end = values(["run", "-", *words_of({}, True)], text_of(self.marked.tree))[0]
+        *rows, _end = values(["run", "-", *words_of({}, True)], text_of(self.marked.tree))
         return [row["name"] for row in rows]
 
     def both(self, answers: CeleryAnswers) -> Iterator[CeleryRun]:
@@ -139,6 +144,7 @@ class Judge:
         """What Celery does where tasks answer so."""
         if failures not in (None, "first", "last"):
             raise BadCall(f"failures are first, last or, by None, in their turn: not {failures!r}")
+        answers = named(answers)
         numbered = {key for key in answers if isinstance(key, int)}
         names = self.marked.names
         marks = self.places if numbered else [*names]
@@ -197,9 +203,9 @@ def on_celery(flow: Canvas, answers: CeleryAnswers | None = None, app: Any = Non
     return Judge(flow, app).run(answers or {}, failures)
 
 
-def celery_answers(tasks: Answers) -> dict[str | int, Any]:
+def celery_answers(tasks: Answers) -> dict[Any, Any]:
     """The answers of what_if(), for Celery."""
-    found: Dict[Union[str, int], Any] = {}
+    found: Dict[Any, Any] = {}
     for key, answer in tasks.items():
         word = answer if isinstance(answer, str) else ""
         found[key] = type(word[6:], (Exception,), {}) if word.startswith("raise:") else \

@@ -106,7 +106,10 @@ class Session:
 
     def _fails(self, message: Message) -> bool:
         mark = message.headers["task"]
-        return mark in self.names and is_exception(self.answer_of(mark))
+        if mark not in self.names:
+            return False
+        answer = self.answer_of(mark)
+        return is_exception(answer) or getattr(answer, "fails", False)
 
     def _perform(self, message: Message) -> None:
         name = message.headers["task"]

@@ -5,10 +5,13 @@ from __future__ import annotations
 from typing import Any, Dict
 
 from .binding import misfits
+from .errors import hidden
 from .outcomes import Warning
 from .texts import Answers, tree_of, values, words_of
 
 __all__ = ["Figures", "figures", "warnings_of"]
+
+__tracebackhide__ = hidden
 
 
 class Figures(Dict[str, int]):
@@ -21,7 +24,7 @@ def figures(text: bytes, tasks: Answers = {}, app: Any = None) -> Figures:
 
     With `app`, the names are looked for there, and not among the program's tasks."""
     words = words_of({"*": 0, **tasks} if app is not None else tasks)
-    said, *warned = values(["check", "-", "--adapt", *words], text)[0]
+    said, *warned = values(["check", "-", "--adapt", *words], text)
     found = Figures((name.replace("_", " "), count) for name, count in said.items())
     found.warnings = [Warning(it.pop("name"), **it) for it in warned]
     if app is not None:

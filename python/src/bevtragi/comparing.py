@@ -7,7 +7,7 @@ from typing import Any, Iterable, Iterator
 
 from .celery_run import CeleryRun, Judge, celery_answers, said
 
-__all__ = ["Question"]
+__all__ = ["Question", "of_calls"]
 
 
 class Question:
@@ -42,7 +42,7 @@ class Question:
         if run.raised is not None:
             yield f"apply_async() raises {said(run.raised)}"
             return
-        yield from _of_calls(self._names(it for it, row in zip(self.judge.places, report.rows)
+        yield from of_calls(self._names(it for it, row in zip(self.judge.places, report.rows)
                                          if row.ran), self._names(run.marks))
         if run.waits:
             yield "get() waits forever"
@@ -57,7 +57,8 @@ class Question:
         return Counter(marked.names[it] for it in marks if it not in marked.in_maps)
 
 
-def _of_calls(here: Counter[str], there: Counter[str]) -> Iterator[str]:
+def of_calls(here: Counter[str], there: Counter[str]) -> Iterator[str]:
+    """What is called otherwise there than here, each a sentence without its subject."""
     for name in dict.fromkeys([*there, *here]):
         if here[name] == 0:
             yield f"also calls {name}" + (f" {there[name]} times" if there[name] > 1 else "")

@@ -7,10 +7,13 @@ import uuid
 from typing import Any
 
 from .celery_run import celery_version
-from .marking import Tree, callbacks_of, complete, kind_of, members_of, plain, walked
+from .errors import hidden
+from .marking import Tree, app_of, callbacks_of, complete, kind_of, members_of, plain, walked
 from .texts import Canvas, tree_of
 
 __all__ = ["cured"]
+
+__tracebackhide__ = hidden
 
 
 def cured(flow: Canvas) -> Any:
@@ -38,15 +41,7 @@ def cured(flow: Canvas) -> Any:
         if kind_of(tree) == "chord" and kind_of(tree["kwargs"]["body"]) == "chain":
             # Since 5.3 the start of a chord gives its own identifier, or none, to the chain.
             tree["options"].setdefault("task_id", str(uuid.uuid4()))
-        return kind.from_dict(tree, app=_app_of(flow))
-
-
-def _app_of(sig: Any) -> Any:
-    """The application of the first signature that has one."""
-    if not isinstance(sig, dict):
-        return None
-    found = getattr(sig, "_app", None) or getattr(getattr(sig, "_type", None), "app", None)
-    return found or next(filter(None, map(_app_of, members_of(sig))), None)
+        return kind.from_dict(tree, app=app_of(flow))
 
 
 def _cure(sig: Tree) -> None:

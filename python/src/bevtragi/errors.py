@@ -1,8 +1,10 @@
-"""What is raised: CanvasError, and its two kinds."""
+"""What is raised: CanvasError, and its kinds."""
 
 from __future__ import annotations
 
-__all__ = ["BadCall", "CanvasError", "Refused"]
+from operator import methodcaller
+
+__all__ = ["BadCall", "CanvasError", "NotKnown", "Refused", "hidden"]
 
 
 class CanvasError(Exception):
@@ -11,6 +13,10 @@ class CanvasError(Exception):
 
 class BadCall(CanvasError, ValueError):
     """What was handed in is no canvas, no task of it, no answer, or nothing that a run takes."""
+
+
+class NotKnown(CanvasError, AttributeError):
+    """This report doesn't have what was asked for. `hasattr` is false of it."""
 
 
 class Refused(CanvasError, ValueError):
@@ -26,3 +32,9 @@ class Refused(CanvasError, ValueError):
         task = f" in {self.task}" if self.task else ""
         place = "" if self.pointer is None else f" at {self.pointer or 'the top'}"
         return f"{self.code} {self.name}{task}{place}" + (f": {self.note}" if self.note else "")
+
+
+#: What a module calls `__tracebackhide__`: pytest then leaves its functions out of the traceback of
+#: a CanvasError, which ends at the line of the test.
+hidden = methodcaller("errisinstance", CanvasError)
+__tracebackhide__ = hidden

@@ -7,12 +7,14 @@ import tempfile
 from typing import Any
 
 from .calling import ask
-from .errors import BadCall, CanvasError
+from .errors import BadCall, CanvasError, hidden
 from .reports import Report
 from .stored import Stored
 from .texts import Canvas, is_huge, text_of, values
 
 __all__ = ["collect", "export"]
+
+__tracebackhide__ = hidden
 
 
 def export(canvas: Canvas, client: Any, **options: Any) -> str:
@@ -99,7 +101,7 @@ def _collected(words: list[str], stored: Stored) -> list[dict[str, Any]]:
     """What the program tells of stored results, whichever of them can't be read."""
     while True:
         try:
-            return [stored.told(it) for it in values(words, stored.lines())[0]]
+            return [stored.told(it) for it in values(words, stored.lines())]
         except BadCall as error:
             if not stored.set_aside(error):
                 raise

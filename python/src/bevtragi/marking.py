@@ -10,9 +10,12 @@ import json
 from contextlib import contextmanager
 from typing import Any, Dict, Iterator, Set
 
-from .errors import BadCall
+from .errors import BadCall, hidden
 
-__all__ = ["Marked", "callbacks_of", "complete", "kind_of", "members_of", "plain", "walked"]
+__all__ = ["Marked", "app_of", "callbacks_of", "complete", "kind_of", "members_of", "plain",
+           "walked"]
+
+__tracebackhide__ = hidden
 
 CANVASES = ("chain", "group", "chord")
 MAPS = ("celery.map", "celery.starmap", "celery.chunks")
@@ -45,6 +48,14 @@ def callbacks_of(sig: Tree, key: str) -> list[Tree]:
 def _listed(found: Any) -> list[Tree]:
     return [it for it in ([found] if isinstance(found, dict) else found or ())
             if isinstance(it, dict)]
+
+
+def app_of(sig: Any) -> Any:
+    """The application of the first signature that has one."""
+    if not isinstance(sig, dict):
+        return None
+    found = getattr(sig, "_app", None) or getattr(getattr(sig, "_type", None), "app", None)
+    return found or next(filter(None, map(app_of, members_of(sig))), None)
 
 
 @contextmanager

@@ -6,10 +6,13 @@ from typing import Any, Iterator
 
 from .asking import every_failure
 from .celery_run import celery_version
+from .errors import hidden
 from .reports import Failures
 from .texts import Canvas
 
 __all__ = ["differences"]
+
+__tracebackhide__ = hidden
 
 
 def differences(flow: Canvas, app: Any = None) -> list[str]:

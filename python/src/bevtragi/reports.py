@@ -6,17 +6,19 @@ import functools
 import shutil
 import subprocess
 from itertools import zip_longest
-from typing import TYPE_CHECKING, Any, Dict, NamedTuple
+from typing import TYPE_CHECKING, Any, Dict, Iterator, NamedTuple
 
 from .calling import ask
-from .errors import CanvasError
+from .errors import CanvasError, NotKnown, hidden
 from .outcomes import Failure, Warning, shown
 
 if TYPE_CHECKING:
     from .celery_run import CeleryRun
     from .comparing import Question
 
-__all__ = ["Failures", "Picture", "Report", "Row", "pytest_assertrepr_compare"]
+__all__ = ["Failures", "Picture", "Report", "Row", "pytest_assertrepr_compare", "row_of"]
+
+__tracebackhide__ = hidden
 
 
 class Row(NamedTuple):
@@ -30,13 +32,21 @@ class Row(NamedTuple):
     ran: bool | None = None
     due_to: int | None = None
 
+    @property
+    def raised(self) -> str | None:
+        """The name of the exception that the task failed with, or that the failed task of its
+        chord raised; None if it didn't fail."""
+        if not isinstance(self.result, Failure):
+            return None
+        return self.result.raised or self.result.kind
+
     def __str__(self) -> str:
         why = f"not called, due to #{self.due_to}" if self.due_to else "will not run"
         said = f"#{self.number} {self.name} {self.status} {shown(self.result)}"
         return f"{said} ({why})" if self.ran is False else said
 
 
-def _row(number: int, told: dict[str, Any]) -> Row:
+def row_of(number: int, told: dict[str, Any]) -> Row:
     """The row of a task that the program tells. The result of one that failed is a Failure; one
     that succeeded may have a value that looks like that."""
     failed = told["status"] == "FAILURE"
@@ -64,23 +74,34 @@ class Report:
 
     Of what_if(), and if Celery is installed, a last line says what it does otherwise."""
     _question: Question | None = None
+    _asked: tuple[list[str], bytes] | None = None
 
     def __init__(self, rows: list[dict[str, Any]], end: dict[str, Any],
                  asked: tuple[list[str], bytes] | None = None, again: int = 0) -> None:
-        self.rows = [_row(number, it) for number, it in enumerate(rows, 1)]
-        self.status, self.result, self.again = end["status"], _result(end, rows), again
+        self._asked = asked
+        self._fill([row_of(number, it) for number, it in enumerate(rows, 1)],
+                   end["status"], _result(end, rows), again)
+
+    def _fill(self, rows: list[Row], status: str, result: Any, again: int) -> None:
+        self.rows, self.status, self.result, self.again = rows, status, result, again
         self.succeeded, self.failed, self.pending, self.unreadable = (
             [row.name for row in self.rows if row.status == status]
             for status in ("SUCCESS", "FAILURE", "PENDING", "UNREADABLE"))
-        if asked:
-            self._asked = asked
-            self.ran, self.never_run = (
-                [row.name for row in self.rows if row.ran is ran] for ran in (True, False))
 
-    def __getattr__(self, name: str) -> Any:
-        if name in ("ran", "never_run", "_asked"):
-            raise CanvasError("that isn't known of a run on Celery's workers: ask what_if()")
-        raise AttributeError(name)
+    @property
+    def ran(self) -> list[str]:
+        """The names of the tasks that are called."""
+        return self._named_by(True)
+
+    @property
+    def never_run(self) -> list[str]:
+        """The names of the tasks that are not called."""
+        return self._named_by(False)
+
+    def _named_by(self, ran: bool) -> list[str]:
+        if self._asked is None:
+            raise NotKnown("that isn't known of a run on Celery's workers: ask what_if()")
+        return [row.name for row in self.rows if row.ran is ran]
 
     def asked_of(self, question: Question) -> Report:
         """The report, with its question to Celery."""
@@ -92,8 +113,11 @@ class Report:
         """What the code of the installed Celery does with the canvas and these answers, with the
         tasks in their turn. CanvasError if there is no Celery, or of reports of other calls."""
         if self._question is None:
-            raise CanvasError("that is known of what_if() and every_failure() only")
-        return self._question.run()
+            raise NotKnown("that is known of what_if() and every_failure() only")
+        try:
+            return self._question.run()
+        except CanvasError as error:
+            raise NotKnown(str(error)) from error
 
     @functools.cached_property
     def note(self) -> str:
@@ -113,6 +137,8 @@ class Report:
 
     def graph(self) -> Picture:
         """The picture of this run. CanvasError, as of `ran`, of one on Celery's workers."""
+        if self._asked is None:
+            raise NotKnown("that isn't known of a run on Celery's workers: ask what_if()")
         words, text = self._asked
         return Picture(ask(["graph", "-", "--run", *words], text)[0])
 
@@ -120,12 +146,25 @@ class Report:
         """The rows of the tasks of a name."""
         return [row for row in self.rows if row.name == name]
 
-    def __getitem__(self, key: str | int) -> Row:
-        """The row of a number, or of a name that one task alone has; else KeyError."""
-        found = [row for row in self.rows if key in (row.number, row.name)]
+    def shown(self, result: Any) -> str:
+        """A result as it is printed."""
+        return shown(result)
+
+    def __iter__(self) -> Iterator[Row]:
+        return iter(self.rows)
+
+    def __contains__(self, key: Any) -> bool:
+        """Whether the canvas has a task of a number or name, or a row."""
+        name = getattr(key, "name", key)
+        return key in self.rows or any(name in (row.number, row.name) for row in self.rows)
+
+    def __getitem__(self, key: Any) -> Row:
+        """The row of a number, or of a name that only one task has; else KeyError."""
+        name = getattr(key, "name", key)
+        found = [row for row in self.rows if name in (row.number, row.name)]
         if len(found) != 1:
             numbers = ", ".join(f"#{row.number}" for row in found) or "no task"
-            raise KeyError(f"{key} is the name of {numbers}: take a number, or named()")
+            raise KeyError(f"{name} is the name of {numbers}: take a number, or named()")
         return found[0]
 
     def differences(self, other: Report) -> list[str]:
@@ -163,15 +202,21 @@ class Failures(Dict[int, Report]):
     well: Report
 
     def __repr__(self) -> str:
-        return "\n".join([*(self._line(*it) for it in self.items()), *map(str, self.well.misfits)])
+        noted = [f"{self._line(*it)}; {it[1].note}" if it[1].note else self._line(*it)
+                 for it in self.items()]
+        return "\n".join([*noted, *map(str, self.well.misfits)])
+
+    def text(self) -> str:
+        """The lines, without what the installed Celery does otherwise."""
+        return "\n".join(self._line(*it) for it in self.items())
 
     def _line(self, number: int, report: Report) -> str:
-        said = f"#{number} {report[number].name} fails: result {shown(report.result)}"
+        said = f"#{number} {report[number].name} fails: result {report.shown(report.result)}"
         for word, ran in (("also called", True), ("not called", False)):
             found = [f"#{row.number} {row.name}" for row, well in zip(report.rows, self.well.rows)
                      if (row.ran, well.ran) == (ran, not ran)]
             said += f"; {word}: {', '.join(found)}" if found else ""
-        return f"{said}; {report.note}" if report.note else said
+        return said
 
 
 class Picture(str):

@@ -6,19 +6,22 @@ import difflib
 import json
 import os
 from pathlib import Path
-from typing import Any, Dict, Iterable, Mapping, Type, Union
+from typing import Any, Dict, Iterable, Mapping, Union
 
 from .calling import ask
-from .errors import BadCall, CanvasError
+from .errors import BadCall, CanvasError, hidden
 
-__all__ = ["Answers", "Canvas", "check_names", "is_huge", "text_of", "tree_of", "values",
+__all__ = ["Answers", "Canvas", "check_names", "is_huge", "named", "text_of", "tree_of", "values",
            "words_of"]
+
+__tracebackhide__ = hidden
 
 #: The program's own tasks.
 OWN = ("tasks.add", "tasks.div", "tasks.ident", "tasks.log_error", "tasks.mul", "tasks.xsum")
 
 Canvas = Union[Dict[str, Any], str, bytes, "os.PathLike[str]"]
-Answers = Mapping[Union[str, int], Union[int, str, Exception, Type[Exception]]]
+#: By a name, a number or a task: a whole number, a text, an exception or a class of exceptions.
+Answers = Mapping[Any, Any]
 
 
 def text_of(canvas: Canvas) -> bytes:
@@ -56,10 +59,17 @@ def tree_of(canvas: Canvas) -> dict[str, Any]:
     return tree
 
 
+def named(tasks: Any, what: str = "what tasks answer") -> dict[Any, Any]:
+    """A dictionary by names and numbers, whose keys may have been tasks of Celery."""
+    if not isinstance(tasks, Mapping):
+        raise BadCall(f"{tasks!r:.60} is no dictionary of {what}")
+    return {it if isinstance(it, (str, int)) else getattr(it, "name", it): tasks[it]
+            for it in tasks}
+
+
 def words_of(tasks: Answers, is_whole: bool = False) -> list[str]:
     """What tasks answer, in the program's words; and of all others, in a canvas that is adapted."""
-    if not isinstance(tasks, Mapping):
-        raise BadCall(f"{tasks!r:.60} is no dictionary of what tasks answer")
+    tasks = named(tasks)
     words = ["--adapt"] * is_whole
     others: Dict[Any, Any] = dict.fromkeys(("*", *OWN), tasks.get("*", 0)) if is_whole else {}
     for key, answer in {**others, **tasks}.items():
@@ -86,10 +96,10 @@ def check_names(keys: Iterable[str | int], names: list[str]) -> None:
         raise BadCall(f"{key!r} is no task of the canvas: did you mean {', '.join(close)}?")
 
 
-def values(words: list[str], given: bytes) -> tuple[list[Any], str]:
-    """As ask(), of a JSON value a line."""
-    out, beside = ask(words, given)
+def values(words: list[str], given: bytes) -> list[Any]:
+    """The answer of ask() where that is a JSON value a line."""
+    out, _ = ask(words, given)
     try:
-        return [json.loads(it) for it in out.split("\n")[:-1]], beside
+        return [json.loads(it) for it in out.split("\n")[:-1]]
     except (ValueError, LookupError) as error:
         raise CanvasError(f"`canvas {words[0]}` answered what can't be read: {error}") from error
