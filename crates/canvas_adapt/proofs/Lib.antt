@@ -1,1 +1,4 @@
+mod AdaptedExamples
+mod Names
+pub mod RenamedLaws
 mod Settled

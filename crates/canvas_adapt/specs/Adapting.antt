@@ -1,11 +1,14 @@
 -- What adapting a text leaves alone.
-use Rattle.std.specs.Prelude.{◌≡◌, ◌≢◌, Bool, true, false, Result, Ok, Err, MatchResult}
+use Rattle.std.specs.Prelude.{◌≡◌, ◌≢◌, Bool, true, false, List, [], Result, Ok, Err, MatchResult}
 use Rattle.canvas_task.specs.Text.{Text}
-use Rattle.canvas_semantics.specs.Tree.{Tree}
+use Rattle.canvas_semantics.specs.Tree.{Tree, count}
+use Rattle.canvas_values.specs.CanvasText.{text_reading}
 use Rattle.canvas_values.specs.declared.fault.SigFault.{SigFault}
 use Rattle.canvas_values.specs.declared.fault.SigFault.TheVariants.{TooLarge, NotJson, Memory}
 use Rattle.canvas_adapt.specs.declared.changes.Changes.{Changes}
 use Rattle.canvas_adapt.specs.declared.adapting.Adapted.{Adapted}
+use Rattle.canvas_adapt.specs.declared.printing.AdaptedText.{AdaptedText}
+use Rattle.canvas_adapt.specs.declared.renames.Rename.{Rename}
 
 abbrev pub no_changes : Changes
 no_changes = record {
@@ -17,12 +20,8 @@ no_changes = record {
   compounds = 0;
 }
 
--- these very bytes, with nothing changed
-abbrev pub IsUnchanged : Text → Adapted → Type 0
-IsUnchanged bytes a = (a.text.items ≡ bytes) × (a.changes ≡ no_changes)
-
 -- refused so, unless memory ran out
-abbrev pub IsRefused : SigFault → Result Adapted SigFault → Type 0
+abbrev pub IsRefused : {A : Type 0} → SigFault → Result A SigFault → Type 0
 IsRefused fault made = MatchResult made (λ a. ⊥) (λ e. e ≢ Memory → e ≡ fault)
 
 -- a refusal that no signature of a text has
@@ -32,8 +31,31 @@ is_of_text NotJson = true
 is_of_text Memory = true
 is_of_text fault = false
 
+-- ---- canvases
+
+-- this very canvas, with nothing changed
+abbrev pub IsKept : Tree → Adapted → Type 0
+IsKept c a = (a.canvas ≡ c) × (a.changes ≡ no_changes)
+
 -- What reading says of the bytes decides where there is nothing to adapt: a canvas stays as it is,
 -- and a text that is too large or no JSON is refused as such.
-abbrev pub IsSettled : Text → Result Tree SigFault → Result Adapted SigFault → Type 0
-IsSettled bytes (Ok c) made = MatchResult made (IsUnchanged bytes) (λ e. e ≡ Memory)
-IsSettled bytes (Err fault) made = is_of_text fault ≡ true → IsRefused fault made
+abbrev pub IsSettled : Result Tree SigFault → Result Adapted SigFault → Type 0
+IsSettled (Ok c) made = MatchResult made (IsKept c) (λ e. e ≡ Memory)
+IsSettled (Err fault) made = is_of_text fault ≡ true → IsRefused fault made
+
+-- ---- texts
+
+-- it reads as a canvas, which has so many tasks
+abbrev pub Reads : AdaptedText → Type 0
+Reads a = (c : Tree) × (text_reading a.text.items ≡ Ok c) × (a.tasks ≡ count c)
+
+-- these very bytes, with nothing changed
+abbrev pub IsKeptText : Text → AdaptedText → Type 0
+IsKeptText bytes a = (a.text.items ≡ bytes) × (a.changes ≡ no_changes)
+
+-- the same of a text in which some tasks get other names: where none does, a canvas stays as it is
+abbrev pub IsSettledText : List Rename → Text → Result Tree SigFault
+    → Result AdaptedText SigFault → Type 0
+IsSettledText renames bytes (Ok c) made =
+    renames ≡ [] → MatchResult made (IsKeptText bytes) (λ e. e ≡ Memory)
+IsSettledText renames bytes (Err fault) made = is_of_text fault ≡ true → IsRefused fault made

@@ -1,1 +1,4 @@
+pub mod Adapted
 pub mod Adapting
+pub mod Renamed
+pub mod steps

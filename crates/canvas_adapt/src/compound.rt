@@ -49,8 +49,8 @@ fn are_immutable(tasks: &[Datum<'_>]) -> bool {
     true
 }
 
-/// Whether Celery calls these tasks, which stand for a callback: a chain that is called for a failure
-/// is given three arguments, which it gives to the tasks that take input.
+/// Whether Celery calls these tasks, which stand for a callback: a chain that is called for a
+/// failure is given three arguments, which it gives to the tasks that take input.
 fn are_called(callback: &Datum<'_>, name: &str, tasks: &[Datum<'_>]) -> bool {
     name != "link_error" || !matches!(form_of(callback), Form::Chain) || are_immutable(tasks)
 }

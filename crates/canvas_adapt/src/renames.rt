@@ -1,5 +1,9 @@
 //! Other names for tasks, which go by their numbers in reports.
 
+ghost use Rattle.std.specs.Prelude.{◌≡◌};
+ghost use Rattle.std.specs.Option.{option_map};
+ghost use Rattle.canvas_adapt.specs.Renamed.{name_for};
+
 use crate::{BadRename, RenameFault};
 use canvas_task::{TaskNo, name_ok};
 use std::alloc::Global;
@@ -38,8 +42,10 @@ pub fn read_rename(alloc: Global, text: &str) -> Result<Rename, RenameFault> {
     Ok(Rename { task, name })
 }
 
-/// The name that a task gets.
-pub(crate) fn name_of(renames: &[Rename], task: u32) -> Option<&str> {
+/// The name that the task of a number gets: of two for one number the first counts.
+pub(crate) fn name_of(renames: &[Rename], task: u32) -> Option<&str>
+    ensures { option_map (λ name. name.now) result ≡ name_for renames.now task }
+{
     for rename in renames {
         if rename.task.get() == task {
             return Some(rename.name.as_str());

@@ -1,118 +1,154 @@
-//! Giving tasks other names.
+//! Giving the tasks of a canvas other names, by their numbers.
 
-ghost use Rattle.std.specs.Prelude.{◌≡◌, Ok, IfOk};
-ghost use Rattle.canvas_semantics.specs.Tree.{Tree};
-ghost use Rattle.canvas_values.specs.CanvasText.{text_reading};
+ghost use Rattle.std.specs.Prelude.{◌≡◌, ◌≢◌, ◌≤◌, ◌+◌, List, [], Some, IfOk, IfErr, map};
+ghost use Rattle.canvas_semantics.specs.Tree.{Tree, count, count_task};
+ghost use Rattle.canvas_semantics.specs.steps.Numbering.{greatest_number, tasks_in};
+ghost use Rattle.canvas_values.specs.ComposedRefusals.{node_fault};
+ghost use Rattle.canvas_values.specs.SignatureView.{task_view, view};
+ghost use Rattle.canvas_values.specs.declared.fault.SigFault.TheVariants.{Memory};
+ghost use Rattle.canvas_adapt.specs.declared.renames.Rename.{Rename};
+ghost use Rattle.canvas_adapt.specs.Renamed.{name_for, name_or, rename_task, rename_tree, renamed};
+ghost use Rattle.canvas_adapt.specs.steps.Renaming.{tasks_renamed, trees_in, trees_renamed};
 
-use crate::adapting::{check_reads, line_of};
-use crate::member::set_member;
-use crate::part::{Part, callback_parts, inner_parts, set_values, values_at};
 use crate::renames::{Rename, name_of};
-use bumpalo::Bump;
-use canvas_sig::SigFault;
-use canvas_sig::parts::{Datum, MOST_LEVELS, parse, primitive_of};
-use canvas_values::Primitive;
-use json::Scratch;
-use std::alloc::Global;
+use canvas_task::{ListOf, TextOf, copy_args, copy_kwargs};
+use canvas_values::{Canvas, Node, SigFault, TaskSig};
+use std::alloc::{AllocError, Global};
 
-/// A canvas whose tasks have other names.
-#[derive(Drop)]
-pub struct Renamed {
-    pub text: Vec<u8>,
-    /// How many tasks it has.
-    pub tasks: u32,
-}
-
-/// A walk over the tasks of a canvas, in the order of their numbers.
-#[derive(Drop)]
-struct Walk<'a> {
-    arena: &'a Bump,
-    renames: &'a [Rename],
-    /// The number of the latest task.
-    task: u32,
-}
-
-impl<'a> Walk<'a> {
-    /// Gives the next task its other name, where it has one.
-    fn name_task(&mut self, task: &mut Datum<'a>) -> Result<(), SigFault> {
-        self.task = self.task.saturating_add(1);
-        match name_of(self.renames, self.task) {
-            Some(name) => set_member(self.arena, task, "task", &Datum::Text(name)),
-            None => Ok(()),
-        }
-    }
-
-    #[cycle(node)]
-    fn rename_part(
-        &mut self,
-        value: &mut Datum<'a>,
-        part: Part,
-        left: u32,
-    ) -> Result<(), SigFault> {
-        let renamed = self.arena.try_alloc_slice_copy(values_at(value, part))?;
-        for inner in renamed.iter_mut() {
-            self.rename_node(inner, left)?;
-        }
-        if renamed.is_empty() {
-            return Ok(());
-        }
-        set_values(self.arena, value, part, renamed)
-    }
-
-    /// A signature. Signatures in it nest at most `left` deep.
-    #[cycle(node)]
-    fn rename_node(&mut self, value: &mut Datum<'a>, left: u32) -> Result<(), SigFault> {
-        if left == 0 {
-            return Ok(());
-        }
-        let primitive = primitive_of(value.get("subtask_type"));
-        if matches!(primitive, Some(Primitive::Task)) {
-            self.name_task(value)?;
-        }
-        for part in callback_parts() {
-            self.rename_part(value, *part, left - 1)?;
-        }
-        for part in inner_parts(primitive) {
-            self.rename_part(value, *part, left - 1)?;
-        }
-        Ok(())
-    }
-}
-
-fn rename_parsed<'a>(
+/// The name that the task of a number gets, which is its own where it gets no other.
+fn name_at(
     alloc: Global,
-    arena: &'a Bump,
-    scratch: &'a mut Scratch,
-    bytes: &'a [u8],
-    renames: &'a [Rename],
-) -> Result<Renamed, SigFault> {
-    let mut value = parse(alloc, arena, scratch, bytes)?;
-    let mut walk = Walk {
-        arena,
-        renames,
-        task: 0,
-    };
-    walk.rename_node(&mut value, MOST_LEVELS)?;
-    let text = line_of(alloc, &value)?;
-    Ok(Renamed {
-        text,
-        tasks: walk.task,
+    name: &TextOf,
+    renames: &[Rename],
+    number: u32,
+) -> Result<TextOf, AllocError>
+    ensures { IfOk result (λ copy. copy ≡ name_or (name_for renames.now number) name.now) }
+{
+    match name_of(renames, number) {
+        Some(other) => Ok(TextOf::of(String::from_str(alloc, other)?)),
+        None => name.clone(),
+    }
+}
+
+/// A copy of a task whose number is `next`, and the number after its last.
+#[cycle(tasks)]
+fn rename_task(
+    alloc: Global,
+    sig: &TaskSig,
+    renames: &[Rename],
+    next: &mut u32,
+) -> Result<TaskSig, AllocError>
+    requires few { next.old + count_task (task_view sig.now) ≤ greatest_number }
+    ensures value { IfOk result
+        (λ copy. task_view copy ≡ rename_task renames.now next.old (task_view sig.now)) }
+    ensures next { IfOk result (λ _. next.new ≡ next.old + count_task (task_view sig.now)) }
+{
+    let name = name_at(alloc, &sig.name, renames, *next)?;
+    *next += 1;
+    let args = copy_args(&sig.args)?;
+    let kwargs = copy_kwargs(alloc, &sig.kwargs)?;
+    let links = rename_tasks(alloc, sig.links.get(), renames, next)?;
+    let errbacks = rename_tasks(alloc, sig.errbacks.get(), renames, next)?;
+    Ok(TaskSig {
+        name,
+        args,
+        kwargs,
+        immutable: sig.immutable,
+        links: ListOf::of(links),
+        errbacks: ListOf::of(errbacks),
     })
 }
 
-fn rename_bytes(alloc: Global, bytes: &[u8], renames: &[Rename]) -> Result<Renamed, SigFault> {
-    let arena = Bump::new(alloc);
-    let mut scratch = Scratch::new(alloc);
-    rename_parsed(alloc, &arena, &mut scratch, bytes, renames)
+#[cycle(tasks)]
+fn rename_tasks(
+    alloc: Global,
+    sigs: &[TaskSig],
+    renames: &[Rename],
+    next: &mut u32,
+) -> Result<Vec<TaskSig>, AllocError>
+    requires few { next.old + tasks_in (map task_view sigs.now) ≤ greatest_number }
+    ensures value { IfOk result (λ copies. map task_view copies.items
+        ≡ tasks_renamed renames.now next.old (map task_view sigs.now)) }
+    ensures next { IfOk result (λ _. next.new ≡ next.old + tasks_in (map task_view sigs.now)) }
+{
+    let mut copies = Vec::with_capacity(alloc, sigs.len())?;
+    for sig in sigs {
+        copies.push(rename_task(alloc, sig, renames, next)?)?;
+    }
+    Ok(copies)
 }
 
-/// A canvas in which some tasks have other names. They go by their numbers in the order of the
-/// file: a task, its links, its error callbacks, then what follows; a header before its body. What
-/// comes of it reads as a canvas, or is refused as reading refuses it.
-pub fn rename(alloc: Global, bytes: &[u8], renames: &[Rename]) -> Result<Renamed, SigFault>
-    ensures reads { IfOk result (λ r. (c : Tree) × (text_reading r.text.items ≡ Ok c)) }
+/// A copy of a signature whose first task has the number `next`, and the number after its last.
+#[cycle(nodes)]
+fn rename_node(
+    alloc: Global,
+    node: &Node,
+    renames: &[Rename],
+    next: &mut u32,
+) -> Result<Node, AllocError>
+    requires few { next.old + count (view node.now) ≤ greatest_number }
+    ensures value { IfOk result
+        (λ copy. view copy ≡ rename_tree renames.now next.old (view node.now)) }
+    ensures next { IfOk result (λ _. next.new ≡ next.old + count (view node.now)) }
 {
-    let renamed = rename_bytes(alloc, bytes, renames)?;
-    check_reads(alloc, &renamed.text)?;
-    Ok(renamed)
+    match node {
+        Node::Task(sig) => Ok(Node::Task(rename_task(alloc, sig, renames, next)?)),
+        Node::Chain(nodes) => {
+            let nodes = rename_nodes(alloc, nodes.get(), renames, next)?;
+            Ok(Node::Chain(ListOf::of(nodes)))
+        }
+        Node::Group(nodes) => {
+            let nodes = rename_nodes(alloc, nodes.get(), renames, next)?;
+            Ok(Node::Group(ListOf::of(nodes)))
+        }
+        Node::Chord { header, body } => {
+            let header = rename_nodes(alloc, header.get(), renames, next)?;
+            let body = rename_node(alloc, body, renames, next)?;
+            let body = Box::new(alloc, body)?;
+            Ok(Node::Chord {
+                header: ListOf::of(header),
+                body,
+            })
+        }
+    }
 }
+
+#[cycle(nodes)]
+fn rename_nodes(
+    alloc: Global,
+    nodes: &[Node],
+    renames: &[Rename],
+    next: &mut u32,
+) -> Result<Vec<Node>, AllocError>
+    requires few { next.old + trees_in (map view nodes.now) ≤ greatest_number }
+    ensures value { IfOk result (λ copies. map view copies.items
+        ≡ trees_renamed renames.now next.old (map view nodes.now)) }
+    ensures next { IfOk result (λ _. next.new ≡ next.old + trees_in (map view nodes.now)) }
+{
+    let mut copies = Vec::with_capacity(alloc, nodes.len())?;
+    for node in nodes {
+        copies.push(rename_node(alloc, node, renames, next)?)?;
+    }
+    Ok(copies)
+}
+
+/// The same canvas, in which the tasks of these numbers have other names. They go by their numbers
+/// in the order of the file: a task, its links, its error callbacks, then what follows; a header
+/// before its body. A number that the canvas doesn't have names no task, and of two names for one
+/// number the first counts. It is refused where a name is none.
+#[tactic(auto, using(crate::proofs::Names::few_tasks))]
+pub fn renamed(alloc: Global, canvas: &Canvas, renames: &[Rename]) -> Result<Canvas, SigFault>
+    ensures ok { IfOk result (λ c. c ≡ renamed renames.now canvas.now) }
+    ensures err { IfErr result
+        (λ e. e ≢ Memory → node_fault (renamed renames.now canvas.now) ≡ Some e) }
+{
+    let mut next = 1;
+    let node = rename_node(alloc, canvas.node(), renames, &mut next)?;
+    Canvas::of(alloc, node)
+}
+
+/// The laws of other names: with none a canvas is the same, and it keeps the number of its tasks.
+pub fn law_of_renames()
+    ensures none { (c : Tree) → renamed [] c ≡ c }
+    ensures count { (renames : List Rename) (c : Tree) → count (renamed renames c) ≡ count c }
+{}

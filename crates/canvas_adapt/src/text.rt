@@ -3,6 +3,7 @@
 ghost use Rattle.std.specs.Prelude.{◌≡◌, OnOk};
 
 use canvas_sig::parts::Datum;
+use canvas_sig::{MOST_BYTES, SigFault};
 use json::Writer;
 use serde_json::Number;
 use std::alloc::{AllocError, Global};
@@ -10,6 +11,13 @@ use std::alloc::{AllocError, Global};
 /// How deep values are written: what was read nests less deep, and a callback that was given to a
 /// task deep in the text stands at most twice as deep.
 pub(crate) const MOST_WRITTEN: u32 = 512;
+
+/// How deep lists and objects nest at most in a text that is read.
+const MOST_NESTED: u32 = 127;
+
+/// How many bytes of text a value takes at most for each step of the room that it takes: an escaped
+/// byte takes six, and the longest number and what stands around it less than this.
+const BYTES_OF_STEP: usize = 32;
 
 fn write_number(out: &mut Writer, number: &Number) -> Result<(), AllocError>
     ensures { OnOk result (out.new.before ≡ out.old.before) }
@@ -78,17 +86,14 @@ pub(crate) fn text_of(alloc: Global, value: &Datum<'_>) -> Result<String, AllocE
 }
 
 /// How much room is left behind a value, whose text takes no less than what it takes of the room;
-/// none where there is too little.
+/// none where there is too little, or where lists and objects nest in it more than `left` deep.
 #[cycle(room)]
 pub(crate) fn room_behind(value: &Datum<'_>, room: usize, left: u32) -> Option<usize> {
     let room = room.checked_sub(1)?;
-    if left == 0 {
-        return Some(room);
-    }
     match value {
         Datum::Text(text) => room.checked_sub(text.len()),
-        Datum::List(values) => room_behind_items(values, room, left - 1),
-        Datum::Object(members) => room_behind_members(members, room, left - 1),
+        Datum::List(values) => room_behind_items(values, room, left.checked_sub(1)?),
+        Datum::Object(members) => room_behind_members(members, room, left.checked_sub(1)?),
         _ => Some(room),
     }
 }
@@ -110,4 +115,20 @@ fn room_behind_members(members: &[(&str, Datum<'_>)], room: usize, left: u32) ->
         room = room_behind(&member.1, room, left)?;
     }
     Some(room)
+}
+
+/// Whether the text of a value is surely short enough to be read, and nests no deeper than one that
+/// is read.
+pub(crate) fn is_surely_short(value: &Datum<'_>) -> bool {
+    room_behind(value, MOST_BYTES / BYTES_OF_STEP, MOST_NESTED).is_some()
+}
+
+/// A value as compact JSON in a line. One that is too large to be read isn't written.
+pub(crate) fn line_of(alloc: Global, value: &Datum<'_>) -> Result<Vec<u8>, SigFault> {
+    if room_behind(value, MOST_BYTES, MOST_WRITTEN).is_none() {
+        return Err(SigFault::TooLarge);
+    }
+    let mut text = text_of(alloc, value)?;
+    text.push('\n')?;
+    Ok(text.into_bytes())
 }

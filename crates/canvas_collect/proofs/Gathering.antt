@@ -1,15 +1,12 @@
 -- What a header's members give, from the first on.
-use Rattle.std.proofs.Common.{◌≡◌, ◌≢◌, ◌∙◌, ℕ, ℤ, ◌⊎◌, List, [], ◌∷◌, ◌++◌, Some, None, refl, sym, ap, subst, inl, inr, ◌+◌, ◌<◌, ◌==◌, true, false, arith, length}
-use Rattle.std.proofs.Common.{take, get_or, eqb-true}
-use Rattle.std.proofs.lemmas.List.{map-append, take_more}
+use Rattle.std.proofs.Common.{◌≡◌, ◌≢◌, ◌∙◌, ℕ, ℤ, ◌⊎◌, List, [], ◌∷◌, ◌++◌, Some, None, refl, sym, ap, subst, inl, inr, ◌==◌, true, false, arith, length}
+use Rattle.std.proofs.Common.{eqb-true}
 use Rattle.canvas_task.specs.declared.outcome.Fault.{Fault}
 use Rattle.canvas_task.specs.declared.outcome.Fault.TheVariants as fault
 use Rattle.canvas_task.specs.declared.outcome.Outcome.{Outcome}
 use Rattle.canvas_task.specs.declared.outcome.Outcome.TheVariants.{Success, Failure}
 use Rattle.canvas_semantics.specs.Evaluation.{Flow, nothing, num, list, id, skip, raised, State, Rows, gathered, in_front, why_of, group_value}
-use Rattle.canvas_collect.specs.declared.completing.Flow as known
-use Rattle.canvas_collect.specs.declared.completing.Flow.TheVariants.{Value, Skip, Raise, Pending}
-use Rattle.canvas_collect.specs.steps.Flows.{IsValue, IsKnown, listed}
+use Rattle.canvas_collect.proofs.Flows.{IsValue, listed}
 use Rattle.canvas_collect.specs.Completed.{state_at}
 
 front_value : (n : ℤ) (x : Flow) → IsValue x → IsValue (in_front n x)
@@ -35,7 +32,7 @@ stays ((k, Some (Success n)) ∷ es) more h = ap (in_front n) (stays es more (λ
 stays ((k, Some (Failure f)) ∷ es) more h = refl
 stays ((k, None) ∷ es) more h = stays es more h
 
-success_behind : (es : Rows) (k : ℕ) (n : ℤ) → IsValue (gathered es) → IsValue (gathered (es ++ (k, Some (Success n)) ∷ []))
+pub success_behind : (es : Rows) (k : ℕ) (n : ℤ) → IsValue (gathered es) → IsValue (gathered (es ++ (k, Some (Success n)) ∷ []))
 success_behind [] k n h = tt
 success_behind ((j, Some (Success m)) ∷ es) k n h = front_value m _ (success_behind es k n (back_value m (gathered es) h))
 success_behind ((j, Some (Failure f)) ∷ es) k n h = absurd h
@@ -53,35 +50,12 @@ skip_stays es more f e = stays es more (λ v. let P : Flow → Type 0 = λ x. Is
 pub raise_stays : (es more : Rows) (f : Fault) → gathered es ≡ raised f → gathered (es ++ more) ≡ raised f
 raise_stays es more f e = stays es more (λ v. let P : Flow → Type 0 = λ x. IsValue x in subst P e v) ∙ e
 
-success_kept : (flow : known.Flow) (es : Rows) (k : ℕ) (n : ℤ) → IsKnown flow (gathered es) → IsKnown flow (gathered (es ++ (k, Some (Success n)) ∷ []))
-success_kept Value es k n h = success_behind es k n h
-success_kept (Skip f) es k n h = skip_stays es _ f h
-success_kept (Raise f) es k n h = raise_stays es _ f h
-success_kept Pending es k n h = tt
-
 -- a row that isn't missing is the table's
 pub of_row : (row e : State) (o : Outcome) → (row ≡ None) ⊎ (row ≡ e) → row ≡ Some o → e ≡ Some o
 of_row row e o (inl none) is = absurd (let bad : Some o ≡ None = sym is ∙ none in cc)
 of_row row e o (inr same) is = sym same ∙ is
 
-pub succeeded : (flow : known.Flow) (es : Rows) (k : ℕ) (n : ℤ) (row e : State) → IsKnown flow (gathered es) → (row ≡ None) ⊎ (row ≡ e) → row ≡ Some (Success n)
-    → IsKnown flow (gathered (es ++ (k, e) ∷ []))
-succeeded flow es k n row e h may is =
-    let P : State → Type 0 = λ st. IsKnown flow (gathered (es ++ (k, st) ∷ [])) in
-    subst P (sym (of_row row e (Success n) may is)) (success_kept flow es k n h)
-
 -- ---- what goes out of a header
-
-pub of_none : (flow : known.Flow) (x : Flow) → IsKnown flow x → IsKnown flow (group_value x [])
-of_none Value nothing h = tt
-of_none Value (num n) h = tt
-of_none Value (list ns) h = tt
-of_none Value (id k) h = tt
-of_none Value (skip f) h = absurd h
-of_none Value (raised f) h = absurd h
-of_none (Skip f) x h = ap (λ y. group_value y []) h
-of_none (Raise f) x h = ap (λ y. group_value y []) h
-of_none Pending x h = tt
 
 pub of_value : (x : Flow) (es : Rows) → IsValue x → group_value x es ≡ gathered es
 of_value nothing es h = refl
@@ -95,12 +69,6 @@ pub of_raise : (x : Flow) (f : Fault) (e : ℕ × State) (es : Rows) → x ≡ r
 of_raise x f e es h = ap (λ y. group_value y (e ∷ es)) h
 
 -- ---- by the numbers of the members' ends
-
-pub listed_more : (s : List State) (ks : List ℕ) (i k : ℕ) → i < length ks → k ≡ get_or ks i k
-    → listed s (take (i + 1) ks) ≡ listed s (take i ks) ++ (k, state_at s k) ∷ []
-listed_more s ks i k h e =
-    ap (listed s) (take_more ks i k h) ∙ map-append (λ j. (j, state_at s j)) (take i ks) (get_or ks i k ∷ []) ∙ ap
-    (λ j. listed s (take i ks) ++ (j, state_at s j) ∷ []) (sym e)
 
 pub over_some : (x : Flow) (f : Fault) (s : List State) (ks : List ℕ) → false ≡ (length ks == 0) → x ≡ raised f
     → group_value x (listed s ks) ≡ gathered (listed s ks)

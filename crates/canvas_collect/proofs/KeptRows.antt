@@ -10,7 +10,7 @@ use Rattle.canvas_task.specs.declared.outcome.Outcome.{Outcome}
 use Rattle.canvas_task.specs.declared.outcome.Outcome.TheVariants.{Failure}
 use Rattle.canvas_semantics.specs.Evaluation.{State}
 use Rattle.canvas_collect.specs.Completed.{IsFailure, Keeps}
-use Rattle.canvas_collect.specs.steps.Flows.{Within}
+use Rattle.canvas_collect.proofs.Flows.{Within}
 
 none_is_some : (row : Option Outcome) (o : Outcome) → row ≡ None → row ≡ Some o → IsFailure o
 none_is_some row o empty there = let bad : None ≡ Some o = sym empty ∙ there in absurd cc

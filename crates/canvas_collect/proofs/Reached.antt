@@ -1,75 +1,19 @@
 -- Rows of an evaluation in a table, and what is known of the flows in it.
-use Rattle.std.proofs.Common.{◌≡◌, ◌∙◌, ◌==◌, if◌then◌else◌, ℕ, ◌⊎◌, Bool, true, false, List, [], ◌∷◌, ◌++◌, Some, refl, sym, ap, subst, inl, inr, eq-eqb}
-use Rattle.std.proofs.Common.{eqb-true, map}
+use Rattle.std.proofs.Common.{◌≡◌, ◌∙◌, ◌==◌, if◌then◌else◌, ℕ, ◌⊎◌, Bool, true, false, List, [], ◌∷◌, ◌++◌, Some, refl, sym, ap, inl, inr, eq-eqb}
+use Rattle.std.proofs.Common.{eqb-true}
 use Rattle.canvas_task.specs.Apply.{Behaviour}
-use Rattle.canvas_task.specs.declared.outcome.Fault.{Fault}
-use Rattle.canvas_task.specs.declared.outcome.Outcome.TheVariants.{Failure}
-use Rattle.canvas_semantics.specs.Tree.{Call, Task, task, Tasks, Tree, one, chain, group, chord, Trees, no_trees, and_tree}
-use Rattle.canvas_semantics.specs.Evaluation.{Flow, skip, raised, State, Rows, state_of, with_states, ends, last_ends, all_ends, task_rows, task_meaning}
-use Rattle.canvas_semantics.specs.Evaluation.{passed_on, eval, eval_chain, member_rows, as_group}
-use Rattle.canvas_rewrite.specs.FrozenView.{task_in, p_task_view, p_tasks_of}
-use Rattle.canvas_rewrite.specs.declared.frozen.FrozenTask.{FrozenTask, out-FrozenTask}
-use Rattle.canvas_semantics.specs.PlacedLine.{strip_task, strip_tasks}
-use Rattle.canvas_envelope.proofs.Seen.{task_seen}
-use Rattle.canvas_collect.specs.steps.Flows.{listed}
+use Rattle.canvas_semantics.specs.Tree.{Task, task, Tree, one, chain, group, chord, Trees, no_trees, and_tree}
+use Rattle.canvas_semantics.specs.Evaluation.{Flow, State, Rows, state_of, with_states, ends, last_ends, all_ends, task_rows, task_meaning}
+use Rattle.canvas_semantics.specs.Evaluation.{eval, eval_chain, member_rows, as_group}
+use Rattle.canvas_collect.proofs.Flows.{listed}
 use Rattle.canvas_collect.specs.Completed.{HasRows, state_at}
 
 pub has_split : (s : List State) (a b : Rows) → HasRows s (a ++ b) → HasRows s a × HasRows s b
 has_split s [] b h = (tt, h)
 has_split s (r ∷ a) b h = ((h.0, (has_split s a b h.1).0), (has_split s a b h.1).1)
 
--- ---- a task
-
--- links or error callbacks as data
-abbrev pub links_in : List FrozenTask → Tasks
-links_in ts = strip_tasks (p_tasks_of (map p_task_view ts))
-
-pub record Parts (t : FrozenTask) : Type 0 where
-  pub call : Call
-  pub is : task_in t ≡ task (out-FrozenTask t).no call (links_in (out-FrozenTask t).links) (links_in (out-FrozenTask t).errbacks)
-
-pub parts : (t : FrozenTask) → Parts t
-parts t = record { call = _; is = ap strip_task (task_seen t) }
-
 pub meaning_rows : (b : Behaviour) (t : Task) (x : Flow) → (task_meaning b t x).rows ≡ task_rows b t (Some x)
 meaning_rows b (task k call ls es) x = refl
-
-out_task : (b : Behaviour) (s : List State) (k : ℕ) (call : Call) (ls es : Tasks) (x : Flow) → HasRows s (task_rows b (task k call ls es) (Some x))
-    → passed_on (state_at s k) ≡ (task_meaning b (task k call ls es) x).out
-out_task b s k call ls es x has = ap passed_on has.0
-
--- what flows out of a task, by the table
-pub out_is : (b : Behaviour) (s : List State) (t : FrozenTask) (x : Flow) → HasRows s (task_rows b (task_in t) (Some x))
-    → passed_on (state_at s (out-FrozenTask t).no) ≡ (task_meaning b (task_in t) x).out
-out_is b s t x =
-    let p = parts t in
-    let P : Task → Type 0 = λ u. HasRows s (task_rows b u (Some x)) → passed_on (state_at s (out-FrozenTask t).no) ≡ (task_meaning b u x).out in
-    subst P (sym p.is) (out_task b s (out-FrozenTask t).no p.call _ _ x)
-
--- the state of a task that an exception skips, or is raised in
-skipped_task : (b : Behaviour) (s : List State) (k : ℕ) (call : Call) (ls es : Tasks) (f : Fault) → HasRows s (task_rows b (task k call ls es) (Some (skip f)))
-    → state_at s k ≡ Some (Failure f)
-skipped_task b s k call ls es f has = has.0
-
-raised_task : (b : Behaviour) (s : List State) (k : ℕ) (call : Call) (ls es : Tasks) (f : Fault) → HasRows s (task_rows b (task k call ls es) (Some (raised f)))
-    → state_at s k ≡ Some (Failure f)
-raised_task b s k call ls es f has = has.0
-
-pub skipped_at : (b : Behaviour) (s : List State) (t : FrozenTask) (x : Flow) (f : Fault) → x ≡ skip f → HasRows s (task_rows b (task_in t) (Some x))
-    → state_at s (out-FrozenTask t).no ≡ Some (Failure f)
-skipped_at b s t x f e =
-    let p = parts t in
-    let P : Task → Type 0 = λ u. HasRows s (task_rows b u (Some (skip f))) → state_at s (out-FrozenTask t).no ≡ Some (Failure f) in
-    let Q : Flow → Type 0 = λ y. HasRows s (task_rows b (task_in t) (Some y)) → state_at s (out-FrozenTask t).no ≡ Some (Failure f) in
-    subst Q (sym e) (subst P (sym p.is) (skipped_task b s (out-FrozenTask t).no p.call _ _ f))
-
-pub raised_at : (b : Behaviour) (s : List State) (t : FrozenTask) (x : Flow) (f : Fault) → x ≡ raised f → HasRows s (task_rows b (task_in t) (Some x))
-    → state_at s (out-FrozenTask t).no ≡ Some (Failure f)
-raised_at b s t x f e =
-    let p = parts t in
-    let P : Task → Type 0 = λ u. HasRows s (task_rows b u (Some (raised f))) → state_at s (out-FrozenTask t).no ≡ Some (Failure f) in
-    let Q : Flow → Type 0 = λ y. HasRows s (task_rows b (task_in t) (Some y)) → state_at s (out-FrozenTask t).no ≡ Some (Failure f) in
-    subst Q (sym e) (subst P (sym p.is) (raised_task b s (out-FrozenTask t).no p.call _ _ f))
 
 -- ---- ends
 

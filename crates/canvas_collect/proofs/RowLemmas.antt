@@ -25,13 +25,14 @@ use Rattle.canvas_celery.specs.Run.{run_task}
 use Rattle.canvas_report.specs.declared.row.Row.{Row}
 use Rattle.canvas_report.specs.declared.row.Row.TheVariants.{Known, Value, Raised, Blamed}
 use Rattle.canvas_collect.specs.declared.stored.StoredFault.{StoredFault}
-use Rattle.canvas_collect.specs.declared.stored.StoredFault.TheVariants.{NotJson, OtherTask, UnknownState, NotNumber, UnknownException, UnknownDependency}
+use Rattle.canvas_collect.specs.declared.stored.StoredFault.TheVariants.{NotJson, OtherTask, UnknownState, UnknownException}
 use Rattle.canvas_collect.specs.declared.stored.StoredFault.TheVariants.{Memory}
 use Rattle.canvas_collect.specs.Stored.{result_of, class_of, message_of, Blames, IsResult}
-use Rattle.canvas_collect.specs.Refused.{RefusesResult}
+use Rattle.canvas_collect.specs.declared.stored.Lack.TheVariants as lack
+use Rattle.canvas_collect.specs.steps.Lacking.{LacksOutcome}
 use Rattle.canvas_collect.specs.AsStored.{IsJsonOf, Names, IsRow}
 use Rattle.canvas_collect.specs.steps.Parsed.{IsUnread}
-use Rattle.canvas_collect.specs.steps.ShownRows.{IsRefused, HasJson, HasClass, HasBlame, LacksClass, IsChordRow, ResultFault, ShowFault}
+use Rattle.canvas_collect.specs.steps.Rows.{IsRefused, HasJson, HasClass, HasBlame, LacksClass, IsChordRow, ResultFault, LineFault}
 use Rattle.canvas_collect.proofs.Dependency.{blames_one}
 use Rattle.canvas_collect.proofs.Identifiers.{length-run_task}
 use Rattle.canvas_collect.proofs.Json.{json_is}
@@ -76,9 +77,7 @@ pub class_there : (fault : StoredFault) → LacksClass (codes "ChordError") faul
 class_there NotJson h = absurd h
 class_there OtherTask h = absurd h
 class_there UnknownState h = absurd h
-class_there NotNumber h = absurd h
 class_there UnknownException h = absurd (some_class h)
-class_there UnknownDependency h = absurd h
 class_there Memory h = tt
 
 -- ---- rows of results
@@ -105,13 +104,13 @@ of_blame run count d dep name (Blamed k text) class names none h =
       λ why e. none dep why (blames_one run (message_of d) count dep name why names (sym h.1 ∙ e)),
     )
 
-pub value_row : (run : Text) (count : ℕ) (d : Data) (row : Row) → RefusesResult run count d NotNumber → HasJson (result_of d) row → IsRow run count d row
+pub value_row : (run : Text) (count : ℕ) (d : Data) (row : Row) → LacksOutcome run count d lack.Number → HasJson (result_of d) row → IsRow run count d row
 value_row run count d (Known outcome) refused h = absurd h
 value_row run count d (Value text) refused h = (refused.0, h, refused.1)
 value_row run count d (Raised name) refused h = absurd h
 value_row run count d (Blamed dep name) refused h = absurd h
 
-pub raised_row : (run : Text) (count : ℕ) (d : Data) (row : Row) → RefusesResult run count d UnknownException
+pub raised_row : (run : Text) (count : ℕ) (d : Data) (row : Row) → LacksOutcome run count d lack.Exception
     → HasClass (class_of (result_of d)) row → IsRow run count d row
 raised_row run count d (Known outcome) refused h = absurd h
 raised_row run count d (Value text) refused h = absurd h
@@ -119,7 +118,7 @@ raised_row run count d (Raised name) refused h =
     (refused.0, (sym h.0, λ e. h.1 (sym h.0 ∙ e), λ kind e. refused.1.1 kind (sym h.0 ∙ e), λ e. absurd (refused.1.0 (sym h.0 ∙ e))))
 raised_row run count d (Blamed dep name) refused h = absurd h
 
-pub chord_row : (run : Text) (count : ℕ) (d : Data) (row : Row) → RefusesResult run count d UnknownDependency
+pub chord_row : (run : Text) (count : ℕ) (d : Data) (row : Row) → LacksOutcome run count d lack.Dependency
     → IsChordRow run count (result_of d) row → IsRow run count d row
 chord_row run count d (Known outcome) refused h = absurd h
 chord_row run count d (Value text) refused h = absurd h
@@ -132,20 +131,8 @@ pub no_json : (d : Data) (fault : StoredFault) → IsRefused fault → ResultFau
 no_json d NotJson h = absurd h
 no_json d OtherTask h = absurd h
 no_json d UnknownState h = absurd h
-no_json d NotNumber h = absurd h
 no_json d UnknownException h = absurd h
-no_json d UnknownDependency h = absurd h
 no_json d Memory h = tt
-
-pub of_result : (run : Text) (count k : ℕ) (line : Text) (d : Data) (fault : StoredFault) → IsResult run k line d
-    → ResultFault d fault → ShowFault run count k line fault
-of_result run count k line d NotJson said h = absurd h
-of_result run count k line d OtherTask said h = absurd h
-of_result run count k line d UnknownState said h = (d, said, h)
-of_result run count k line d NotNumber said h = absurd h
-of_result run count k line d UnknownException said h = (d, said, h)
-of_result run count k line d UnknownDependency said h = absurd h
-of_result run count k line d Memory said h = tt
 
 -- ---- the class that a message names is text
 
@@ -179,21 +166,17 @@ named_utf8 run message count dep name full utf8 (least, within, (raised, said, i
 
 -- ---- a line that has no row
 
-pub unread_shown : (run : Text) (count k : ℕ) (line : Text) (fault : StoredFault) → line ≢ [] → IsUnread line fault → ShowFault run count k line fault
-unread_shown run count k line NotJson some h = (some, h)
-unread_shown run count k line OtherTask some h = absurd h
-unread_shown run count k line UnknownState some h = absurd h
-unread_shown run count k line NotNumber some h = absurd h
-unread_shown run count k line UnknownException some h = absurd h
-unread_shown run count k line UnknownDependency some h = absurd h
-unread_shown run count k line Memory some h = tt
+pub of_unread : (run : Text) (count k : ℕ) (line : Text) (fault : StoredFault) → line ≢ [] → IsUnread line fault → LineFault run count k line fault
+of_unread run count k line NotJson some h = (some, h)
+of_unread run count k line OtherTask some h = absurd h
+of_unread run count k line UnknownState some h = absurd h
+of_unread run count k line UnknownException some h = absurd h
+of_unread run count k line Memory some h = tt
 
-pub result_shown : (run : Text) (count k : ℕ) (line : Text) (d : Data) (fault : StoredFault) → IsResult run k line d → ResultFault d fault
-    → ShowFault run count k line fault
-result_shown run count k line d NotJson said h = absurd h
-result_shown run count k line d OtherTask said h = absurd h
-result_shown run count k line d UnknownState said h = (d, said, h)
-result_shown run count k line d NotNumber said h = absurd h
-result_shown run count k line d UnknownException said h = (d, said, h)
-result_shown run count k line d UnknownDependency said h = absurd h
-result_shown run count k line d Memory said h = tt
+pub of_result : (run : Text) (count k : ℕ) (line : Text) (d : Data) (fault : StoredFault) → IsResult run k line d → ResultFault d fault
+    → LineFault run count k line fault
+of_result run count k line d NotJson said h = absurd h
+of_result run count k line d OtherTask said h = absurd h
+of_result run count k line d UnknownState said h = (d, said, h)
+of_result run count k line d UnknownException said h = (d, said, h)
+of_result run count k line d Memory said h = tt

@@ -1,55 +1,16 @@
--- From a line to its parts, and from the rows of a report to a table.
-use Rattle.std.proofs.Common.{◌≡◌, ◌∙◌, ℕ, zero, suc, ◌+◌, ◌-◌, List, [], ◌∷◌, ◌++◌, Some, None, refl, sym, ap, subst, inl, map, length, get_or}
+-- From the rows of a report to a table.
+use Rattle.std.proofs.Common.{◌≡◌, ◌∙◌, ℕ, zero, suc, ◌-◌, List, [], ◌∷◌, ◌++◌, None, refl, sym, ap, subst, inl, length, get_or}
 use Rattle.std.proofs.Common.{arith, append_assoc, length-append}
 use Rattle.std.proofs.lemmas.List.{get_or_at}
 use Rattle.canvas_task.specs.Apply.{Behaviour}
-use Rattle.canvas_semantics.specs.Tree.{Task, Tree, numbered}
-use Rattle.canvas_semantics.specs.Evaluation.{Flow, nothing, State, Rows, task_rows, task_meaning, eval, eval_chain, member_rows, as_group, all_ends}
-use Rattle.canvas_semantics.specs.Line.{Line, step, group_end, chord_end, Lines, elements_of, members_of, tree_of, number_line}
+use Rattle.canvas_semantics.specs.Tree.{Tree, numbered}
+use Rattle.canvas_semantics.specs.Evaluation.{nothing, State, Rows, eval, eval_chain}
+use Rattle.canvas_semantics.specs.Line.{Line, elements_of, tree_of, number_line}
 use Rattle.canvas_semantics.specs.States.{states, rows_from, EachMay}
-use Rattle.canvas_semantics.proofs.EndLemmas.{ends_of_tree}
 use Rattle.canvas_semantics.proofs.Numbered.{tree_numbered}
 use Rattle.canvas_semantics.proofs.RowNumbers.{states_whole}
-use Rattle.canvas_rewrite.specs.FrozenView.{line_in, lines_of}
-use Rattle.canvas_rewrite.specs.declared.frozen.FrozenLine.{FrozenLine}
-use Rattle.canvas_collect.specs.declared.completing.Flow as known
-use Rattle.canvas_collect.specs.steps.Flows.{IsKnown, Within, Reaches, ReachesAll}
+use Rattle.canvas_collect.proofs.Flows.{Within}
 use Rattle.canvas_collect.specs.Completed.{HasRows}
-use Rattle.canvas_collect.proofs.Reached.{has_split, meaning_rows}
-
--- ---- a line
-
-module _ (table : ℕ → List ℕ) where
-  pub stepped : (flow : known.Flow) (u : Task) (l : Line) (s : List State) → Reaches table flow (step u l) s
-      → (b : Behaviour) × (x : Flow) × IsKnown flow x × HasRows s (task_rows b u (Some x))
-      × ((next : known.Flow) → IsKnown next (task_meaning b u x).out → Reaches table next l s)
-  stepped flow u l s (b, x, low, high, told, (middle, first, rest), has) =
-      let both = has_split s (task_meaning b u x).rows (eval_chain b (elements_of l) (task_meaning b u x).out).rows has in
-      let P : Rows → Type 0 = λ rows. HasRows s rows in
-      (b, x, told, subst P (meaning_rows b u x) both.0, λ next out. (b, (task_meaning b u x).out, middle, high, out, rest, both.1))
-
-  pub members_next : (flow : known.Flow) (l : FrozenLine) (ls : List FrozenLine) (s : List State) → ReachesAll table flow (lines_of (map line_in (l ∷ ls))) s
-      → Reaches table flow (line_in l) s × ReachesAll table flow (lines_of (map line_in ls)) s
-  members_next flow l ls s (b, x, low, high, told, (middle, first, ended, rest), has) =
-      let both = has_split s (eval_chain b (elements_of (line_in l)) x).rows (member_rows b (members_of (lines_of (map line_in ls))) x) has in
-      ((b, x, low, middle, told, first, both.0), (b, x, middle, high, told, rest, both.1))
-
-  pub of_group : (flow : known.Flow) (g : ℕ) (ms : Lines) (s : List State) → Reaches table flow (group_end g ms) s → ReachesAll table flow ms s
-  of_group flow g ms s (b, x, low, high, told, (inside, named), has) =
-      (b, x, low, high, told, inside, (has_split s (member_rows b (members_of ms) x) [] has).0)
-
-  pub of_chord : (flow : known.Flow) (g : ℕ) (ms : Lines) (body : Line) (s : List State) → Reaches table flow (chord_end g ms body) s
-      → ReachesAll table flow ms s
-      × ((b : Behaviour) × (x : Flow) × (table g ≡ all_ends (members_of ms)) × IsKnown flow x × HasRows s (member_rows b (members_of ms) x)
-      × ((next : known.Flow) → IsKnown next (as_group x (members_of ms) (member_rows b (members_of ms) x)).out → Reaches table next body s))
-  of_chord flow g ms body s (b, x, low, high, told, (middle, inside, behind, named), has) =
-      let rows = member_rows b (members_of ms) x in
-      let out = (as_group x (members_of ms) rows).out in
-      let all = (has_split s (rows ++ (eval_chain b (elements_of body) out).rows) [] has).0 in
-      let both = has_split s rows (eval_chain b (elements_of body) out).rows all in (
-        (b, x, low, middle, told, inside, both.0),
-        (b, x, named ∙ ends_of_tree (group_end g ms), told, both.0, λ next known. (b, out, middle, high, known, behind, both.1)),
-      )
 
 -- ---- the table of a plan
 

@@ -1,24 +1,17 @@
 -- Rows that are all there once those of the called tasks are.
 use Rattle.std.proofs.Common.{◌≡◌, ◌∙◌, ◌-◌, ◌⊎◌, ◌<◌, ℕ, zero, suc, List, [], ◌∷◌, ◌++◌, Some, None, Option, IsSome, refl, sym, ap, subst, inl, inr, length}
-use Rattle.std.proofs.Common.{arith, append_assoc, length-append, get_or, map}
+use Rattle.std.proofs.Common.{arith, append_assoc, length-append, get_or}
 use Rattle.std.proofs.lemmas.List.{get_or_at}
 use Rattle.canvas_task.specs.Apply.{Behaviour}
 use Rattle.canvas_task.specs.declared.outcome.Outcome.TheVariants.{Success, Failure}
 use Rattle.canvas_semantics.specs.Tree.{Call, Task, task, Tasks, no_tasks, and_task, Tree, one, chain, group, chord, Trees, no_trees, and_tree}
 use Rattle.canvas_semantics.specs.Evaluation.{Flow, nothing, num, list, id, skip, raised, State, Rows, state, ends, last_ends, all_ends, as_group}
-use Rattle.canvas_semantics.specs.Evaluation.{task_rows, tasks_rows, task_meaning, to_links, to_errbacks, eval, eval_chain, member_rows}
-use Rattle.canvas_semantics.specs.FileOrder.{LineIn}
-use Rattle.canvas_semantics.specs.Line.{Line, step, group_end, chord_end, Lines, elements_of, members_of}
+use Rattle.canvas_semantics.specs.Evaluation.{task_rows, tasks_rows, to_links, to_errbacks, eval, eval_chain, member_rows}
 use Rattle.canvas_semantics.specs.States.{rows_from}
-use Rattle.canvas_rewrite.specs.FrozenView.{task_in, line_in, lines_of, steps_onto}
-use Rattle.canvas_rewrite.specs.declared.frozen.FrozenTask.{FrozenTask, out-FrozenTask}
-use Rattle.canvas_rewrite.specs.declared.frozen.FrozenLine.{FrozenLine}
 use Rattle.canvas_collect.specs.Called.{if_called, task_called, tasks_called, called, chain_called, members_called}
 use Rattle.canvas_collect.specs.Completed.{HasRows, Keeps, state_at}
-use Rattle.canvas_collect.specs.declared.completing.Flow as known
-use Rattle.canvas_collect.specs.steps.Flows.{IsValue, IsKnown, IsTold, Within, AllThere, Leaves, LeavesAll}
-use Rattle.canvas_collect.proofs.KeptRows.{kept_trans}
-use Rattle.canvas_collect.proofs.Reached.{has_split, meaning_rows, parts}
+use Rattle.canvas_collect.proofs.Flows.{IsValue, Within, AllThere}
+use Rattle.canvas_collect.proofs.Reached.{has_split}
 
 pub has_join : (s : List State) (a b : Rows) → HasRows s a → HasRows s b → HasRows s (a ++ b)
 has_join s [] b h i = i
@@ -113,7 +106,7 @@ module _ (b : Behaviour) (r s : List State) (w : Within r s) where
         let had = has_split r (task_called b t x) (tasks_called b ts x) calls in
         has_join r (task_rows b t x) (tasks_rows b ts x) (task_there t x can both.0 had.0) (tasks_there ts x can both.1 had.1)
 
-  own_row : (k : ℕ) (call : Call) (ls es : Tasks) (x : Flow) → state_at r k ≡ state_at s k → HasRows s (task_rows b (task k call ls es) (Some x))
+  pub own_row : (k : ℕ) (call : Call) (ls es : Tasks) (x : Flow) → state_at r k ≡ state_at s k → HasRows s (task_rows b (task k call ls es) (Some x))
       → HasRows r (task_called b (task k call ls es) (Some x)) → HasRows r (task_rows b (task k call ls es) (Some x))
   own_row k call ls es x same table calls =
       let st = state b call (Some x) in
@@ -124,25 +117,10 @@ module _ (b : Behaviour) (r s : List State) (w : Within r s) where
       let errbacks = tasks_there es e (can_call_back k (Some x) st) q.1.0 q.1.1 in
       (same ∙ table.0, has_join r (tasks_rows b ls l) (tasks_rows b es e) links errbacks)
 
-  own_value : (k : ℕ) (call : Call) (ls es : Tasks) (x : Flow) → IsValue x → HasRows s (task_rows b (task k call ls es) (Some x))
+  pub own_value : (k : ℕ) (call : Call) (ls es : Tasks) (x : Flow) → IsValue x → HasRows s (task_rows b (task k call ls es) (Some x))
       → HasRows r (task_called b (task k call ls es) (Some x))
       → state_at r k ≡ state_at s k
   own_value k call ls es x value table calls = own_there k call (Some x) _ value table.0 calls ∙ sym table.0
-
-  -- of a task of the code whose own row is that of the table
-  pub task_whole : (t : FrozenTask) (x : Flow) → state_at r (out-FrozenTask t).no ≡ state_at s (out-FrozenTask t).no
-      → HasRows s (task_rows b (task_in t) (Some x))
-      → HasRows r (task_called b (task_in t) (Some x)) → HasRows r (task_rows b (task_in t) (Some x))
-  task_whole t x same =
-      let P : Task → Type 0 = λ u. HasRows s (task_rows b u (Some x)) → HasRows r (task_called b u (Some x)) → HasRows r (task_rows b u (Some x)) in
-      subst P (sym (parts t).is) (own_row (out-FrozenTask t).no (parts t).call _ _ x same)
-
-  pub called_row : (t : FrozenTask) (x : Flow) → IsValue x → HasRows s (task_rows b (task_in t) (Some x)) → HasRows r (task_called b (task_in t) (Some x))
-      → state_at r (out-FrozenTask t).no ≡ state_at s (out-FrozenTask t).no
-  called_row t x value =
-      let P : Task → Type 0 =
-      λ u. HasRows s (task_rows b u (Some x)) → HasRows r (task_called b u (Some x)) → state_at r (out-FrozenTask t).no ≡ state_at s (out-FrozenTask t).no in
-      subst P (sym (parts t).is) (own_value (out-FrozenTask t).no (parts t).call _ _ x value)
 
 -- ---- what is called is among the rows
 
@@ -157,7 +135,7 @@ module _ (b : Behaviour) (s : List State) where
   own_called (Some (raised f)) k st h = tt
 
   mutual
-    task_among : (t : Task) (x : Option Flow) → HasRows s (task_rows b t x) → HasRows s (task_called b t x)
+    pub task_among : (t : Task) (x : Option Flow) → HasRows s (task_rows b t x) → HasRows s (task_called b t x)
     task_among (task k call ls es) x has =
         let l = to_links (state b call x) in
         let e = to_errbacks k x (state b call x) in
@@ -194,15 +172,9 @@ module _ (b : Behaviour) (s : List State) where
         let both = has_split s (eval b t x).rows (member_rows b ts x) has in
         has_join s (called b t x) (members_called b ts x) (tree_among t x both.0) (members_among ts x both.1)
 
-pub calls_kept : (b : Behaviour) (t : FrozenTask) (old new s : List State) (x : Flow) → Keeps old new → Within new s
-    → HasRows s (task_rows b (task_in t) (Some x))
-    → HasRows old (task_called b (task_in t) (Some x)) → HasRows new (task_called b (task_in t) (Some x))
-calls_kept b t old new s x keeps w table calls = has_kept old new s (task_called b (task_in t) (Some x)) keeps w
-    (task_among b s (task_in t) (Some x) table) calls
-
 -- ---- ends have outcomes
 
-some_state : (b : Behaviour) (call : Call) (x : Flow) → IsSome (state b call (Some x))
+pub some_state : (b : Behaviour) (call : Call) (x : Flow) → IsSome (state b call (Some x))
 some_state b call nothing = refl
 some_state b call (num n) = refl
 some_state b call (list ns) = refl
@@ -210,16 +182,9 @@ some_state b call (id j) = refl
 some_state b call (skip f) = refl
 some_state b call (raised f) = refl
 
-outcome_task : (b : Behaviour) (s : List State) (k : ℕ) (call : Call) (ls es : Tasks) (x : Flow) → HasRows s (task_rows b (task k call ls es) (Some x))
+pub outcome_task : (b : Behaviour) (s : List State) (k : ℕ) (call : Call) (ls es : Tasks) (x : Flow) → HasRows s (task_rows b (task k call ls es) (Some x))
     → IsSome (state_at s k)
 outcome_task b s k call ls es x has = let P : State → Type 0 = λ st. IsSome st in subst P (sym has.0) (some_state b call x)
-
--- a task into which something flows has an outcome
-pub outcome_of : (b : Behaviour) (s : List State) (t : FrozenTask) (x : Flow) → HasRows s (task_rows b (task_in t) (Some x))
-    → IsSome (state_at s (out-FrozenTask t).no)
-outcome_of b s t x =
-    let P : Task → Type 0 = λ u. HasRows s (task_rows b u (Some x)) → IsSome (state_at s (out-FrozenTask t).no) in
-    subst P (sym (parts t).is) (outcome_task b s (out-FrozenTask t).no (parts t).call _ _ x)
 
 all_join : (r : List State) (ks js : List ℕ) → AllThere r ks → AllThere r js → AllThere r (ks ++ js)
 all_join r [] js h i = i
@@ -250,142 +215,6 @@ pub there_at : (r : List State) (ks : List ℕ) (i k : ℕ) → AllThere r ks �
 there_at r [] i k all h e = absurd (omega (arith, h))
 there_at r (j ∷ ks) zero k all h e = let P : ℕ → Type 0 = λ m. IsSome (state_at r m) in subst P (sym e) all.0
 there_at r (j ∷ ks) (suc i) k all h e = there_at r ks i k all.1 (omega (arith, h)) e
-
--- ---- what is left of a line
-
-module _ (b : Behaviour) where
-  -- behind a task whose rows are all there
-  pub goes_on : (u : Task) (l : Line) (all : Rows) (flow next : known.Flow) (old new s : List State) (before : Leaves b (step u l) all flow old s)
-      → Keeps old new → Within new s
-      → HasRows new (task_rows b u (Some before.0)) → IsKnown next (task_meaning b u before.0).out → IsTold next → Leaves b l all next new s
-  goes_on u l all flow next old new s (x, known, told, table, called, rest) keeps w done out on =
-      let y = (task_meaning b u x).out in
-      let P : Rows → Type 0 = λ rows. HasRows s rows in
-      let both = has_split s (task_meaning b u x).rows (eval_chain b (elements_of l) y).rows table in
-      let calls = has_split old (task_called b u (Some x)) (chain_called b (elements_of l) y) called in
-      let own : HasRows s (task_rows b u (Some x)) = subst P (meaning_rows b u x) both.0 in (
-        y,
-        out,
-        on,
-        both.1,
-        has_kept old new s (chain_called b (elements_of l) y) keeps w (chain_among b s (elements_of l) y both.1) calls.1,
-        λ later stay inside had.
-            let Q : Rows → Type 0 = λ rows. HasRows later rows in
-            let first = subst Q (sym (meaning_rows b u x)) (has_kept new later s (task_rows b u (Some x)) stay inside own done) in
-            rest later (kept_trans old new later keeps stay) inside (has_join later (task_meaning b u x).rows (eval_chain b (elements_of l) y).rows first had),
-      )
-
-  pub task_left : (u : Task) (l : Line) (all : Rows) (flow : known.Flow) (rows s : List State) (before : Leaves b (step u l) all flow rows s)
-      → HasRows s (task_rows b u (Some before.0)) × HasRows rows (task_called b u (Some before.0))
-  task_left u l all flow rows s (x, told, on, table, calls, rest) =
-      let y = (task_meaning b u x).out in
-      let P : Rows → Type 0 = λ es. HasRows s es in (
-        subst P (meaning_rows b u x) (has_split s (task_meaning b u x).rows (eval_chain b (elements_of l) y).rows table).0,
-        (has_split rows (task_called b u (Some x)) (chain_called b (elements_of l) y) calls).0,
-      )
-
-  -- ---- members
-
-  pub first_left : (l : FrozenLine) (ls : List FrozenLine) (all : Rows) (flow : known.Flow) (rows s : List State)
-      → (before : LeavesAll b (lines_of (map line_in (l ∷ ls))) all flow rows s)
-      → Leaves b (line_in l) (eval_chain b (elements_of (line_in l)) before.0).rows flow rows s
-  first_left l ls all flow rows s (x, told, on, table, calls, rest) =
-      let ms = members_of (lines_of (map line_in ls)) in
-      let own = elements_of (line_in l) in (
-        x,
-        told,
-        on,
-        (has_split s (eval_chain b own x).rows (member_rows b ms x) table).0,
-        (has_split rows (chain_called b own x) (members_called b ms x) calls).0,
-        λ later stay inside had. had,
-      )
-
-  pub others_left : (l : FrozenLine) (ls : List FrozenLine) (all : Rows) (flow : known.Flow) (old new s : List State)
-      → (before : LeavesAll b (lines_of (map line_in (l ∷ ls))) all flow old s) → Keeps old new → Within new s
-      → HasRows new (eval_chain b (elements_of (line_in l)) before.0).rows → LeavesAll b (lines_of (map line_in ls)) all flow new s
-  others_left l ls all flow old new s (x, told, on, table, calls, rest) keeps w done =
-      let ms = members_of (lines_of (map line_in ls)) in
-      let own = elements_of (line_in l) in
-      let both = has_split s (eval_chain b own x).rows (member_rows b ms x) table in
-      let had = has_split old (chain_called b own x) (members_called b ms x) calls in (
-        x,
-        told,
-        on,
-        both.1,
-        has_kept old new s (members_called b ms x) keeps w (members_among b s ms x both.1) had.1,
-        λ later stay inside more.
-            rest later (kept_trans old new later keeps stay) inside
-            (has_join later (eval_chain b own x).rows (member_rows b ms x) (has_kept new later s (eval_chain b own x).rows stay inside both.0 done) more),
-      )
-
-  -- ---- groups and chords
-
-  pub group_left : (g : ℕ) (ms : Lines) (all : Rows) (flow : known.Flow) (rows s : List State) (before : Leaves b (group_end g ms) all flow rows s)
-      → LeavesAll b ms (member_rows b (members_of ms) before.0) flow rows s
-  group_left g ms all flow rows s (x, told, on, table, calls, rest) = (
-    x,
-    told,
-    on,
-    (has_split s (member_rows b (members_of ms) x) [] table).0,
-    (has_split rows (members_called b (members_of ms) x) [] calls).0,
-    λ later stay inside had. had,
-  )
-
-  pub group_whole : (g : ℕ) (ms : Lines) (all : Rows) (flow : known.Flow) (old new s : List State) (before : Leaves b (group_end g ms) all flow old s)
-      → Keeps old new → Within new s
-      → HasRows new (member_rows b (members_of ms) before.0) → HasRows new all
-  group_whole g ms all flow old new s (x, told, on, table, calls, rest) keeps w done = rest new keeps w
-      (has_join new (member_rows b (members_of ms) x) [] done tt)
-
-  pub header_left : (g : ℕ) (ms : Lines) (body : Line) (all : Rows) (flow : known.Flow) (rows s : List State)
-      (before : Leaves b (chord_end g ms body) all flow rows s)
-      → LeavesAll b ms (member_rows b (members_of ms) before.0) flow rows s
-  header_left g ms body all flow rows s (x, told, on, table, calls, rest) =
-      let h = members_of ms in
-      let out = (as_group x h (member_rows b h x)).out in
-      let tail = eval_chain b (elements_of body) out in
-      let left = chain_called b (elements_of body) out in (
-        x,
-        told,
-        on,
-        (has_split s (member_rows b h x) tail.rows (has_split s (member_rows b h x ++ tail.rows) [] table).0).0,
-        (has_split rows (members_called b h x) left (has_split rows (members_called b h x ++ left) [] calls).0).0,
-        λ later stay inside had. had,
-      )
-
-  pub header_table : (g : ℕ) (ms : Lines) (body : Line) (all : Rows) (flow : known.Flow) (rows s : List State)
-      (before : Leaves b (chord_end g ms body) all flow rows s)
-      → HasRows s (member_rows b (members_of ms) before.0)
-  header_table g ms body all flow rows s (x, told, on, table, calls, rest) =
-      let es = member_rows b (members_of ms) x in
-      let tail = eval_chain b (elements_of body) (as_group x (members_of ms) es).out in
-      (has_split s es tail.rows (has_split s (es ++ tail.rows) [] table).0).0
-
-  pub body_left : (g : ℕ) (ms : Lines) (body : Line) (all : Rows) (flow into : known.Flow) (old new s : List State)
-      (before : Leaves b (chord_end g ms body) all flow old s)
-      → Keeps old new → Within new s → HasRows new (member_rows b (members_of ms) before.0)
-      → IsKnown into (as_group before.0 (members_of ms) (member_rows b (members_of ms) before.0)).out → IsTold into → Leaves b body all into new s
-  body_left g ms body all flow into old new s (x, told, on, table, calls, rest) keeps w done known going =
-      let h = members_of ms in
-      let rows = member_rows b h x in
-      let out = (as_group x h rows).out in
-      let tail = eval_chain b (elements_of body) out in
-      let left = chain_called b (elements_of body) out in
-      let both = has_split s rows tail.rows (has_split s (rows ++ tail.rows) [] table).0 in
-      let had = has_split old (members_called b h x) left (has_split old (members_called b h x ++ left) [] calls).0 in (
-        out,
-        known,
-        going,
-        both.1,
-        has_kept old new s left keeps w (chain_among b s (elements_of body) out both.1) had.1,
-        λ later stay inside more.
-            rest later (kept_trans old new later keeps stay) inside
-            (has_join later (rows ++ tail.rows) [] (has_join later rows tail.rows (has_kept new later s rows stay inside both.0 done) more) tt),
-      )
-
-pub tail_in : (table : ℕ → List ℕ) (ts : List Task) (l : Line) (low high : ℕ) → LineIn table (steps_onto ts l) low high → (from : ℕ) × LineIn table l from high
-tail_in table [] l low high inn = (low, inn)
-tail_in table (t ∷ ts) l low high (middle, first, rest) = tail_in table ts l middle high rest
 
 -- ---- a list that has the rows of another is that
 

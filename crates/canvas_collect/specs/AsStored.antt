@@ -56,15 +56,15 @@ IsRow run count d (Blamed dep name) =
     (state_of d ≡ codes "FAILURE") × IsBlamed run count (result_of d) dep (string_bytes name)
 
 -- a row is what its line says: pending of an empty line
-abbrev pub Shows : (run : Text) → (count : ℕ) → ℕ → Text → Row → Type 0
-Shows run count k line row =
+abbrev pub Says : (run : Text) → (count : ℕ) → ℕ → Text → Row → Type 0
+Says run count k line row =
     ((line ≡ []) × (row ≡ Known None))
     ⊎ ((d : Data) × IsResult run k line d × IsRow run count d row)
 
 -- each row, from that of task k on, is what its own line says
-abbrev pub AllShown : (run : Text) → (count : ℕ) → ℕ → List Text → List Row → Type 0
-AllShown run count k [] [] = Unit {0}
-AllShown run count k [] (row ∷ rows) = ⊥
-AllShown run count k (line ∷ lines) [] = ⊥
-AllShown run count k (line ∷ lines) (row ∷ rows) =
-    Shows run count k line row × AllShown run count (suc k) lines rows
+abbrev pub AllSaid : (run : Text) → (count : ℕ) → ℕ → List Text → List Row → Type 0
+AllSaid run count k [] [] = Unit {0}
+AllSaid run count k [] (row ∷ rows) = ⊥
+AllSaid run count k (line ∷ lines) [] = ⊥
+AllSaid run count k (line ∷ lines) (row ∷ rows) =
+    Says run count k line row × AllSaid run count (suc k) lines rows

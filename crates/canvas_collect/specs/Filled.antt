@@ -15,6 +15,10 @@ IsFailed (Value text) = ⊥
 IsFailed (Raised name) = Unit {0}
 IsFailed (Blamed dep name) = Unit {0}
 
+-- what a pending row may be filled with
+abbrev pub IsFilling : Row → Type 0
+IsFilling row = (row ≡ pending) ⊎ IsFailed row
+
 abbrev pub IsFilled : (old new : Row) → Type 0
 IsFilled old new = (new ≡ old) ⊎ ((old ≡ pending) × IsFailed new)
 

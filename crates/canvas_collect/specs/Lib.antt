@@ -1,9 +1,10 @@
 pub mod Pieces
 pub mod Stored
-pub mod Refused
 pub mod AsStored
-pub mod Unshown
+pub mod Refused
 pub mod Called
 pub mod Completed
+pub mod Looks
+pub mod Completing
 pub mod Filled
 pub mod steps

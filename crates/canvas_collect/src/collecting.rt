@@ -1,17 +1,19 @@
-//! The rows of a report from the results that Celery stored.
+//! The rows of a report from the results that Celery stored, whatever the tasks return and raise.
 
 ghost use Rattle.std.specs.Prelude.{◌≡◌, [], length, IfOk, IfErr, OnOk};
 ghost use Rattle.canvas_semantics.specs.Line.{count_line};
 ghost use Rattle.canvas_collect.specs.Pieces.{lines_in};
-ghost use Rattle.canvas_collect.specs.Stored.{AllSaid};
+ghost use Rattle.canvas_collect.specs.AsStored.{AllSaid};
 ghost use Rattle.canvas_collect.specs.Refused.{IsCollectFault};
 ghost use Rattle.canvas_collect.specs.steps.Rows.{Gains, RowFault};
 
 use crate::pieces::{count_lines, split_line};
-use crate::stored::{StoredFault, read_stored};
+use crate::showing::read_row;
+use crate::stored::StoredFault;
 use canvas_celery::Run;
+use canvas_report::Row;
 use canvas_rewrite::Plan;
-use canvas_task::{ListOf, Outcome, TaskNo};
+use canvas_task::TaskNo;
 use std::alloc::Global;
 use thiserror::Error;
 
@@ -36,14 +38,14 @@ fn push_row(
     run: &Run,
     task: TaskNo,
     line: &[u8],
-    rows: &mut Vec<Option<Outcome>>,
+    rows: &mut Vec<Row>,
 ) -> Result<(), CollectFault>
-    ensures gains { OnOk result
-        (Gains run.now.digits (count_line plan.now) task line.now rows.old.items rows.new.items) }
+    ensures gains { OnOk result (Gains run.now.digits (count_line plan.now) task line.now
+        rows.old.items rows.new.items) }
     ensures refused { IfErr result
-        (λ e. RowFault run.now.digits (count_line plan.now) task line.now e) }
+        (RowFault run.now.digits (count_line plan.now) task line.now) }
 {
-    match read_stored(alloc, plan, run, task, line) {
+    match read_row(alloc, plan, run, task, line) {
         Ok(row) => match rows.push(row) {
             Ok(()) => Ok(()),
             Err(_) => Err(CollectFault::Memory),
@@ -59,15 +61,15 @@ fn push_rows(
     plan: &Plan,
     run: &Run,
     text: &[u8],
-    rows: &mut Vec<Option<Outcome>>,
+    rows: &mut Vec<Row>,
 ) -> Result<(), CollectFault>
     requires empty { rows.old.items ≡ [] }
     requires lines { length (lines_in text.now) ≡ count_line plan.now }
     ensures count { OnOk result (length rows.new.items ≡ count_line plan.now) }
-    ensures said { OnOk result
-        (AllSaid run.now.digits (count_line plan.now) 1 (lines_in text.now) rows.new.items) }
+    ensures said { OnOk result (AllSaid run.now.digits (count_line plan.now) 1
+        (lines_in text.now) rows.new.items) }
     ensures refused { IfErr result
-        (λ e. IsCollectFault run.now.digits (count_line plan.now) (lines_in text.now) e) }
+        (IsCollectFault run.now.digits (count_line plan.now) (lines_in text.now)) }
 {
     let mut rest = text;
     for index in 0..plan.tasks() {
@@ -78,26 +80,23 @@ fn push_rows(
     Ok(())
 }
 
-/// The rows of a plan's tasks from a text with a line for each, in the order of their numbers: the
-/// stored result, empty where there is none. Each row is what its own line says, so no outcome is
-/// made up, and none that is final is overlooked. Where there are as many lines as tasks, the first
-/// line that is refused is told.
-pub fn collect(
-    alloc: Global,
-    plan: &Plan,
-    run: &Run,
-    text: &[u8],
-) -> Result<ListOf<Option<Outcome>>, CollectFault>
-    ensures count { IfOk result (λ rows. length rows ≡ count_line plan.now) }
+/// The rows of a plan's tasks from a text with a line for each, in the order of their numbers. Each
+/// row is what its own line says, so no outcome is made up, and none that is final is overlooked: a
+/// result that is no whole number, or past 2^60, is shown as it is stored, and an exception that
+/// the engine's own tasks don't raise by its class. Where there are as many lines as tasks, only a
+/// line that can't be read is refused, the first of them: no JSON, another task's, an unknown
+/// state, or a failure that names no exception. JSON's numbers past 64 bits are read as floats.
+pub fn collect(alloc: Global, plan: &Plan, run: &Run, text: &[u8]) -> Result<Vec<Row>, CollectFault>
+    ensures count { IfOk result (λ rows. length rows.items ≡ count_line plan.now) }
     ensures said { IfOk result
-        (λ rows. AllSaid run.now.digits (count_line plan.now) 1 (lines_in text.now) rows) }
+        (λ rows. AllSaid run.now.digits (count_line plan.now) 1 (lines_in text.now) rows.items) }
     ensures refused { IfErr result
-        (λ e. IsCollectFault run.now.digits (count_line plan.now) (lines_in text.now) e) }
+        (IsCollectFault run.now.digits (count_line plan.now) (lines_in text.now)) }
 {
     if count_lines(text) != plan.tasks() as usize {
         return Err(CollectFault::BadCount);
     }
     let mut rows = Vec::new(alloc);
     push_rows(alloc, plan, run, text, &mut rows)?;
-    Ok(ListOf::of(rows))
+    Ok(rows)
 }

@@ -1,178 +1,280 @@
 //! The failure rules over what Celery stored: tasks that a failure reaches and that Celery leaves
 //! pending.
 
-ghost use Rattle.std.specs.Prelude.{◌≡◌, ◌<◌, ◌⊎◌, ◌∷◌, ◌++◌, ℕ, List, [], length, map};
-ghost use Rattle.std.specs.Prelude.{slice_index_or, Some, None, IsSome};
-ghost use Rattle.canvas_task.specs.Apply.{Behaviour};
+ghost use Rattle.std.specs.Prelude.{◌≡◌, ◌≢◌, ◌<◌, ◌-◌, ℕ, List, length, map, get_or, Some};
+ghost use Rattle.std.specs.Prelude.{MatchBool, IfOk, OnOk};
 ghost use Rattle.canvas_task.specs.declared.outcome.Outcome.TheVariants.{Failure};
-ghost use Rattle.canvas_semantics.specs.Evaluation.{Flow as flow_of, State, Rows, nothing};
-ghost use Rattle.canvas_semantics.specs.Evaluation.{passed_on, why_of, gathered, as_group};
-ghost use Rattle.canvas_semantics.specs.Evaluation.{all_ends, member_rows};
-ghost use Rattle.canvas_semantics.specs.FileOrder.{LineIn, LinesIn};
-ghost use Rattle.canvas_semantics.specs.Line.{Line, step, members, tree_of};
-ghost use Rattle.canvas_semantics.specs.States.{states, EachMay};
-ghost use Rattle.canvas_semantics.specs.Tree.{Trees};
+ghost use Rattle.canvas_task.specs.declared.outcome.Fault.TheVariants as chord;
+ghost use Rattle.canvas_semantics.specs.Evaluation.{State, why_of};
+ghost use Rattle.canvas_semantics.specs.Line.{Line, step, members};
 ghost use Rattle.canvas_rewrite.specs.FrozenView.{task_in, line_in, end_in, lines_of, steps_onto};
-ghost use Rattle.canvas_collect.specs.Called.{called};
-ghost use Rattle.canvas_collect.specs.Completed.{HasRows, Keeps, state_at};
-ghost use Rattle.canvas_collect.specs.steps.Flows.{IsKnown, IsTold, Within, AllThere, listed};
-ghost use Rattle.canvas_collect.specs.steps.Flows.{Reaches, ReachesAll, Leaves, LeavesAll};
+ghost use Rattle.canvas_report.specs.declared.row.Row.TheVariants.{Known};
+ghost use Rattle.canvas_collect.specs.Completed.{Completes};
+ghost use Rattle.canvas_collect.specs.Completing.{passed, after, same_failure, chord_failure, put, reached};
+ghost use Rattle.canvas_collect.specs.Completing.{gathered_on, gathered_from, into_body, completed, all_completed, plan_completed};
+ghost use Rattle.canvas_collect.specs.Filled.{pending, IsFilling, AreFilled};
+ghost use Rattle.canvas_collect.specs.Looks.{Look, look, looks, look_at};
+ghost use Rattle.canvas_collect.specs.declared.completing.Flow.TheVariants.{Value, Skip};
+ghost use Rattle.canvas_collect.specs.steps.Asked.{look_of};
 
+use canvas_report::Row;
 use canvas_rewrite::{FrozenEnd, FrozenLine, FrozenTask, Plan};
-use canvas_task::{Fault, GroupNo, ListOf, Outcome, TaskNo, Why};
+use canvas_task::{Fault, GroupNo, Memory, Outcome, TaskNo, Why};
+use std::alloc::AllocError;
 
 /// What flows into the next element of a line.
 #[derive(Clone, Copy)]
 enum Flow {
     /// A result: what follows was called.
     Value,
-    /// The exception for which what follows is skipped.
-    Skip(Fault),
-    /// The exception that a failed header raises in its body.
-    Raise(Fault),
+    /// The failure of this task, for which what follows is skipped.
+    Skip(TaskNo),
+    /// A ChordError that names this task, and is raised in the body of a header.
+    Raise(TaskNo),
     /// Nothing yet.
     Pending,
 }
 
-fn row(rows: &[Option<Outcome>], task: TaskNo) -> Option<Outcome>
-    ensures { result ≡ state_at rows.now task }
+/// What flows out of a task that has this row.
+fn flow_of(row: &Row, task: TaskNo) -> Flow
+    ensures { result ≡ passed task (look row.now) }
 {
-    match rows.get(task.get() as usize - 1) {
-        Some(row) => *row,
-        None => None,
+    match row {
+        Row::Known(None) => Flow::Pending,
+        Row::Known(Some(Outcome::Success(_))) => Flow::Value,
+        Row::Known(Some(Outcome::Failure(_))) => Flow::Skip(task),
+        Row::Value(_) => Flow::Value,
+        Row::Raised(_) => Flow::Skip(task),
+        Row::Blamed { .. } => Flow::Skip(task),
     }
 }
 
-/// Gives an index that has no row this one.
-#[tactic(auto, using(crate::proofs::KeptRows::kept))]
-fn fill_at(rows: &mut [Option<Outcome>], index: usize, fault: Fault)
-    requires { index < length rows.now }
-    ensures keeps { Keeps rows.old rows.new }
-    ensures within { (s : List State) → slice_index_or s index None ≡ Some (Failure fault)
-        → Within rows.old s → Within rows.new s }
-    ensures filled { slice_index_or rows.old index None ≡ None
-        → slice_index_or rows.new index None ≡ Some (Failure fault) }
+/// The row of a task, if it is there.
+fn row_at(rows: &[Row], task: TaskNo) -> Option<&Row>
+    ensures { look_of result ≡ look_at (looks rows.now) task }
 {
-    if rows[index].is_none() {
-        rows[index] = Some(Outcome::Failure(fault));
-    }
-}
-
-/// Gives a task that has no row this one.
-#[tactic(auto, using(crate::proofs::KeptRows::kept))]
-fn fill(rows: &mut [Option<Outcome>], task: TaskNo, fault: Fault)
-    ensures keeps { Keeps rows.old rows.new }
-    ensures within { (s : List State) → state_at s task ≡ Some (Failure fault)
-        → Within rows.old s → Within rows.new s }
-    ensures filled { (s : List State) → state_at s task ≡ Some (Failure fault)
-        → Within rows.old s → length rows.old ≡ length s
-        → state_at rows.new task ≡ Some (Failure fault) }
-{
-    let index = task.get() as usize - 1;
-    if index < rows.len() {
-        fill_at(rows, index, fault);
-    }
+    rows.get(task.get() as usize - 1)
 }
 
 /// What flows out of a task, by its row.
-fn passed_on(rows: &[Option<Outcome>], task: TaskNo) -> Flow
-    ensures told { IsSome (state_at rows.now task) → IsTold result }
-    ensures known { (s : List State) → Within rows.now s
-        → IsKnown result (passed_on (state_at s task)) }
+fn passed_on(rows: &[Row], task: TaskNo) -> Flow
+    ensures { result ≡ passed task (look_at (looks rows.now) task) }
 {
-    match row(rows, task) {
-        Some(Outcome::Success(_)) => Flow::Value,
-        Some(Outcome::Failure(fault)) => Flow::Skip(fault),
+    match row_at(rows, task) {
+        Some(row) => flow_of(row, task),
         None => Flow::Pending,
     }
 }
 
-/// What flows out of a task into which this flows, which has its row then.
-#[tactic(auto, using(crate::proofs::KeptRows::kept))]
-fn complete_task(rows: &mut [Option<Outcome>], task: &FrozenTask, flow: Flow) -> Flow
-    ensures keeps { Keeps rows.old rows.new }
-    ensures within { (table : ℕ → List ℕ) (l : Line) (s : List State)
-        → Reaches table flow (step (task_in task.now) l) s → Within rows.old s
-        → Within rows.new s × Reaches table result l s }
-    ensures whole { (l : Line) (s : List State) (b : Behaviour) (all : Rows)
-        → Leaves b (step (task_in task.now) l) all flow rows.old s → Within rows.old s
-        → length rows.old ≡ length s
-        → Within rows.new s × Leaves b l all result rows.new s }
+/// The failure of a row, again; pending where it has none.
+fn same_row(row: &Row) -> Result<Row, AllocError>
+    ensures { IfOk result (λ made. look made ≡ same_failure (look row.now)) }
 {
-    match flow {
-        Flow::Value => passed_on(rows, task.no),
-        Flow::Skip(fault) => {
-            fill(rows, task.no, fault);
-            passed_on(rows, task.no)
+    match row {
+        Row::Known(Some(Outcome::Failure(fault))) => {
+            Ok(Row::Known(Some(Outcome::Failure(*fault))))
         }
-        Flow::Raise(fault) => {
-            fill(rows, task.no, fault);
-            passed_on(rows, task.no)
-        }
-        Flow::Pending => Flow::Pending,
+        Row::Raised(name) => Ok(Row::Raised(name.clone()?)),
+        Row::Blamed { dep, name } => Ok(Row::Blamed {
+            dep: *dep,
+            name: name.clone()?,
+        }),
+        Row::Known(None) => Ok(Row::Known(None)),
+        Row::Known(Some(Outcome::Success(_))) => Ok(Row::Known(None)),
+        Row::Value(_) => Ok(Row::Known(None)),
     }
 }
 
-fn why_of(fault: Fault) -> Why
-    ensures { result ≡ why_of fault }
+fn chord_fault(dep: TaskNo, why: Why) -> Row
+    ensures { result ≡ Known (Some (Failure (chord.Chord dep why))) }
+{
+    Row::Known(Some(Outcome::Failure(Fault::Chord { dep, why })))
+}
+
+fn why_of(fault: &Fault) -> Why
+    ensures { result ≡ why_of fault.now }
 {
     match fault {
-        Fault::Plain(kind) => Why::Plain(kind),
+        Fault::Plain(kind) => Why::Plain(*kind),
         Fault::Chord { .. } => Why::Chord,
     }
 }
 
-/// What a member that failed makes of what those before it give.
-fn failed_behind(flow: Flow, last: TaskNo, fault: Fault) -> Flow
-    ensures told { IsTold flow → IsTold result }
-    ensures known { (es : Rows) → IsKnown flow (gathered es)
-        → IsKnown result (gathered (es ++ (last, Some (Failure fault)) ∷ [])) }
+/// The ChordError that names a task with this row; pending where it has no failure.
+fn chord_row(dep: TaskNo, row: &Row) -> Result<Row, AllocError>
+    ensures { IfOk result (λ made. look made ≡ chord_failure dep (look row.now)) }
+{
+    match row {
+        Row::Known(Some(Outcome::Failure(fault))) => Ok(chord_fault(dep, why_of(fault))),
+        Row::Raised(name) => Ok(Row::Blamed {
+            dep,
+            name: name.clone()?,
+        }),
+        Row::Blamed { .. } => Ok(chord_fault(dep, Why::Chord)),
+        Row::Known(None) => Ok(Row::Known(None)),
+        Row::Known(Some(Outcome::Success(_))) => Ok(Row::Known(None)),
+        Row::Value(_) => Ok(Row::Known(None)),
+    }
+}
+
+/// The failure that a task has, for those behind it.
+fn skipping(rows: &[Row], task: TaskNo) -> Result<Row, AllocError>
+    ensures { IfOk result (λ made. look made ≡ same_failure (look_at (looks rows.now) task)) }
+{
+    match row_at(rows, task) {
+        Some(row) => same_row(row),
+        None => Ok(Row::Known(None)),
+    }
+}
+
+/// The ChordError of a body whose header failed in this task.
+fn raising(rows: &[Row], task: TaskNo) -> Result<Row, AllocError>
+    ensures { IfOk result
+        (λ made. look made ≡ chord_failure task (look_at (looks rows.now) task)) }
+{
+    match row_at(rows, task) {
+        Some(row) => chord_row(task, row),
+        None => Ok(Row::Known(None)),
+    }
+}
+
+fn is_pending(row: &Row) -> bool
+    ensures { MatchBool result (row.now ≡ pending) (look row.now ≢ look pending) }
+{
+    matches!(row, Row::Known(None))
+}
+
+/// Whether a task has a row that is pending.
+fn is_open(rows: &[Row], task: TaskNo) -> bool
+    ensures { MatchBool result
+        ((task - 1 < length rows.now) × (get_or rows.now (task - 1) pending ≡ pending))
+        ((x : Look) → put (looks rows.now) (task - 1) x ≡ looks rows.now) }
+{
+    let index = task.get() as usize - 1;
+    if index < rows.len() {
+        is_pending(&rows[index])
+    } else {
+        false
+    }
+}
+
+/// Gives a task whose row is pending another.
+#[tactic(auto, using(crate::proofs::FilledRows::filled))]
+fn put_row(rows: &mut [Row], task: TaskNo, row: Row)
+    requires there { task - 1 < length rows.now }
+    requires open { get_or rows.now (task - 1) pending ≡ pending }
+    requires filling { IsFilling row }
+    ensures filled { AreFilled rows.old rows.new }
+    ensures looks { looks rows.new ≡ put (looks rows.old) (task - 1) (look row) }
+{
+    rows[task.get() as usize - 1] = row;
+}
+
+/// Gives a task into which this flows its failure, where its row is pending.
+#[tactic(auto, using(crate::proofs::FilledRows::filled))]
+fn fill(rows: &mut [Row], task: TaskNo, flow: &Flow) -> Result<(), AllocError>
+    ensures filled { AreFilled rows.old rows.new }
+    ensures reached { OnOk result (looks rows.new ≡ reached flow.now task (looks rows.old)) }
 {
     match flow {
-        Flow::Value => Flow::Raise(Fault::Chord {
-            dep: last,
-            why: why_of(fault),
-        }),
+        Flow::Value => Ok(()),
+        Flow::Skip(dep) => {
+            if is_open(rows, task) {
+                put_row(rows, task, skipping(rows, *dep)?);
+            }
+            Ok(())
+        }
+        Flow::Raise(dep) => {
+            if is_open(rows, task) {
+                put_row(rows, task, raising(rows, *dep)?);
+            }
+            Ok(())
+        }
+        Flow::Pending => Ok(()),
+    }
+}
+
+/// What flows behind a task into which this flowed.
+fn behind(rows: &[Row], task: TaskNo, flow: &Flow) -> Flow
+    ensures { result ≡ after flow.now task (look_at (looks rows.now) task) }
+{
+    match flow {
+        Flow::Pending => Flow::Pending,
+        Flow::Value => passed_on(rows, task),
+        Flow::Skip(_) => passed_on(rows, task),
+        Flow::Raise(_) => passed_on(rows, task),
+    }
+}
+
+/// What flows out of a task into which this flows, which has its row then.
+#[tactic(auto, using(crate::proofs::FilledRows::filled))]
+fn complete_task(rows: &mut [Row], task: &FrozenTask, flow: &Flow) -> Result<Flow, AllocError>
+    ensures filled { AreFilled rows.old rows.new }
+    ensures completed { IfOk result (λ next. (table : ℕ → List ℕ) (rest : Line)
+        → completed table (step (task_in task.now) rest) flow.now (looks rows.old)
+        ≡ completed table rest next (looks rows.new)) }
+{
+    match fill(rows, task.no, flow) {
+        Ok(()) => Ok(behind(rows, task.no, flow)),
+        Err(error) => Err(error),
+    }
+}
+
+/// What flows behind some tasks.
+#[tactic(auto, using(crate::proofs::FilledRows::filled))]
+fn complete_tasks(rows: &mut [Row], tasks: &[FrozenTask], flow: Flow) -> Result<Flow, AllocError>
+    ensures filled { AreFilled rows.old rows.new }
+    ensures completed { IfOk result (λ last. (table : ℕ → List ℕ) (rest : Line)
+        → completed table (steps_onto (map task_in tasks.now) rest) flow (looks rows.old)
+        ≡ completed table rest last (looks rows.new)) }
+{
+    let mut last = flow;
+    for task in tasks {
+        match complete_task(rows, task, &last) {
+            Ok(next) => last = next,
+            Err(error) => return Err(error),
+        }
+    }
+    Ok(last)
+}
+
+/// What a member makes of what those before it give.
+fn gathered_on(flow: Flow, next: Flow) -> Flow
+    ensures { result ≡ gathered_on flow next }
+{
+    match next {
+        Flow::Pending => Flow::Pending,
+        Flow::Value => flow,
+        Flow::Skip(task) => first_failure(flow, task),
+        Flow::Raise(_) => flow,
+    }
+}
+
+/// What a member that failed makes of what those before it give.
+fn first_failure(flow: Flow, task: TaskNo) -> Flow
+    ensures { result ≡ gathered_on flow (Skip task) }
+{
+    match flow {
+        Flow::Value => Flow::Raise(task),
         Flow::Skip(first) => Flow::Skip(first),
         Flow::Raise(first) => Flow::Raise(first),
         Flow::Pending => Flow::Pending,
     }
 }
 
-/// What the row of a member's last task makes of what those before it give.
-fn gathered_on(flow: Flow, last: TaskNo, row: Option<Outcome>) -> Flow
-    ensures told { IsSome row → IsTold flow → IsTold result }
-    ensures known { (es : Rows) (e : State) → IsKnown flow (gathered es) → (row ≡ None) ⊎ (row ≡ e)
-        → IsKnown result (gathered (es ++ (last, e) ∷ [])) }
-{
-    match row {
-        None => Flow::Pending,
-        Some(Outcome::Success(_)) => flow,
-        Some(Outcome::Failure(fault)) => failed_behind(flow, last, fault),
-    }
-}
-
 /// What the last tasks of a header's members give.
-fn gathered(rows: &[Option<Outcome>], lasts: &[TaskNo]) -> Flow
-    ensures told { AllThere rows.now lasts.now → IsTold result }
-    ensures known { (s : List State) → Within rows.now s
-        → IsKnown result (gathered (listed s lasts.now)) }
+fn gathered(rows: &[Row], lasts: &[TaskNo]) -> Flow
+    ensures { result ≡ gathered_from Value lasts.now (looks rows.now) }
 {
     let mut flow = Flow::Value;
     for last in lasts {
-        flow = gathered_on(flow, *last, row(rows, *last));
+        flow = gathered_on(flow, passed_on(rows, *last));
     }
     flow
 }
 
-fn header_flow(plan: &Plan, rows: &[Option<Outcome>], group: GroupNo, flow: &Flow) -> Flow
-    ensures told { (b : Behaviour) (x : flow_of) (h : Trees)
-        → members plan.now group ≡ all_ends h → IsTold flow.now
-        → HasRows rows.now (member_rows b h x) → IsTold result }
-    ensures known { (s : List State) (b : Behaviour) (x : flow_of) (h : Trees)
-        → members plan.now group ≡ all_ends h → IsKnown flow.now x
-        → HasRows s (member_rows b h x) → Within rows.now s
-        → IsKnown result (as_group x h (member_rows b h x)).out }
+fn header_flow(plan: &Plan, rows: &[Row], group: GroupNo, flow: &Flow) -> Flow
+    ensures { result ≡ into_body flow.now (members plan.now group) (looks rows.now) }
 {
     let members = plan.members(group);
     if members.is_empty() {
@@ -180,104 +282,83 @@ fn header_flow(plan: &Plan, rows: &[Option<Outcome>], group: GroupNo, flow: &Flo
     }
     match flow {
         Flow::Value => gathered(rows, members),
-        Flow::Skip(fault) => Flow::Skip(*fault),
+        Flow::Skip(task) => Flow::Skip(*task),
         Flow::Raise(_) => gathered(rows, members),
         Flow::Pending => Flow::Pending,
     }
 }
 
-/// What flows behind some tasks.
-#[tactic(auto, using(crate::proofs::KeptRows::kept))]
-fn complete_tasks(rows: &mut [Option<Outcome>], tasks: &[FrozenTask], flow: Flow) -> Flow
-    ensures keeps { Keeps rows.old rows.new }
-    ensures within { (table : ℕ → List ℕ) (l : Line) (s : List State)
-        → Reaches table flow (steps_onto (map task_in tasks.now) l) s → Within rows.old s
-        → Within rows.new s × Reaches table result l s }
-    ensures whole { (l : Line) (s : List State) (b : Behaviour) (all : Rows)
-        → Leaves b (steps_onto (map task_in tasks.now) l) all flow rows.old s
-        → Within rows.old s → length rows.old ≡ length s
-        → Within rows.new s × Leaves b l all result rows.new s }
-{
-    let mut last = flow;
-    for task in tasks {
-        last = complete_task(rows, task, last);
-    }
-    last
-}
-
 #[cycle(lines)]
-#[tactic(auto, using(crate::proofs::KeptRows::kept))]
-fn complete_all(plan: &Plan, rows: &mut [Option<Outcome>], lines: &[FrozenLine], flow: &Flow)
-    ensures keeps { Keeps rows.old rows.new }
-    ensures within { (s : List State)
-        → ReachesAll (λ g. members plan.now g) flow.now (lines_of (map line_in lines.now)) s
-        → Within rows.old s → Within rows.new s }
-    ensures whole { (s : List State) (b : Behaviour) (all : Rows) (low high : ℕ)
-        → LeavesAll b (lines_of (map line_in lines.now)) all flow.now rows.old s
-        → LinesIn (λ g. members plan.now g) (lines_of (map line_in lines.now)) low high
-        → Within rows.old s → length rows.old ≡ length s
-        → Within rows.new s × HasRows rows.new all }
+#[tactic(auto, using(crate::proofs::FilledRows::filled))]
+fn complete_all(
+    plan: &Plan,
+    rows: &mut [Row],
+    lines: &[FrozenLine],
+    flow: &Flow,
+) -> Result<(), AllocError>
+    ensures filled { AreFilled rows.old rows.new }
+    ensures completed { OnOk result (looks rows.new ≡ all_completed (λ g. members plan.now g)
+        (lines_of (map line_in lines.now)) flow.now (looks rows.old)) }
 {
     for line in lines {
-        complete_line(plan, rows, line, flow);
+        complete_line(plan, rows, line, flow)?;
     }
+    Ok(())
 }
 
 #[cycle(lines)]
-#[tactic(auto, using(crate::proofs::KeptRows::kept))]
-fn complete_end(plan: &Plan, rows: &mut [Option<Outcome>], end: &FrozenEnd, flow: &Flow)
-    ensures keeps { Keeps rows.old rows.new }
-    ensures within { (s : List State)
-        → Reaches (λ g. members plan.now g) flow.now (end_in end.now) s
-        → Within rows.old s → Within rows.new s }
-    ensures whole { (s : List State) (b : Behaviour) (all : Rows) (low high : ℕ)
-        → Leaves b (end_in end.now) all flow.now rows.old s
-        → LineIn (λ g. members plan.now g) (end_in end.now) low high
-        → Within rows.old s → length rows.old ≡ length s
-        → Within rows.new s × HasRows rows.new all }
+#[tactic(auto, using(crate::proofs::FilledRows::filled))]
+fn complete_end(
+    plan: &Plan,
+    rows: &mut [Row],
+    end: &FrozenEnd,
+    flow: &Flow,
+) -> Result<(), AllocError>
+    ensures filled { AreFilled rows.old rows.new }
+    ensures completed { OnOk result (looks rows.new
+        ≡ completed (λ g. members plan.now g) (end_in end.now) flow.now (looks rows.old)) }
 {
-    complete_all(plan, rows, end.members.get(), flow);
+    complete_all(plan, rows, end.members.get(), flow)?;
     match &end.body {
         Some(body) => {
             let into = header_flow(plan, rows, end.group, flow);
-            complete_line(plan, rows, body, &into);
+            complete_line(plan, rows, body, &into)
         }
-        None => {}
+        None => Ok(()),
     }
 }
 
 #[cycle(lines)]
-#[tactic(auto, using(crate::proofs::KeptRows::kept))]
-fn complete_line(plan: &Plan, rows: &mut [Option<Outcome>], line: &FrozenLine, flow: &Flow)
-    ensures keeps { Keeps rows.old rows.new }
-    ensures within { (s : List State)
-        → Reaches (λ g. members plan.now g) flow.now (line_in line.now) s
-        → Within rows.old s → Within rows.new s }
-    ensures whole { (s : List State) (b : Behaviour) (all : Rows) (low high : ℕ)
-        → Leaves b (line_in line.now) all flow.now rows.old s
-        → LineIn (λ g. members plan.now g) (line_in line.now) low high
-        → Within rows.old s → length rows.old ≡ length s
-        → Within rows.new s × HasRows rows.new all }
+#[tactic(auto, using(crate::proofs::FilledRows::filled))]
+fn complete_line(
+    plan: &Plan,
+    rows: &mut [Row],
+    line: &FrozenLine,
+    flow: &Flow,
+) -> Result<(), AllocError>
+    ensures filled { AreFilled rows.old rows.new }
+    ensures completed { OnOk result (looks rows.new
+        ≡ completed (λ g. members plan.now g) (line_in line.now) flow.now (looks rows.old)) }
 {
-    let last = complete_tasks(rows, line.tasks.get(), *flow);
+    let last = complete_tasks(rows, line.tasks.get(), *flow)?;
     match &line.tail {
         Some(end) => complete_end(plan, rows, end, &last),
-        None => {}
+        None => Ok(()),
     }
 }
 
-/// The rows with those of the tasks that a failure reaches: what evaluating the canvas gives them
-/// where each task that was called has its row.
-#[tactic(auto, using(crate::proofs::KeptRows::kept))]
-pub fn complete(plan: &Plan, rows: ListOf<Option<Outcome>>) -> ListOf<Option<Outcome>>
-    ensures keeps { Keeps rows result }
-    ensures within { (behaviour : Behaviour) → EachMay rows (states behaviour (tree_of plan.now))
-        → EachMay result (states behaviour (tree_of plan.now)) }
-    ensures whole { (behaviour : Behaviour) → EachMay rows (states behaviour (tree_of plan.now))
-        → HasRows rows (called behaviour (tree_of plan.now) nothing)
-        → result ≡ states behaviour (tree_of plan.now) }
+/// Gives each task that a failure reaches, and that is pending, its failure: that of the task to
+/// blame, or in the body of a chord a ChordError that names the first member that failed, with its
+/// class. Of outcomes that the engine's own tasks have these are what evaluating the canvas gives,
+/// where each task that was called has its row. Where memory is refused, some rows may be filled.
+#[tactic(auto, using(crate::proofs::FilledRows::filled))]
+pub fn complete(plan: &Plan, rows: &mut [Row]) -> Result<(), Memory>
+    ensures filled { AreFilled rows.old rows.new }
+    ensures completed { OnOk result (looks rows.new ≡ plan_completed plan.now (looks rows.old)) }
+    ensures known { OnOk result ((old : List State) → rows.old ≡ map (λ s. Known s) old
+        → (new : List State) × (rows.new ≡ map (λ s. Known s) new)
+        × Completes plan.now old new) }
 {
-    let mut rows = rows.into_plain();
-    complete_line(plan, rows.as_mut_slice(), plan.line(), &Flow::Value);
-    ListOf::of(rows)
+    complete_line(plan, rows, plan.line(), &Flow::Value)?;
+    Ok(())
 }

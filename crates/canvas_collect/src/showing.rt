@@ -6,13 +6,14 @@ ghost use Rattle.serde_json.specs.Read.{max_depth};
 ghost use Rattle.serde_json.specs.View.{view};
 ghost use Rattle.canvas_semantics.specs.Line.{count_line};
 ghost use Rattle.canvas_collect.specs.Stored.{class_of, message_of};
-ghost use Rattle.canvas_collect.specs.Refused.{RefusesException, RefusesResult};
-ghost use Rattle.canvas_collect.specs.AsStored.{IsJsonOf, IsRow, Shows};
+ghost use Rattle.canvas_collect.specs.declared.stored.Lack.TheVariants as lack;
+ghost use Rattle.canvas_collect.specs.steps.Lacking.{LacksFault, LacksOutcome};
+ghost use Rattle.canvas_collect.specs.AsStored.{IsJsonOf, IsRow, Says};
 ghost use Rattle.canvas_collect.specs.steps.Found.{value_at};
-ghost use Rattle.canvas_collect.specs.steps.ShownRows.{IsRefused, HasJson, HasClass, HasBlame, LacksClass};
-ghost use Rattle.canvas_collect.specs.steps.ShownRows.{IsChordRow, ResultFault, ShowFault};
+ghost use Rattle.canvas_collect.specs.steps.Rows.{IsRefused, HasJson, HasClass, HasBlame, LacksClass};
+ghost use Rattle.canvas_collect.specs.steps.Rows.{IsChordRow, ResultFault, LineFault};
 
-use crate::stored::{StoredFault, blame_in, is_of, message_in, outcome_of, parsed, text_in};
+use crate::stored::{Lack, StoredFault, blame_in, is_of, message_in, outcome_of, parsed, text_in};
 use canvas_celery::Run;
 use canvas_report::Row;
 use canvas_rewrite::Plan;
@@ -97,8 +98,8 @@ fn chord_row(
     run: &Run,
     found: Option<&Value>,
 ) -> Result<Row, StoredFault>
-    requires { RefusesException run.now.digits (count_line plan.now) (value_at found)
-        StoredFault.UnknownDependency }
+    requires { LacksFault run.now.digits (count_line plan.now) (value_at found)
+        lack.Dependency }
     ensures { MatchResult result
         (IsChordRow run.now.digits (count_line plan.now) (value_at found.entry)) IsRefused }
 {
@@ -110,28 +111,25 @@ fn chord_row(
     }
 }
 
-/// The row of a result that is refused as an outcome of the engine's own tasks.
+/// The row of a result that is no outcome of the engine's own tasks.
 fn other_row(
     alloc: Global,
     plan: &Plan,
     run: &Run,
     meta: &Value,
-    fault: StoredFault,
+    lack: Lack,
 ) -> Result<Row, StoredFault>
-    requires refused { RefusesResult run.now.digits (count_line plan.now) (view meta.now) fault }
+    requires lacks { LacksOutcome run.now.digits (count_line plan.now) (view meta.now) lack }
     requires low { depth (view meta.now) ≤ max_depth }
     ensures { MatchResult result (IsRow run.now.digits (count_line plan.now) (view meta.now))
         (ResultFault (view meta.now)) }
 {
     let found = meta.get("result");
-    match fault {
-        StoredFault::NotNumber => value_row(alloc, found),
-        StoredFault::UnknownException => raised_row(alloc, class_in(found)),
-        StoredFault::UnknownDependency => chord_row(alloc, plan, run, found),
-        StoredFault::UnknownState => Err(StoredFault::UnknownState),
-        StoredFault::NotJson => Err(StoredFault::NotJson),
-        StoredFault::OtherTask => Err(StoredFault::OtherTask),
-        StoredFault::Memory => Err(StoredFault::Memory),
+    match lack {
+        Lack::Number => value_row(alloc, found),
+        Lack::Exception => raised_row(alloc, class_in(found)),
+        Lack::Dependency => chord_row(alloc, plan, run, found),
+        Lack::State => Err(StoredFault::UnknownState),
     }
 }
 
@@ -142,7 +140,7 @@ fn row_of(alloc: Global, plan: &Plan, run: &Run, meta: &Value) -> Result<Row, St
 {
     match outcome_of(plan, run, meta) {
         Ok(outcome) => Ok(Row::Known(outcome)),
-        Err(fault) => other_row(alloc, plan, run, meta, fault),
+        Err(lack) => other_row(alloc, plan, run, meta, lack),
     }
 }
 
@@ -154,8 +152,8 @@ pub(crate) fn read_row(
     task: TaskNo,
     text: &[u8],
 ) -> Result<Row, StoredFault>
-    ensures { MatchResult result (Shows run.now.digits (count_line plan.now) task text.now)
-        (ShowFault run.now.digits (count_line plan.now) task text.now) }
+    ensures { MatchResult result (Says run.now.digits (count_line plan.now) task text.now)
+        (LineFault run.now.digits (count_line plan.now) task text.now) }
 {
     if text.is_empty() {
         return Ok(Row::Known(None));

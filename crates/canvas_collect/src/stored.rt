@@ -14,11 +14,10 @@ ghost use Rattle.canvas_semantics.specs.Line.{count_line};
 ghost use Rattle.canvas_task.specs.declared.outcome.Kind.{Kind};
 ghost use Rattle.canvas_task.specs.declared.outcome.Why.{Why};
 ghost use Rattle.canvas_collect.specs.Stored.{integer_in, message_in, named_in, class_of, Blames};
-ghost use Rattle.canvas_collect.specs.Stored.{SaysFault, SaysRow, Says, Waits};
-ghost use Rattle.canvas_collect.specs.Refused.{RefusesException, RefusesResult};
+ghost use Rattle.canvas_collect.specs.Stored.{SaysFault, SaysRow, Waits};
+ghost use Rattle.canvas_collect.specs.steps.Lacking.{LacksFault, LacksOutcome};
 ghost use Rattle.canvas_collect.specs.AsStored.{Names};
 ghost use Rattle.canvas_collect.specs.steps.Parsed.{IsUnread};
-ghost use Rattle.canvas_collect.specs.steps.Rows.{LineFault};
 
 use crate::named::task_named;
 use crate::pieces::split_at_byte;
@@ -41,18 +40,25 @@ pub enum StoredFault {
     /// A state beside PENDING, RECEIVED, STARTED, RETRY, SUCCESS and FAILURE.
     #[error("UnknownState")]
     UnknownState,
-    /// Of a success: no whole number from -2^60 to 2^60.
-    #[error("NotNumber")]
-    NotNumber,
-    /// Of a failure: an exception that is none of the built-in tasks'.
+    /// Of a failure: an exception that has no class.
     #[error("UnknownException")]
     UnknownException,
-    /// A ChordError that names no task of the run.
-    #[error("UnknownDependency")]
-    UnknownDependency,
     /// A growth was refused.
     #[error("memory refused")]
     Memory,
+}
+
+/// Why a stored result is no outcome that the engine's own tasks have.
+#[derive(Clone, Copy, Debug, Drop, PartialEq, Eq)]
+pub(crate) enum Lack {
+    /// Its state is none that is known.
+    State,
+    /// Of a success: no whole number from -2^60 to 2^60.
+    Number,
+    /// Of a failure: an exception that is none of the built-in tasks'.
+    Exception,
+    /// A ChordError that names no task of the run, or a class that is none of these.
+    Dependency,
 }
 
 /// The text of a value, empty where it is none.
@@ -158,23 +164,23 @@ fn dependency_of(plan: &Plan, run: &Run, message: &[u8]) -> Option<(TaskNo, Why)
     }
 }
 
-fn chord_failure(plan: &Plan, run: &Run, exception: &Value) -> Result<Fault, StoredFault>
+fn chord_failure(plan: &Plan, run: &Run, exception: &Value) -> Result<Fault, Lack>
     requires { class_of (view exception.now) ≡ codes "ChordError" }
     ensures { MatchResult result
         (λ f. SaysFault run.now.digits (count_line plan.now) (view exception.now) f)
-        (λ e. RefusesException run.now.digits (count_line plan.now) (view exception.now) e) }
+        (λ e. LacksFault run.now.digits (count_line plan.now) (view exception.now) e) }
 {
     let message = message_in(exception.get("exc_message"));
     match dependency_of(plan, run, message.as_bytes()) {
         Some((dep, why)) => Ok(Fault::Chord { dep, why }),
-        None => Err(StoredFault::UnknownDependency),
+        None => Err(Lack::Dependency),
     }
 }
 
-fn failure_of(plan: &Plan, run: &Run, exception: &Value) -> Result<Fault, StoredFault>
+fn failure_of(plan: &Plan, run: &Run, exception: &Value) -> Result<Fault, Lack>
     ensures { MatchResult result
         (λ f. SaysFault run.now.digits (count_line plan.now) (view exception.now) f)
-        (λ e. RefusesException run.now.digits (count_line plan.now) (view exception.now) e) }
+        (λ e. LacksFault run.now.digits (count_line plan.now) (view exception.now) e) }
 {
     let name = text_in(exception.get("exc_type"));
     if name == "ChordError" {
@@ -182,18 +188,18 @@ fn failure_of(plan: &Plan, run: &Run, exception: &Value) -> Result<Fault, Stored
     }
     match kind_of(name.as_bytes()) {
         Some(kind) => Ok(Fault::Plain(kind)),
-        None => Err(StoredFault::UnknownException),
+        None => Err(Lack::Exception),
     }
 }
 
-fn failure_in(plan: &Plan, run: &Run, found: Option<&Value>) -> Result<Fault, StoredFault>
+fn failure_in(plan: &Plan, run: &Run, found: Option<&Value>) -> Result<Fault, Lack>
     ensures { MatchResult result
         (λ f. SaysFault run.now.digits (count_line plan.now) (value_at found.entry) f)
-        (λ e. RefusesException run.now.digits (count_line plan.now) (value_at found.entry) e) }
+        (λ e. LacksFault run.now.digits (count_line plan.now) (value_at found.entry) e) }
 {
     match found {
         Some(exception) => failure_of(plan, run, exception),
-        None => Err(StoredFault::UnknownException),
+        None => Err(Lack::Exception),
     }
 }
 
@@ -223,32 +229,28 @@ fn is_waiting(status: &str) -> bool
     matches!(status, "PENDING" | "RECEIVED" | "STARTED" | "RETRY")
 }
 
-pub(crate) fn outcome_of(
-    plan: &Plan,
-    run: &Run,
-    meta: &Value,
-) -> Result<Option<Outcome>, StoredFault>
+pub(crate) fn outcome_of(plan: &Plan, run: &Run, meta: &Value) -> Result<Option<Outcome>, Lack>
     ensures { MatchResult result
         (λ row. SaysRow run.now.digits (count_line plan.now) (view meta.now) row)
-        (λ e. RefusesResult run.now.digits (count_line plan.now) (view meta.now) e) }
+        (λ e. LacksOutcome run.now.digits (count_line plan.now) (view meta.now) e) }
 {
     let status = text_in(meta.get("status"));
     if status == "SUCCESS" {
         return match success_of(meta.get("result")) {
             Some(number) => Ok(Some(Outcome::Success(number))),
-            None => Err(StoredFault::NotNumber),
+            None => Err(Lack::Number),
         };
     }
     if status == "FAILURE" {
         return match failure_in(plan, run, meta.get("result")) {
             Ok(fault) => Ok(Some(Outcome::Failure(fault))),
-            Err(fault) => Err(fault),
+            Err(lack) => Err(lack),
         };
     }
     if is_waiting(status) {
         Ok(None)
     } else {
-        Err(StoredFault::UnknownState)
+        Err(Lack::State)
     }
 }
 
@@ -274,28 +276,4 @@ pub(crate) fn is_of(run: &Run, task: TaskNo, meta: &Value) -> bool
     let id = run.task_text(task);
     let named = text_in(meta.get("task_id"));
     named.as_bytes() == id.as_slice()
-}
-
-/// The outcome that a stored result says, none where there is none yet: where the text is empty, or
-/// its state isn't final.
-pub(crate) fn read_stored(
-    alloc: Global,
-    plan: &Plan,
-    run: &Run,
-    task: TaskNo,
-    text: &[u8],
-) -> Result<Option<Outcome>, StoredFault>
-    ensures { MatchResult result
-        (λ row. Says run.now.digits (count_line plan.now) task text.now row)
-        (λ e. LineFault run.now.digits (count_line plan.now) task text.now e) }
-{
-    if text.is_empty() {
-        return Ok(None);
-    }
-    let meta = parsed(alloc, text)?;
-    if is_of(run, task, &meta) {
-        outcome_of(plan, run, &meta)
-    } else {
-        Err(StoredFault::OtherTask)
-    }
 }

@@ -11,7 +11,7 @@ use Rattle.canvas_rewrite.specs.declared.frozen.FrozenEnd.{FrozenEnd, out-Frozen
 use Rattle.canvas_rewrite.proofs.FrozenViews.{made_line, made_longer, made_group, made_chord}
 use Rattle.canvas_envelope.specs.Content.{place_of}
 use Rattle.canvas_effects.specs.Placing.{placed}
-use Rattle.canvas_envelope.specs.MessageView.{place_seen}
+use Rattle.canvas_envelope.specs.MessageView.{content, place_seen, rest_seen}
 use Rattle.canvas_effects.specs.steps.Walks.{at_place, tail_seen}
 use Rattle.canvas_envelope.specs.steps.Parts.{is_stop}
 use Rattle.canvas_envelope.proofs.FitLemmas.{never_stops, end_stands}
@@ -145,3 +145,11 @@ pub made_of : (ts : List FrozenTask) (o : Option (Box FrozenEnd Global))
     → p_line_view (roll-FrozenLine (record { tasks = ts; tail = o })) ≡ p_steps (map p_task_view ts) (tail_seen o)
 made_of ts None = made_line ts
 made_of ts (Some b) = made_longer ts b
+
+-- ---- messages
+
+pub content_kept : (parent : Option ℕ) (k : ℕ) (n n' : List ℕ) (a a' : List Arg) (w w' : List (List ℕ × Arg)) (ls ls' es es' : List FrozenTask)
+    (p p' : Option Place) (r r' : Option FrozenLine) → n ≡ n' → a ≡ a' → w ≡ w' → map p_task_view ls ≡ map p_task_view ls'
+    → map p_task_view es ≡ map p_task_view es' → place_seen p ≡ place_seen p' → rest_seen r ≡ rest_seen r'
+    → content parent k n a w ls es p r ≡ content parent k n' a' w' ls' es' p' r'
+content_kept parent k n n' a a' w w' ls ls' es es' p p' r r' hn ha hw hl he hp hr = rw (hn, ha, hw, hl, he, hp, hr) refl

@@ -41,20 +41,25 @@ pub(crate) fn share_if_some(place: &Option<Place>) -> Result<Option<Place>, Allo
 
 /// What a task is called with.
 #[derive(Drop)]
-struct Call {
-    name: TextOf,
-    args: ListOf<Arg>,
-    kwargs: MapOf<Arg>,
+pub(crate) struct Call {
+    pub(crate) name: TextOf,
+    pub(crate) args: ListOf<Arg>,
+    pub(crate) kwargs: MapOf<Arg>,
 }
 
-fn copy_call(alloc: Global, task: &FrozenTask) -> Result<Call, AllocError>
-    ensures name { IfOk result (λ call. call.name ≡ (out-FrozenTask task.now).name) }
-    ensures args { IfOk result (λ call. call.args ≡ (out-FrozenTask task.now).args) }
-    ensures kwargs { IfOk result (λ call. call.kwargs ≡ (out-FrozenTask task.now).kwargs) }
+pub(crate) fn copy_call(
+    alloc: Global,
+    name: &TextOf,
+    args: &ListOf<Arg>,
+    kwargs: &MapOf<Arg>,
+) -> Result<Call, AllocError>
+    ensures name { IfOk result (λ call. call.name ≡ name.now) }
+    ensures args { IfOk result (λ call. call.args ≡ args.now) }
+    ensures kwargs { IfOk result (λ call. call.kwargs ≡ kwargs.now) }
 {
-    let name = task.name.clone()?;
-    let args = copy_args(&task.args)?;
-    let kwargs = copy_kwargs(alloc, &task.kwargs)?;
+    let name = name.clone()?;
+    let args = copy_args(args)?;
+    let kwargs = copy_kwargs(alloc, kwargs)?;
     Ok(Call { name, args, kwargs })
 }
 
@@ -90,7 +95,7 @@ pub(crate) fn copy_task(
     ensures { IfOk result
         (λ copy. p_task_view copy ≡ at_place (place_seen place) (p_task_view task.now)) }
 {
-    let call = copy_call(alloc, task)?;
+    let call = copy_call(alloc, &task.name, &task.args, &task.kwargs)?;
     let back = copy_callbacks(alloc, task)?;
     Ok(FrozenTask {
         no: task.no,
@@ -105,7 +110,7 @@ pub(crate) fn copy_task(
 }
 
 #[cycle(copy)]
-fn copy_tasks(alloc: Global, tasks: &[FrozenTask]) -> Result<Vec<FrozenTask>, AllocError>
+pub(crate) fn copy_tasks(alloc: Global, tasks: &[FrozenTask]) -> Result<Vec<FrozenTask>, AllocError>
     ensures { IfOk result (λ copies. map p_task_view copies.items ≡ map p_task_view tasks.now) }
 {
     let mut copies = Vec::with_capacity(alloc, tasks.len())?;

@@ -16,6 +16,7 @@ ghost use Rattle.canvas_effects.specs.Placing.{end_place};
 ghost use Rattle.canvas_effects.specs.Todos.{part_view, todo_view};
 ghost use Rattle.canvas_effects.specs.steps.Walks.{input_seen, part_at_end, started};
 
+mod copied;
 mod first;
 mod header;
 mod lasts;
@@ -29,20 +30,20 @@ mod task_messages;
 use crate::copies::copy_line;
 use crate::input::Input;
 use crate::{ChordBody, PartCall, Todo};
-use canvas_envelope::{CarriedText, Message, following, share_carried, share_text};
+use canvas_envelope::{CarriedText, Message, share_carried};
 use canvas_rewrite::{Carried, FrozenLine, FrozenTask, Place, Plan};
 use canvas_task::{Fault, ListOf, Memory, Outcome, TaskNo};
+use copied::copy_message;
 pub use first::FirstMessages;
 use header::{failure_of, numbers_of};
 use lasts::last_task;
 pub use moved::into_todo;
-use moved::{behind, skipped_behind};
 use order::{sort_messages, sort_stores};
 use raised::raise_line;
 use started::start_whole;
 use std::alloc::{AllocError, Global};
 use std::sync::Arc;
-use task_messages::{call_back, texts_of};
+use task_messages::call_back;
 
 /// The messages that a run begins with.
 pub fn first_messages(alloc: Global, plan: &Plan) -> Result<Vec<Message>, Memory>
@@ -55,33 +56,12 @@ pub fn first_messages(alloc: Global, plan: &Plan) -> Result<Vec<Message>, Memory
     Ok(messages)
 }
 
-/// What follows the end of a message's task.
+/// What follows the end of a message's task: as `into_todo` of a copy.
 pub fn after(alloc: Global, message: &Message, outcome: &Outcome) -> Result<Todo, Memory>
     requires { IsInRange outcome.now }
     ensures { IfOk result (λ todo. todo_view todo ≡ after message.now outcome.now) }
 {
-    Ok(todo_after(alloc, message, outcome)?)
-}
-
-fn todo_after(alloc: Global, message: &Message, outcome: &Outcome) -> Result<Todo, AllocError>
-    requires { IsInRange outcome.now }
-    ensures { IfOk result (λ todo. todo_view todo ≡ after message.now outcome.now) }
-{
-    let messages = called_back(alloc, message, outcome)?;
-    match following(&message.rest) {
-        Some(rest) => match outcome {
-            Outcome::Success(_) => {
-                let texts = texts_of(share_text(&message.texts.carried)?);
-                let rest = copy_line(alloc, rest)?;
-                behind(alloc, rest, texts, message.task, outcome, messages)
-            }
-            Outcome::Failure(fault) => skipped_behind(alloc, rest, fault, messages),
-        },
-        None => {
-            let part = part_of(&message.place, message.task)?;
-            todo_of(Vec::new(alloc), messages, part)
-        }
-    }
+    into_todo(alloc, copy_message(alloc, message)?, outcome)
 }
 
 /// The messages that the end of a message's task calls back: of its links, or of its error

@@ -1,14 +1,13 @@
 -- The options of signatures that are read and ignored (Celery user guide, Calling Tasks): all but
 -- the callbacks, and but what Celery writes into a signature for its own books (celery/canvas.py,
 -- `Signature.freeze`, `_chord.freeze`). One that is null isn't given.
-use Rattle.std.specs.Prelude.{Bool, ◌||◌, not, if◌then◌else◌, List, [], ◌∷◌, Option, Some, None}
+use Rattle.std.specs.Prelude.{Bool, ◌||◌, not, if◌then◌else◌, List, [], ◌∷◌}
 use Rattle.std.specs.Prelude.{codes}
 use Rattle.std.specs.List.{flat_map}
 use Rattle.std.specs.Str.{bytes_eq}
 use Rattle.serde_json.specs.Data.{Data}
 use Rattle.canvas_task.specs.Text.{Text}
 use Rattle.canvas_values.specs.Fields.{field, object_members, is_null}
-use Rattle.canvas_finding.specs.FileOrder.{signatures}
 
 abbrev pub is_callback : Text → Bool
 is_callback name =
@@ -33,12 +32,3 @@ if_ignored name d = if is_ignored name d then name ∷ [] else []
 abbrev pub ignored_in : Data → List Text
 ignored_in d =
     flat_map (λ e. if_ignored e.0 e.1) (object_members (field (codes "options") d))
-
--- of all signatures of a value, in file order
-abbrev pub ignored_of : Data → List Text
-ignored_of d = flat_map (λ s. ignored_in s.signature) (signatures d)
-
--- of a text, none where it is no JSON
-abbrev pub ignored_at : Option Data → List Text
-ignored_at None = []
-ignored_at (Some d) = ignored_of d

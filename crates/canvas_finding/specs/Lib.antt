@@ -11,3 +11,4 @@ pub mod Keywords
 pub mod Naming
 pub mod Signed
 pub mod Shown
+pub mod Reading

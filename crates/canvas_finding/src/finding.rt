@@ -91,7 +91,7 @@ fn first_too_deep<'v>(
 }
 
 /// Where a refusal stands in a value.
-fn find_in(
+pub(crate) fn find_in(
     alloc: Global,
     value: &Datum<'_>,
     fault: SigFault,
@@ -138,7 +138,7 @@ fn whole(fault: SigFault, note: String) -> Finding
     }
 }
 
-fn too_large(alloc: Global) -> Result<Finding, AllocError>
+pub(crate) fn too_large(alloc: Global) -> Result<Finding, AllocError>
     ensures { IfOk result (λ f. (f.fault ≡ TooLarge) × (f.spot ≡ Text)) }
 {
     let note = String::from_str(
@@ -163,7 +163,11 @@ fn json_note(alloc: Global, error: &serde_json::Error) -> Result<String, AllocEr
 }
 
 /// Where a text is no JSON, as serde_json says it.
-fn find_no_json(alloc: Global, bytes: &[u8], fault: SigFault) -> Result<Finding, AllocError>
+pub(crate) fn find_no_json(
+    alloc: Global,
+    bytes: &[u8],
+    fault: SigFault,
+) -> Result<Finding, AllocError>
     ensures fault { IfOk result (λ f. f.fault ≡ fault) }
     ensures spot { IfOk result (λ f. IsJsonSpot f.spot) }
 {

@@ -1,22 +1,14 @@
 //! The options of a canvas's signatures that are read and ignored.
 
-ghost use Rattle.std.specs.Prelude.{◌≡◌, ◌≤◌, map, IfOk, OnOk, string_bytes};
+ghost use Rattle.std.specs.Prelude.{◌≡◌, map, IfOk, OnOk, string_bytes};
 ghost use Rattle.std.specs.List.{flat_map};
-ghost use Rattle.serde_json.specs.Data.{depth};
-ghost use Rattle.canvas_values.specs.CanvasText.{json_of};
 ghost use Rattle.canvas_values.specs.Fields.{object_members};
 ghost use Rattle.canvas_sig.specs.Datum.{view, seen};
 ghost use Rattle.canvas_finding.specs.Ignored.{is_callback, is_book, is_ignored, if_ignored};
-ghost use Rattle.canvas_finding.specs.Ignored.{ignored_in, ignored_of, ignored_at};
+ghost use Rattle.canvas_finding.specs.Ignored.{ignored_in};
 ghost use Rattle.canvas_finding.specs.Naming.{Adds};
-ghost use Rattle.canvas_finding.specs.Places.{shown};
 
-use crate::listing::{Place, places_of};
-use bumpalo::Bump;
-use canvas_sig::SigFault;
-use canvas_sig::parts::{Datum, MOST_LEVELS, parse};
-use canvas_task::Memory;
-use json::Scratch;
+use canvas_sig::parts::Datum;
 use std::alloc::{AllocError, Global};
 
 fn is_callback(name: &str) -> bool
@@ -109,57 +101,4 @@ pub(crate) fn ignored_in(alloc: Global, signature: &Datum<'_>) -> Result<Vec<Str
     let mut names = Vec::new(alloc);
     push_options(alloc, &mut names, signature)?;
     Ok(names)
-}
-
-fn push_places(
-    alloc: Global,
-    names: &mut Vec<String>,
-    places: &[Place<'_>],
-) -> Result<(), AllocError>
-    ensures { OnOk result (Adds (flat_map (λ s. ignored_in s.signature) (map shown places.now))
-        names.old.items names.new.items) }
-{
-    for place in places {
-        push_options(alloc, names, place.value)?;
-    }
-    Ok(())
-}
-
-fn names_in_value(alloc: Global, value: &Datum<'_>, left: u32) -> Result<Vec<String>, AllocError>
-    requires { depth (view value.now) ≤ left }
-    ensures { IfOk result
-        (λ names. map string_bytes names.items ≡ ignored_of (view value.now)) }
-{
-    let places = places_of(alloc, value, left)?;
-    let mut names = Vec::new(alloc);
-    push_places(alloc, &mut names, &places)?;
-    Ok(names)
-}
-
-fn names_parsed<'a>(
-    alloc: Global,
-    arena: &'a Bump,
-    scratch: &'a mut Scratch,
-    bytes: &'a [u8],
-) -> Result<Vec<String>, Memory>
-    ensures { IfOk result
-        (λ names. map string_bytes names.items ≡ ignored_at (json_of bytes.entry.now)) }
-{
-    match parse(alloc, arena, scratch, bytes) {
-        Ok(value) => Ok(names_in_value(alloc, &value, MOST_LEVELS)?),
-        Err(SigFault::Memory) => Err(Memory),
-        Err(_) => Ok(Vec::new(alloc)),
-    }
-}
-
-/// The names of the options that are read and ignored, signature by signature in file order, and of
-/// one signature in the order of their bytes: all but callbacks, those that Celery writes for its
-/// own books, and those that are null. A text that is no JSON has none.
-pub fn ignored_options(alloc: Global, bytes: &[u8]) -> Result<Vec<String>, Memory>
-    ensures { IfOk result
-        (λ names. map string_bytes names.items ≡ ignored_at (json_of bytes.now)) }
-{
-    let arena = Bump::new(alloc);
-    let mut scratch = Scratch::new(alloc);
-    names_parsed(alloc, &arena, &mut scratch, bytes)
 }

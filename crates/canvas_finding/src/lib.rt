@@ -14,14 +14,15 @@ mod keywords;
 mod limits;
 mod listing;
 mod notes;
+mod reading;
 mod shown;
 mod signature;
 mod step;
 
 pub use finding::{Finding, Spot, find};
-pub use ignored::ignored_options;
+pub use reading::{Reading, read};
 pub use shown::shown_name;
-pub use signature::{Signature, signatures_of};
+pub use signature::Signature;
 pub use step::{Field, Step, pointer_text};
 
 /// The refusal of the first signature that is refused for itself, in file order, is the one that

@@ -5,7 +5,7 @@ ghost use Rattle.serde_json.specs.Data.{depth};
 ghost use Rattle.canvas_sig.specs.Datum.{view};
 ghost use Rattle.canvas_finding.specs.FileOrder.{signatures};
 ghost use Rattle.canvas_finding.specs.Places.{shown};
-ghost use Rattle.canvas_finding.specs.Signed.{listed, sighted, AreSignatures};
+ghost use Rattle.canvas_finding.specs.Signed.{listed, sighted};
 
 use crate::finding::name_in;
 use crate::ignored::ignored_in;
@@ -13,11 +13,7 @@ use crate::keywords::is_unstarted;
 use crate::limits::leads_to_header_group;
 use crate::listing::{Place, places_of};
 use crate::step::Step;
-use bumpalo::Bump;
-use canvas_sig::SigFault;
-use canvas_sig::parts::{Datum, MOST_LEVELS, parse};
-use canvas_task::Memory;
-use json::Scratch;
+use canvas_sig::parts::Datum;
 use std::alloc::{AllocError, Global};
 
 /// A signature of a text.
@@ -63,35 +59,15 @@ fn signatures_at(alloc: Global, places: Vec<Place<'_>>) -> Result<Vec<Signature>
     Ok(found)
 }
 
-fn signatures_in(alloc: Global, value: &Datum<'_>, left: u32) -> Result<Vec<Signature>, AllocError>
+/// The signatures of a value, in file order.
+pub(crate) fn signatures_in(
+    alloc: Global,
+    value: &Datum<'_>,
+    left: u32,
+) -> Result<Vec<Signature>, AllocError>
     requires { depth (view value.now) ≤ left }
     ensures { IfOk result (λ found.
         map listed found.items ≡ map sighted (signatures (view value.now))) }
 {
     signatures_at(alloc, places_of(alloc, value, left)?)
-}
-
-fn signatures_parsed<'a>(
-    alloc: Global,
-    arena: &'a Bump,
-    scratch: &'a mut Scratch,
-    bytes: &'a [u8],
-) -> Result<Vec<Signature>, Memory>
-    ensures { IfOk result (λ found. AreSignatures bytes.entry.now found.items) }
-{
-    match parse(alloc, arena, scratch, bytes) {
-        Ok(value) => Ok(signatures_in(alloc, &value, MOST_LEVELS)?),
-        Err(SigFault::Memory) => Err(Memory),
-        Err(_) => Ok(Vec::new(alloc)),
-    }
-}
-
-/// The signatures of a text in file order: a signature before those in it, a header before its
-/// body, and links before error callbacks. Of a text that is no JSON there are none.
-pub fn signatures_of(alloc: Global, bytes: &[u8]) -> Result<Vec<Signature>, Memory>
-    ensures { IfOk result (λ found. AreSignatures bytes.now found.items) }
-{
-    let arena = Bump::new(alloc);
-    let mut scratch = Scratch::new(alloc);
-    signatures_parsed(alloc, &arena, &mut scratch, bytes)
 }

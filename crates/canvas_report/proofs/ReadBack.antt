@@ -24,8 +24,8 @@ use Rattle.canvas_semantics.specs.Tree.{Tree, ends_in_group}
 use Rattle.canvas_report.specs.Fates.{Fates, fate_at}
 use Rattle.canvas_report.specs.declared.fate.Fate.{Fate}
 use Rattle.canvas_report.specs.declared.fate.Fate.TheVariants.{Ran, Skipped, Idle}
-use Rattle.canvas_report.specs.JsonRows.{Shown, shown, fault_wire, state_wire, due_wire, ran_wire, parameter_wire, row_wire, items_wire, end_wire, json_lines, parameter_of, report_wire}
-use Rattle.canvas_report.specs.ReadLines.{ReadsAs, IsTyped, AreTyped}
+use Rattle.canvas_report.specs.JsonRows.{Shown, shown, fault_wire, state_wire, due_wire, ran_wire, parameter_wire, row_wire, items_wire, results_wire, identifiers_wire, count_wire, member_if, end_wire, json_lines, parameter_of, report_wire}
+use Rattle.canvas_report.specs.ReadLines.{ReadsAs, IsTyped, AreTyped, IsTypedCount}
 
 -- ---- no JSON text has a line feed
 
@@ -272,10 +272,29 @@ module _ (at : ℕ → Shown) (clean : (k : ℕ) → IsClean (at k).result × (d
   items_good [] = (tt, omega arith)
   items_good (k ∷ ks) = (((clean k).0, (items_good ks).0), omega (arith, (clean k).1, (items_good ks).1))
 
-  end_good : (several : Bool) (ks : List ℕ) → IsGood (end_wire several (map at ks))
-  end_good true ks = ((tt, (items_good ks).0, ((refl, tt), tt, tt)), omega (arith, (items_good ks).1))
-  end_good false [] = ((tt, tt, ((refl, tt), tt, tt)), omega arith)
-  end_good false (k ∷ ks) = ((tt, (clean k).0, ((refl, tt), tt, tt)), omega (arith, (clean k).1))
+  identifiers_good : (ks : List ℕ) → AreClean (identifiers_wire ks) × (items_depth (identifiers_wire ks) ≡ 0)
+  identifiers_good [] = (tt, refl)
+  identifiers_good (k ∷ ks) = ((tt, (identifiers_good ks).0), omega (arith, (identifiers_good ks).1))
+
+  results_good : (several : Bool) (ks : List ℕ)
+      → IsClean (results_wire several (map (λ e. e.result) (map at ks))) × (depth (results_wire several (map (λ e. e.result) (map at ks))) ≤ 3)
+  results_good true ks = ((items_good ks).0, omega (arith, (items_good ks).1))
+  results_good false [] = (tt, omega arith)
+  results_good false (k ∷ ks) = ((clean k).0, omega (arith, (clean k).1))
+
+  end_good : (again : Option ℕ) → IsTypedCount again → (several : Bool) (ks : List ℕ) → IsGood (end_wire again several ks (map at ks))
+  end_good None typed several ks =
+      let ids = identifiers_good ks in
+      let its = results_good several ks in (
+        (tt, ids.0, ((refl, tt), its.0, ((refl, (refl, tt)), tt, tt))),
+        omega (arith, ids.1, its.1),
+      )
+  end_good (Some n) typed several ks =
+      let ids = identifiers_good ks in
+      let its = results_good several ks in (
+        (tt, omega (arith, typed), ((refl, tt), ids.0, ((refl, (refl, tt)), its.0, ((refl, (refl, (refl, tt))), tt, tt)))),
+        omega (arith, ids.1, its.1),
+      )
 
   all_good : (fate : ℕ → Option Fate) (parameter : ℕ → Option (Option Text)) (ts : List (ℕ × Text)) (last : Data) → IsGood last
       → AreGood (map (λ t. row_wire (fate t.0) (parameter t.0) t (at t.0)) ts ++ last ∷ [])
@@ -283,18 +302,18 @@ module _ (at : ℕ → Shown) (clean : (k : ℕ) → IsClean (at k).result × (d
   all_good fate parameter (t ∷ ts) last h =
       (row_good (fate t.0) (parameter t.0) t (at t.0) (clean t.0).0 (clean t.0).1, all_good fate parameter ts last h)
 
-report_back : (fates : Fates) (blamed : List (ℕ × Option (String Global))) (c : Tree) (rows : Rows) → AreTyped rows
-    → ReadsAs (json_lines (report_wire fates blamed c rows)) (report_wire fates blamed c rows)
-report_back fates blamed c rows typed =
+report_back : (fates : Fates) (blamed : List (ℕ × Option (String Global))) (again : Option ℕ) (c : Tree) (rows : Rows) → AreTyped rows → IsTypedCount again
+    → ReadsAs (json_lines (report_wire fates blamed again c rows)) (report_wire fates blamed again c rows)
+report_back fates blamed again c rows typed counted =
     let clean : (k : ℕ) → IsClean (state_wire (state_of k rows)) × (depth (state_wire (state_of k rows)) ≤ 2) = λ k. state_clean (state_of k rows) (typed k) in
-    lines_back (report_wire fates blamed c rows)
+    lines_back (report_wire fates blamed again c rows)
     (all_good (λ k. shown (state_of k rows)) clean (fate_at fates) (parameter_of blamed) (names_by_number c)
-    (end_wire (ends_in_group c) (map (λ k. shown (state_of k rows)) (ends c)))
-    (end_good (λ k. shown (state_of k rows)) clean (ends_in_group c) (ends c)))
+    (end_wire again (ends_in_group c) (ends c) (map (λ k. shown (state_of k rows)) (ends c)))
+    (end_good (λ k. shown (state_of k rows)) clean again counted (ends_in_group c) (ends c)))
 
-pub read_back : {E : Type 0} (r : Result (String Global) E) (fates : Fates) (blamed : List (ℕ × Option (String Global))) (c : Tree) (rows : Rows)
-    → IfOk r (λ text. string_bytes text ≡ json_lines (report_wire fates blamed c rows)) → AreTyped rows
-    → IfOk r (λ text. ReadsAs (string_bytes text) (report_wire fates blamed c rows))
-read_back (Ok text) fates blamed c rows is typed =
-    subst (λ x. ReadsAs x (report_wire fates blamed c rows)) (sym is) (report_back fates blamed c rows typed)
-read_back (Err e) fates blamed c rows is typed = tt
+pub read_back : {E : Type 0} (r : Result (String Global) E) (fates : Fates) (blamed : List (ℕ × Option (String Global))) (again : Option ℕ) (c : Tree) (rows : Rows)
+    → IfOk r (λ text. string_bytes text ≡ json_lines (report_wire fates blamed again c rows)) → AreTyped rows → IsTypedCount again
+    → IfOk r (λ text. ReadsAs (string_bytes text) (report_wire fates blamed again c rows))
+read_back (Ok text) fates blamed again c rows is typed counted =
+    subst (λ x. ReadsAs x (report_wire fates blamed again c rows)) (sym is) (report_back fates blamed again c rows typed counted)
+read_back (Err e) fates blamed again c rows is typed counted = tt

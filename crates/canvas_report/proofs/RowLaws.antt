@@ -1,10 +1,11 @@
 -- The rows, as they are written piece by piece, are the JSON that is told.
-use Rattle.std.proofs.Common.{◌≡◌, ◌∙◌, ℕ, Bool, true, false, List, [], ◌∷◌, ◌++◌, map, Option, Some, None, String, Global, string_bytes, refl, sym, ap, subst, append_assoc, append-nil}
-use Rattle.std.specs.Prelude.{codes, option_map}
+use Rattle.std.proofs.Common.{◌≡◌, ◌∙◌, ◌+◌, ◌<◌, ℕ, Bool, true, false, List, [], ◌∷◌, ◌++◌, drop, get_or, length, map, Option, Some, None, String, Global, string_bytes, refl, sym, ap, subst, append_assoc, append-nil}
+use Rattle.std.specs.Prelude.{codes, decimal, option_map}
 use Rattle.json.specs.Print.{quoted}
 use Rattle.serde_json.proofs.OnLiterals.{serde_json_on_literals}
-use Rattle.serde_json.specs.Data.{Data, string, Members, no_members, member}
+use Rattle.serde_json.specs.Data.{Data, string, array, Members, no_members, member}
 use Rattle.serde_json.specs.Written.{comma_if, compact_text, items_text, members_text}
+use Rattle.canvas_task.proofs.Turns.{item_first}
 use Rattle.canvas_task.specs.Text.{Text}
 use Rattle.canvas_task.specs.Identifiers.{task_text}
 use Rattle.canvas_task.specs.Printed.{kind_name, why_name}
@@ -26,10 +27,10 @@ use Rattle.canvas_report.specs.declared.fate.Fate.{Fate}
 use Rattle.canvas_report.specs.declared.fate.Fate.TheVariants.{Ran, Skipped, Idle}
 use Rattle.canvas_report.specs.declared.shown.Status.{Status}
 use Rattle.canvas_report.specs.declared.shown.Status.TheVariants.{Pending, Success, Failure}
-use Rattle.canvas_report.specs.JsonRows.{raised_wire, blamed_wire, fault_wire, state_wire, status_name, status_of_all, Shown, shown, member_if, due_wire, ran_wire, parameter_wire, row_wire, items_wire, end_wire, json_lines, parameter_of, rows_wire, report_wire}
+use Rattle.canvas_report.specs.JsonRows.{raised_wire, blamed_wire, fault_wire, state_wire, status_name, status_of_all, Shown, shown, member_if, due_wire, ran_wire, parameter_wire, row_wire, items_wire, results_wire, identifiers_wire, count_wire, end_wire, json_lines, parameter_of, rows_wire, report_wire}
 use Rattle.canvas_report.specs.StoredRows.{row_of, row_status, Shows, AllShow}
 use Rattle.canvas_report.specs.Listing.{lines}
-use Rattle.canvas_report.specs.steps.RowTexts.{statuses, raised_text, blamed_text, fault_json, state_json, result_json, due_text, ran_text, parameter_text, row_text, row_line, listed_json, end_text}
+use Rattle.canvas_report.specs.steps.RowTexts.{statuses, raised_text, blamed_text, fault_json, state_json, result_json, due_text, ran_text, parameter_text, row_text, row_line, listed_json, again_text, identifiers_json, end_front, end_back, end_text}
 use Rattle.canvas_report.proofs.RowLines.{row_state}
 
 -- ---- results
@@ -214,26 +215,88 @@ module _ (rows : List Row) (at : ℕ → Shown) (all : AllShow rows at) where
   one_around : (a r m n e z : Text) → (a ++ r) ++ ((m ++ n) ++ (e ++ z)) ≡ (a ++ (r ++ (m ++ (n ++ e)))) ++ z
   one_around a r m n e z = simp append_assoc
 
-  end_written : (several : Bool) (ks : List ℕ) → end_text several rows ks ≡ compact_text (end_wire several (map at ks)) ++ codes "\n"
+  -- the members from the result on
+  abbrev end_members : Bool → List ℕ → Members
+  end_members several ks =
+      member (codes "result") (results_wire several (map (λ e. e.result) (map at ks)))
+      (member (codes "status") (string (status_name (status_of_all (map (λ e. e.status) (map at ks))))) no_members)
+
+  back_written : (several : Bool) (ks : List ℕ) → end_back several rows ks ≡ members_text false (end_members several ks) ++ codes "\n"
   unfolding serde_json_on_literals
-  end_written true ks =
+  back_written true ks =
       let status = status_of_all (map (λ e. e.status) (map at ks)) in
       let results : Text = items_text false (items_wire (map (λ e. e.result) (map at ks))) in
-      let front : Text = (codes "{\"result\":[" ++ listed_json false rows ks) ++ codes "]" in
+      let front : Text = (codes "\"result\":[" ++ listed_json false rows ks) ++ codes "]" in
       let end : Text = codes ",\"status\":\"" ++ (status_name status ++ codes "\"}") in
       ap (λ x. front ++ ((codes ",\"status\":\"" ++ status_name (status_of_all x)) ++ codes "\"}\n")) (statuses_are ks)
-      ∙ list_around (codes "{\"result\":[") (listed_json false rows ks) (codes "]") (codes ",\"status\":\"") (status_name status) (codes "\"}") (codes "\n")
-      ∙ ap (λ x. (codes "{\"result\":[" ++ (x ++ end)) ++ codes "\n") (listed_written false ks)
-      ∙ ap (λ x. (codes "{\"result\":[" ++ (results ++ x)) ++ codes "\n") (sym (status_member status no_members))
-  end_written false [] = refl
-  end_written false (k ∷ ks) =
+      ∙ list_around (codes "\"result\":[") (listed_json false rows ks) (codes "]") (codes ",\"status\":\"") (status_name status) (codes "\"}") (codes "\n")
+      ∙ ap (λ x. (codes "\"result\":[" ++ (x ++ end)) ++ codes "\n") (listed_written false ks)
+      ∙ ap (λ x. (codes "\"result\":[" ++ (results ++ x)) ++ codes "\n") (sym (status_member status no_members))
+  back_written false [] = refl
+  back_written false (k ∷ ks) =
       let status = status_of_all (map (λ e. e.status) (map at (k ∷ ks))) in
-      let front : Text = codes "{\"result\":" ++ result_json (row_of rows k) in
+      let front : Text = codes "\"result\":" ++ result_json (row_of rows k) in
       let end : Text = codes ",\"status\":\"" ++ (status_name status ++ codes "\"}") in
       ap (λ x. front ++ ((codes ",\"status\":\"" ++ status_name (status_of_all x)) ++ codes "\"}\n")) (statuses_are (k ∷ ks))
-      ∙ one_around (codes "{\"result\":") (result_json (row_of rows k)) (codes ",\"status\":\"") (status_name status) (codes "\"}") (codes "\n")
-      ∙ ap (λ x. (codes "{\"result\":" ++ (x ++ end)) ++ codes "\n") (result_at k)
-      ∙ ap (λ x. (codes "{\"result\":" ++ (compact_text (at k).result ++ x)) ++ codes "\n") (sym (status_member status no_members))
+      ∙ one_around (codes "\"result\":") (result_json (row_of rows k)) (codes ",\"status\":\"") (status_name status) (codes "\"}") (codes "\n")
+      ∙ ap (λ x. (codes "\"result\":" ++ (x ++ end)) ++ codes "\n") (result_at k)
+      ∙ ap (λ x. (codes "\"result\":" ++ (compact_text (at k).result ++ x)) ++ codes "\n") (sym (status_member status no_members))
+
+  identifiers_written : (later : Bool) (ks : List ℕ) → identifiers_json later ks ++ codes "]" ≡ items_text later (identifiers_wire ks)
+  identifiers_written later [] = refl
+  identifiers_written later (k ∷ ks) =
+      around (comma_if later) (codes "\"") (task_text k) (codes "\"") (identifiers_json true ks) (codes "]")
+      ∙ ap (λ x. comma_if later ++ (x ++ (identifiers_json true ks ++ codes "]"))) (sym (identifier k))
+      ∙ ap (λ x. comma_if later ++ (quoted (task_text k) ++ x)) (identifiers_written true ks)
+    where
+      around : (c q t r l e : Text) → (c ++ (((q ++ t) ++ r) ++ l)) ++ e ≡ c ++ ((q ++ (t ++ r)) ++ (l ++ e))
+      around c q t r l e = simp append_assoc
+
+  again_member : (again : Option ℕ) (ms : Members) → IsFurther ms
+      → members_text false (member_if (codes "again") (option_map count_wire again) ms) ≡ again_text again ++ members_text false ms
+  unfolding serde_json_on_literals
+  again_member None ms h = refl
+  again_member (Some n) ms h =
+      ap (λ x. codes "\"again\":" ++ (decimal n ++ x)) h
+      ∙ ap (λ x. codes "\"again\":" ++ x) (sym (append_assoc (decimal n) (codes ",") (members_text false ms)))
+
+  ends_member : (ks : List ℕ) (ms : Members) → IsFurther ms
+      → members_text false (member (codes "ends") (array (identifiers_wire ks)) ms)
+      ≡ codes "\"ends\":[" ++ (items_text false (identifiers_wire ks) ++ (codes "," ++ members_text false ms))
+  unfolding serde_json_on_literals
+  ends_member ks ms h = ap (λ x. codes "\"ends\":[" ++ (items_text false (identifiers_wire ks) ++ x)) h
+
+  front_around : (a o i b c m n : Text) → (((a ++ o) ++ i) ++ (b ++ c)) ++ (m ++ n) ≡ (a ++ (o ++ ((i ++ b) ++ (c ++ m)))) ++ n
+  front_around a o i b c m n = simp append_assoc
+
+  end_written : (again : Option ℕ) (several : Bool) (ks : List ℕ)
+      → end_text again several rows ks ≡ compact_text (end_wire again several ks (map at ks)) ++ codes "\n"
+  unfolding serde_json_on_literals
+  end_written again several ks =
+      let rest : Members = end_members several ks in
+      let its : Members = member (codes "ends") (array (identifiers_wire ks)) rest in
+      let opened : Text = codes "{" ++ again_text again in
+      ap (λ x. end_front again ks ++ x) (back_written several ks)
+      ∙ front_around opened (codes "\"ends\":[") (identifiers_json false ks) (codes "]") (codes ",") (members_text false rest) (codes "\n")
+      ∙ ap (λ x. (opened ++ (codes "\"ends\":[" ++ (x ++ (codes "," ++ members_text false rest)))) ++ codes "\n") (identifiers_written false ks)
+      ∙ ap (λ x. (opened ++ x) ++ codes "\n") (sym (ends_member ks rest refl))
+      ∙ ap (λ x. x ++ codes "\n") (append_assoc (codes "{") (again_text again) (members_text false its))
+      ∙ ap (λ x. (codes "{" ++ x) ++ codes "\n") (sym (again_member again its refl))
+
+-- one more identifier is written
+pub identifiers_on : (ks : List ℕ) (i k : ℕ) (later : Bool) (t0 t1 t2 all : Text) → i < length ks → k ≡ get_or ks i k → t1 ≡ t0 ++ comma_if later
+    → t2 ≡ t1 ++ (codes "\"" ++ task_text k ++ codes "\"") → t0 ++ identifiers_json later (drop i ks) ≡ all
+    → t2 ++ identifiers_json true (drop (i + 1) ks) ≡ all
+identifiers_on ks i k later t0 t1 t2 all inside is comma written so_far =
+    let rest : Text = identifiers_json true (drop (i + 1) ks) in
+    let own : Text = codes "\"" ++ task_text k ++ codes "\"" in
+    ap (λ x. x ++ rest) (written ∙ ap (λ x. x ++ own) comma)
+    ∙ around t0 (comma_if later) own rest
+    ∙ ap (λ xs. t0 ++ identifiers_json later xs) (sym (item_first ks i k inside is))
+    ∙ so_far
+  where
+    around : (t c o r : Text) → ((t ++ c) ++ o) ++ r ≡ t ++ (c ++ (o ++ r))
+    around t c o r = simp append_assoc
 
 -- ---- all of them
 
@@ -245,29 +308,30 @@ lines_written f g same (t ∷ ts) more =
     append_assoc (f t) (lines f ts) (json_lines more) ∙ ap (λ x. x ++ (lines f ts ++ json_lines more)) (same t)
     ∙ ap (λ x. (compact_text (g t) ++ codes "\n") ++ x) (lines_written f g same ts more)
 
-pub rows_written : (fates : Fates) (parameter : ℕ → Option (Option Text)) (c : Tree) (rows : List Row) (at : ℕ → Shown) → AllShow rows at
-    → lines (row_line fates parameter rows) (names_by_number c) ++ end_text (ends_in_group c) rows (ends c)
-    ≡ json_lines (rows_wire (fate_at fates) parameter at c)
-rows_written fates parameter c rows at all =
-    ap (λ x. lines (row_line fates parameter rows) (names_by_number c) ++ x) (end_written rows at all (ends_in_group c) (ends c) ∙ sym (append-nil _))
+pub rows_written : (fates : Fates) (parameter : ℕ → Option (Option Text)) (again : Option ℕ) (c : Tree) (rows : List Row) (at : ℕ → Shown)
+    → AllShow rows at → lines (row_line fates parameter rows) (names_by_number c) ++ end_text again (ends_in_group c) rows (ends c)
+    ≡ json_lines (rows_wire (fate_at fates) parameter again at c)
+rows_written fates parameter again c rows at all =
+    ap (λ x. lines (row_line fates parameter rows) (names_by_number c) ++ x)
+    (end_written rows at all again (ends_in_group c) (ends c) ∙ sym (append-nil _))
     ∙ lines_written (row_line fates parameter rows) (λ t. row_wire (fate_at fates t.0) (parameter t.0) t (at t.0))
     (λ t. row_written (fate_at fates t.0) (parameter t.0) t (row_of rows t.0) (at t.0) (all t.0)) (names_by_number c)
-    (end_wire (ends_in_group c) (map at (ends c)) ∷ [])
+    (end_wire again (ends_in_group c) (ends c) (map at (ends c)) ∷ [])
 
 -- of a run
-pub report_written : (fates : Fates) (blamed : List (ℕ × Option (String Global))) (c : Tree) (ss : List State) (rows : List Row)
+pub report_written : (fates : Fates) (blamed : List (ℕ × Option (String Global))) (again : Option ℕ) (c : Tree) (ss : List State) (rows : List Row)
     → rows ≡ map (λ s. row.Known s) ss
-    → lines (row_line fates (parameter_of blamed) rows) (names_by_number c) ++ end_text (ends_in_group c) rows (ends c)
-    ≡ json_lines (report_wire fates blamed c (rows_from 1 ss))
-report_written fates blamed c ss rows same =
-    rows_written fates (parameter_of blamed) c rows (λ k. shown (state_of k (rows_from 1 ss)))
+    → lines (row_line fates (parameter_of blamed) rows) (names_by_number c) ++ end_text again (ends_in_group c) rows (ends c)
+    ≡ json_lines (report_wire fates blamed again c (rows_from 1 ss))
+report_written fates blamed again c ss rows same =
+    rows_written fates (parameter_of blamed) again c rows (λ k. shown (state_of k (rows_from 1 ss)))
     (λ k. subst (λ r. Shows r (shown (state_of k (rows_from 1 ss)))) (sym (ap (λ rs. row_of rs k) same ∙ row_state ss k)) refl)
 
 -- the lines, and then the result
-pub whole : (l : Line) (rows : List Row) (several : Bool) (ks : List ℕ) (t0 t1 t2 ls : Text) → t0 ≡ [] → t1 ≡ t0 ++ ls → ks ≡ ends_of l → several ≡ in_group l
-    → t2 ≡ t1 ++ end_text several rows ks
-    → t2 ≡ ls ++ end_text (ends_in_group (tree_of l)) rows (ends (tree_of l))
-whole l rows several ks t0 t1 t2 ls e0 e1 are is e2 =
-    e2 ∙ ap (λ x. x ++ end_text several rows ks) (e1 ∙ ap (λ x. x ++ ls) e0)
-    ∙ ap (λ b. ls ++ end_text b rows ks) (is ∙ in_group_tree l)
-    ∙ ap (λ es. ls ++ end_text (ends_in_group (tree_of l)) rows es) (are ∙ ends_of_tree l)
+pub whole : (l : Line) (rows : List Row) (again : Option ℕ) (several : Bool) (ks : List ℕ) (t0 t1 t2 ls : Text) → t0 ≡ [] → t1 ≡ t0 ++ ls → ks ≡ ends_of l → several ≡ in_group l
+    → t2 ≡ t1 ++ end_text again several rows ks
+    → t2 ≡ ls ++ end_text again (ends_in_group (tree_of l)) rows (ends (tree_of l))
+whole l rows again several ks t0 t1 t2 ls e0 e1 are is e2 =
+    e2 ∙ ap (λ x. x ++ end_text again several rows ks) (e1 ∙ ap (λ x. x ++ ls) e0)
+    ∙ ap (λ b. ls ++ end_text again b rows ks) (is ∙ in_group_tree l)
+    ∙ ap (λ es. ls ++ end_text again (ends_in_group (tree_of l)) rows es) (are ∙ ends_of_tree l)

@@ -32,10 +32,12 @@ of_a_halted_run : compact_text (row_wire None None (3, codes "\"") (shown None))
 unfolding serde_json_on_literals digits by_index
 of_a_halted_run = refl
 
-of_a_group : compact_text (end_wire true (shown (Some (Success (pos 3))) ∷ shown None ∷ [])) ≡ codes "{\"result\":[3,null],\"status\":\"PENDING\"}"
-unfolding serde_json_on_literals digits
+of_a_group : compact_text (end_wire (Some 2) true (1 ∷ 2 ∷ []) (shown (Some (Success (pos 3))) ∷ shown None ∷ []))
+    ≡ codes "{\"again\":2,\"ends\":[\"00000000-0000-8000-8000-000000000001\",\"00000000-0000-8000-8000-000000000002\"],\"result\":[3,null],\"status\":\"PENDING\"}"
+unfolding serde_json_on_literals digits by_index
 of_a_group = refl
 
-of_a_task : compact_text (end_wire false (shown (Some (Success (pos 12))) ∷ [])) ≡ codes "{\"result\":12,\"status\":\"SUCCESS\"}"
-unfolding serde_json_on_literals digits
+of_a_task : compact_text (end_wire None false (4 ∷ []) (shown (Some (Success (pos 12))) ∷ []))
+    ≡ codes "{\"ends\":[\"00000000-0000-8000-8000-000000000004\"],\"result\":12,\"status\":\"SUCCESS\"}"
+unfolding serde_json_on_literals digits by_index
 of_a_task = refl

@@ -2,7 +2,7 @@
 -- numbers, and one for the result. States are named as Celery names them (celery/states.py), and
 -- an exception is an object as Celery's result backends store one (celery/backends/base.py,
 -- `prepare_exception`). Members stand in the byte order of their names.
-use Rattle.std.specs.Prelude.{ℕ, ◌==◌, if◌then◌else◌, Bool, true, false, List, [], ◌∷◌, ◌++◌, map, Option, Some, None, String, string_bytes, codes}
+use Rattle.std.specs.Prelude.{ℕ, pos, ◌==◌, if◌then◌else◌, Bool, true, false, List, [], ◌∷◌, ◌++◌, map, Option, Some, None, String, string_bytes, codes}
 use Rattle.std.specs.Option.{option_map}
 use Rattle.std.specs.declared.alloc.Global.{Global}
 use Rattle.serde_json.specs.Data.{Data, null, boolean, string, array, object, Items, no_items, item, Members, no_members, member}
@@ -127,21 +127,32 @@ results_wire true ds = array (items_wire ds)
 results_wire false [] = null
 results_wire false (d ∷ ds) = d
 
-abbrev pub end_wire : Bool → List Shown → Data
-end_wire is_group es =
-    object (member (codes "result") (results_wire is_group (map (λ e. e.result) es))
+abbrev pub identifiers_wire : List ℕ → Items
+identifiers_wire [] = no_items
+identifiers_wire (k ∷ ks) = item (string (task_text k)) (identifiers_wire ks)
+
+-- how many stores answered Again
+abbrev pub count_wire : ℕ → Data
+count_wire n = number_wire (pos n)
+
+-- with the tasks that it ends in
+abbrev pub end_wire : Option ℕ → Bool → List ℕ → List Shown → Data
+end_wire again is_group ks es =
+    object (member_if (codes "again") (option_map count_wire again)
+    (member (codes "ends") (array (identifiers_wire ks))
+    (member (codes "result") (results_wire is_group (map (λ e. e.result) es))
     (member (codes "status")
-    (string (status_name (status_of_all (map (λ e. e.status) es)))) no_members))
+    (string (status_name (status_of_all (map (λ e. e.status) es)))) no_members))))
 
 -- ---- all of them
 
 -- What is told of each task's call (`due_to`, `ran`), of the parameter at fault (`parameter`), and
--- of its state, by its number.
-abbrev pub rows_wire : (ℕ → Option Fate) → (ℕ → Option (Option Text)) → (ℕ → Shown) → Tree
-    → List Data
-rows_wire fate parameter s c =
+-- of its state, by its number; and of the whole run, how many stores answered Again (`again`).
+abbrev pub rows_wire : (ℕ → Option Fate) → (ℕ → Option (Option Text)) → (again : Option ℕ)
+    → (ℕ → Shown) → Tree → List Data
+rows_wire fate parameter again s c =
     map (λ t. row_wire (fate t.0) (parameter t.0) t (s t.0)) (names_by_number c)
-    ++ end_wire (ends_in_group c) (map s (ends c)) ∷ []
+    ++ end_wire again (ends_in_group c) (ends c) (map s (ends c)) ∷ []
 
 -- each ends with a line feed
 abbrev pub json_lines : List Data → Text
@@ -156,6 +167,7 @@ parameter_of [] k = None
 parameter_of (e ∷ es) k =
     if e.0 == k then Some (option_map (λ name. string_bytes name) e.1) else parameter_of es k
 
-abbrev pub report_wire : Fates → List (ℕ × Option (String Global)) → Tree → Rows → List Data
-report_wire fates blamed c rows =
-    rows_wire (fate_at fates) (parameter_of blamed) (λ k. shown (state_of k rows)) c
+abbrev pub report_wire : Fates → List (ℕ × Option (String Global)) → (again : Option ℕ) → Tree
+    → Rows → List Data
+report_wire fates blamed again c rows =
+    rows_wire (fate_at fates) (parameter_of blamed) again (λ k. shown (state_of k rows)) c

@@ -26,3 +26,8 @@ IsTyped (Some (Failure f)) = Unit {0}
 
 abbrev pub AreTyped : Rows → Type 0
 AreTyped rows = (k : ℕ) → IsTyped (state_of k rows)
+
+-- a count of 64 bits, as each is by its type
+abbrev pub IsTypedCount : Option ℕ → Type 0
+IsTypedCount None = Unit {0}
+IsTypedCount (Some n) = n < 2 ^ 64

@@ -69,3 +69,11 @@ said_at n rows k = value_said n (row_of rows k)
 
 abbrev pub report_said : Naming → Fates → List Row → Tree → Text
 report_said n fates rows c = report_by (row_said n fates rows) (said_at n rows) c
+
+-- as `stored_text` writes it
+abbrev pub stored_said : List Row → Tree → Text
+stored_said rows c = report_said Identifier [] rows c
+
+-- as `explained_text` does
+abbrev pub explained_said : Fates → List Row → Tree → Text
+explained_said fates rows c = report_said Number fates rows c

@@ -13,11 +13,11 @@ ghost use Rattle.canvas_semantics.specs.States.{rows_from};
 ghost use Rattle.canvas_semantics.specs.Tree.{ends_in_group};
 ghost use Rattle.canvas_report.specs.Fates.{fate_at};
 ghost use Rattle.canvas_report.specs.JsonRows.{Shown, parameter_of, status_of_all, json_lines, rows_wire, report_wire};
-ghost use Rattle.canvas_report.specs.ReadLines.{ReadsAs, AreTyped};
+ghost use Rattle.canvas_report.specs.ReadLines.{ReadsAs, AreTyped, IsTypedCount};
 ghost use Rattle.canvas_report.specs.StoredRows.{row_of, AllShow};
 ghost use Rattle.canvas_report.specs.steps.ReportRows.{line_if};
 ghost use Rattle.canvas_report.specs.Listing.{lines};
-ghost use Rattle.canvas_report.specs.steps.RowTexts.{statuses, raised_text, blamed_text, fault_json, state_json, result_json, due_text, ran_text, parameter_json, parameter_text, front_text, shown_text, row_line, listed_json, status_text, end_text};
+ghost use Rattle.canvas_report.specs.steps.RowTexts.{statuses, raised_text, blamed_text, fault_json, state_json, result_json, due_text, ran_text, parameter_json, parameter_text, front_text, shown_text, row_line, listed_json, status_text, again_text, identifiers_json, end_front, end_back, end_text, stored_lines};
 
 use crate::fate::{Fate, fate_in};
 use crate::json_text::quoted_json;
@@ -196,6 +196,8 @@ pub struct Told<'a> {
     pub fates: &'a [(TaskNo, Fate)],
     /// Tasks whose call was a TypeError, each with the parameter that is at fault, if it is one.
     pub blamed: &'a [(TaskNo, Option<String>)],
+    /// How many stores of the run answered Again, where that is asked for.
+    pub again: Option<u64>,
 }
 
 /// The members of a row in front of its result.
@@ -344,6 +346,53 @@ fn push_status(text: &mut String, rows: &[Row], tasks: &[TaskNo]) -> Result<(), 
     put(text, "\"}\n")
 }
 
+/// Adds how many stores answered Again, where that is told.
+fn push_again(text: &mut String, again: Option<u64>) -> Result<(), AllocError>
+    ensures { OnOk result (string_bytes text.new ≡ string_bytes text.old ++ again_text again) }
+{
+    match again {
+        None => Ok(()),
+        Some(count) => {
+            write!(text, "\"again\":{count},")?;
+            Ok(())
+        }
+    }
+}
+
+fn push_end_task(text: &mut String, task: TaskNo) -> Result<(), AllocError>
+    ensures { OnOk result (string_bytes text.new
+        ≡ string_bytes text.old ++ (codes "\"" ++ task_text task ++ codes "\"")) }
+{
+    write!(text, "\"{task}\"")?;
+    Ok(())
+}
+
+/// The identifiers of the tasks that the canvas ends in.
+fn push_end_tasks(text: &mut String, tasks: &[TaskNo]) -> Result<(), AllocError>
+    ensures { OnOk result (string_bytes text.new
+        ≡ string_bytes text.old ++ identifiers_json false tasks.now) }
+{
+    let mut later = false;
+    for task in tasks {
+        push_comma(text, later)?;
+        push_end_task(text, *task)?;
+        later = true;
+    }
+    Ok(())
+}
+
+/// The members in front of the canvas's result.
+fn push_end_front(text: &mut String, again: Option<u64>, tasks: &[TaskNo]) -> Result<(), AllocError>
+    ensures { OnOk result (string_bytes text.new
+        ≡ string_bytes text.old ++ end_front again tasks.now) }
+{
+    put(text, "{")?;
+    push_again(text, again)?;
+    put(text, "\"ends\":[")?;
+    push_end_tasks(text, tasks)?;
+    put(text, "],")
+}
+
 /// The result of a group.
 fn push_list(
     text: &mut String,
@@ -352,9 +401,9 @@ fn push_list(
     tasks: &[TaskNo],
 ) -> Result<(), AllocError>
     ensures { OnOk result (string_bytes text.new
-        ≡ string_bytes text.old ++ end_text true rows.now tasks.now) }
+        ≡ string_bytes text.old ++ end_back true rows.now tasks.now) }
 {
-    put(text, "{\"result\":[")?;
+    put(text, "\"result\":[")?;
     push_results(text, alloc, rows, tasks)?;
     put(text, "]")?;
     push_status(text, rows, tasks)
@@ -363,9 +412,9 @@ fn push_list(
 /// The result of another canvas: that of its last task.
 fn push_last(text: &mut String, alloc: Global, rows: &[Row], task: TaskNo) -> Result<(), AllocError>
     ensures { OnOk result (string_bytes text.new
-        ≡ string_bytes text.old ++ end_text false rows.now (task ∷ [])) }
+        ≡ string_bytes text.old ++ end_back false rows.now (task ∷ [])) }
 {
-    put(text, "{\"result\":")?;
+    put(text, "\"result\":")?;
     push_result(text, alloc, rows, task)?;
     push_status(text, rows, &[task])
 }
@@ -376,13 +425,20 @@ fn push_end(
     alloc: Global,
     ends: &Ends<'_>,
     rows: &[Row],
+    again: Option<u64>,
 ) -> Result<(), AllocError>
     ensures { OnOk result (string_bytes text.new ≡ string_bytes text.old
-        ++ end_text (gives_a_list ends.now) rows.now (end_tasks ends.now)) }
+        ++ end_text again (gives_a_list ends.now) rows.now (end_tasks ends.now)) }
 {
     match ends {
-        Ends::One(task) => push_last(text, alloc, rows, *task),
-        Ends::Many(tasks) => push_list(text, alloc, rows, tasks),
+        Ends::One(task) => {
+            push_end_front(text, again, &[*task])?;
+            push_last(text, alloc, rows, *task)
+        }
+        Ends::Many(tasks) => {
+            push_end_front(text, again, tasks)?;
+            push_list(text, alloc, rows, tasks)
+        }
     }
 }
 
@@ -390,11 +446,12 @@ fn lines_of(alloc: Global, plan: &Plan, rows: &[Row], told: Told<'_>) -> Result<
     ensures { IfOk result (λ text. string_bytes text
         ≡ lines (row_line told.entry.fates.now (parameter_of told.entry.blamed.now) rows.now)
         (names_by_number (tree_of plan.now))
-        ++ end_text (ends_in_group (tree_of plan.now)) rows.now (ends (tree_of plan.now))) }
+        ++ end_text told.entry.again (ends_in_group (tree_of plan.now)) rows.now
+        (ends (tree_of plan.now))) }
 {
     let mut text = String::new(alloc);
     push_rows(&mut text, alloc, plan, told, rows)?;
-    push_end(&mut text, alloc, &plan.ends(), rows)?;
+    push_end(&mut text, alloc, &plan.ends(), rows, told.again)?;
     Ok(text)
 }
 
@@ -408,27 +465,31 @@ pub fn rows_text(
     told: Told<'_>,
 ) -> Result<String, Memory>
     ensures lines { IfOk result (λ text. string_bytes text ≡ json_lines
-        (report_wire told.entry.fates.now told.entry.blamed.now (tree_of plan.now)
-        (rows_from 1 report.now.rows))) }
-    ensures read { AreTyped (rows_from 1 report.now.rows)
+        (report_wire told.entry.fates.now told.entry.blamed.now told.entry.again
+        (tree_of plan.now) (rows_from 1 report.now.rows))) }
+    ensures read { AreTyped (rows_from 1 report.now.rows) → IsTypedCount told.entry.again
         → IfOk result (λ text. ReadsAs (string_bytes text)
-        (report_wire told.entry.fates.now told.entry.blamed.now (tree_of plan.now)
-        (rows_from 1 report.now.rows))) }
+        (report_wire told.entry.fates.now told.entry.blamed.now told.entry.again
+        (tree_of plan.now) (rows_from 1 report.now.rows))) }
 {
     let rows = run_rows(alloc, report)?;
     lines_of(alloc, plan, &rows, told)
 }
 
-/// The same of rows of any kind.
+/// The same of rows of any kind. A row whose result isn't compact JSON takes nothing from what is
+/// said of the others.
 pub fn stored_rows_text(
     alloc: Global,
     plan: &Plan,
     rows: &[Row],
     told: Told<'_>,
 ) -> Result<String, Memory>
-    ensures { (at : ℕ → Shown) → AllShow rows.now at → IfOk result (λ text. string_bytes text
-        ≡ json_lines (rows_wire (fate_at told.entry.fates.now)
-        (parameter_of told.entry.blamed.now) at (tree_of plan.now))) }
+    ensures rows { IfOk result (λ text. string_bytes text
+        ≡ stored_lines told.entry.fates.now told.entry.blamed.now told.entry.again rows.now
+        (tree_of plan.now)) }
+    ensures json { (at : ℕ → Shown) → AllShow rows.now at → IfOk result (λ text.
+        string_bytes text ≡ json_lines (rows_wire (fate_at told.entry.fates.now)
+        (parameter_of told.entry.blamed.now) told.entry.again at (tree_of plan.now))) }
 {
     lines_of(alloc, plan, rows, told)
 }

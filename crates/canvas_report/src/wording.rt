@@ -1,6 +1,6 @@
 //! The report of rows of any kind as a text: in the form of a run's, or as a person reads it.
 
-ghost use Rattle.std.specs.Prelude.{◌≡◌, ◌++◌, [], List, IfOk, OnOk, map, string_bytes, codes, decimal};
+ghost use Rattle.std.specs.Prelude.{◌≡◌, ◌++◌, List, IfOk, OnOk, map, string_bytes, codes, decimal};
 ghost use Rattle.std.specs.Fmt.{signed_decimal};
 ghost use Rattle.canvas_rewrite.specs.Ends.{gives_a_list, end_tasks};
 ghost use Rattle.canvas_semantics.specs.Evaluation.{State};
@@ -8,10 +8,9 @@ ghost use Rattle.canvas_semantics.specs.Line.{name_of, tree_of};
 ghost use Rattle.canvas_semantics.specs.Report.{names_by_number, report_of};
 ghost use Rattle.canvas_semantics.specs.States.{rows_from};
 ghost use Rattle.canvas_report.specs.Listing.{lines, listed, result_by};
-ghost use Rattle.canvas_report.specs.Wording.{task_named, class_named, fault_said, state_said, value_said, said_at, reason, row_said, report_said};
+ghost use Rattle.canvas_report.specs.Wording.{task_named, class_named, fault_said, state_said, value_said, said_at, reason, row_said, report_said, stored_said, explained_said};
 ghost use Rattle.canvas_report.specs.steps.ReportRows.{line_if, listed_further, blamer_said};
 ghost use Rattle.canvas_report.specs.declared.row.Row.TheVariants as row;
-ghost use Rattle.canvas_report.specs.declared.wording.Naming.TheVariants.{Identifier, Number};
 
 use crate::fate::{Fate, fate_in};
 use crate::json_text::escaped_json;
@@ -326,7 +325,7 @@ pub(crate) fn worded(
 /// JSON text, so that each task has one line.
 pub fn stored_text(alloc: Global, plan: &Plan, rows: &[Row]) -> Result<String, Memory>
     ensures said { IfOk result (λ text. string_bytes text
-        ≡ report_said Identifier [] rows.now (tree_of plan.now)) }
+        ≡ stored_said rows.now (tree_of plan.now)) }
     // The rows of a run have its report.
     ensures of_run { (ss : List State) → rows.now ≡ map (λ s. row.Known s) ss
         → IfOk result (λ text. string_bytes text ≡ report_of (tree_of plan.now) (rows_from 1 ss)) }
@@ -344,7 +343,7 @@ pub fn explained_text(
     fates: &[(TaskNo, Fate)],
 ) -> Result<String, Memory>
     ensures { IfOk result (λ text. string_bytes text
-        ≡ report_said Number fates.now rows.now (tree_of plan.now)) }
+        ≡ explained_said fates.now rows.now (tree_of plan.now)) }
 {
     worded(alloc, Naming::Number, plan, rows, fates)
 }

@@ -1,16 +1,16 @@
 //! The canvas of a text.
 
-ghost use Rattle.std.specs.Prelude.{◌≡◌, ◌≢◌, ◌≤◌, Ok, Err, length, IfErr, OnOk, MatchResult};
+ghost use Rattle.std.specs.Prelude.{◌≡◌, ◌≢◌, ◌≤◌, Ok, Err, Some, length, IfErr, MatchResult};
+ghost use Rattle.canvas_sig.specs.Datum.{view};
+ghost use Rattle.canvas_task.specs.Text.{Text};
 ghost use Rattle.canvas_values.specs.declared.fault.SigFault.TheVariants.{Memory};
-ghost use Rattle.canvas_values.specs.CanvasText.{most_bytes, text_reading};
-ghost use Rattle.canvas_values.specs.steps.Reading.{signature_reading};
-ghost use Rattle.canvas_values.specs.Answers.{Gives};
-ghost use Rattle.canvas_values.specs.SignatureView.{view};
+ghost use Rattle.canvas_values.specs.CanvasText.{canvas_reading, json_of, most_bytes, text_reading};
 
+use crate::datum::Datum;
 use crate::parsing::parse;
 use crate::reader::read_node;
 use bumpalo::Bump;
-use canvas_values::{Canvas, Node, SigFault};
+use canvas_values::{Canvas, SigFault};
 use json::Scratch;
 use std::alloc::Global;
 
@@ -45,10 +45,21 @@ fn new_arena(alloc: Global, length: usize) -> Bump {
     }
 }
 
-fn read_signature(alloc: Global, bytes: &[u8]) -> Result<Node, SigFault>
-    ensures reading { Gives view result (signature_reading bytes.now) }
+/// The canvas that the JSON value of a text spells, or its first refusal.
+pub fn canvas_of(alloc: Global, value: &Datum<'_>) -> Result<Canvas, SigFault>
+    requires { (text : Text) × (json_of text ≡ Some (view value.now)) }
+    ensures { MatchResult result (λ canvas. canvas_reading (view value.now) ≡ Ok canvas)
+        (λ e. e ≢ Memory → canvas_reading (view value.now) ≡ Err e) }
+{
+    let node = read_node(alloc, value, MOST_LEVELS)?;
+    Canvas::within_limits(node)
+}
+
+/// The canvas that a text spells, or its first refusal. A text that is too large takes no memory.
+pub fn read_canvas(alloc: Global, bytes: &[u8]) -> Result<Canvas, SigFault>
+    ensures reading { MatchResult result (λ canvas. text_reading bytes.now ≡ Ok canvas)
+        (λ e. e ≢ Memory → text_reading bytes.now ≡ Err e) }
     ensures memory { IfErr result (λ e. e ≡ Memory → length bytes.now ≤ most_bytes) }
-    ensures short { OnOk result (length bytes.now ≤ most_bytes) }
 {
     if bytes.len() > MOST_BYTES {
         return Err(SigFault::TooLarge);
@@ -56,16 +67,5 @@ fn read_signature(alloc: Global, bytes: &[u8]) -> Result<Node, SigFault>
     let arena = new_arena(alloc, bytes.len());
     let mut scratch = Scratch::new(alloc);
     let value = parse(alloc, &arena, &mut scratch, bytes)?;
-    read_node(alloc, &value, MOST_LEVELS)
-}
-
-/// The canvas that a text spells, or its first refusal. A text that is too large takes no memory.
-#[tactic(auto, using(crate::proofs::TextLemmas::fails_refused))]
-pub fn read_canvas(alloc: Global, bytes: &[u8]) -> Result<Canvas, SigFault>
-    ensures reading { MatchResult result (λ canvas. text_reading bytes.now ≡ Ok canvas)
-        (λ e. e ≢ Memory → text_reading bytes.now ≡ Err e) }
-    ensures memory { IfErr result (λ e. e ≡ Memory → length bytes.now ≤ most_bytes) }
-{
-    let node = read_signature(alloc, bytes)?;
-    Canvas::within_limits(node)
+    canvas_of(alloc, &value)
 }

@@ -25,7 +25,7 @@ mod write;
 /// What messages, which carry signatures, read them with.
 pub mod parts {
     pub use crate::arguments::{read_args, read_kwargs};
-    pub use crate::canvas_text::MOST_LEVELS;
+    pub use crate::canvas_text::{MOST_LEVELS, canvas_of};
     pub use crate::datum::Datum;
     pub use crate::fields::{
         as_list, is_list, is_list_or_null, is_null, is_object_or_null, is_true, kwarg_of, listed,
@@ -34,7 +34,7 @@ pub mod parts {
     pub use crate::own_fault::{is_name, is_text, own_fault};
     pub use crate::parsing::parse;
     pub use crate::primitive::primitive_of;
-    pub use crate::reader::text_of;
+    pub use crate::reader::{read_node, text_of};
 }
 
 pub use canvas_text::{MOST_BYTES, read_canvas};

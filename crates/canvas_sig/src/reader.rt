@@ -106,7 +106,7 @@ fn members_in(alloc: Global, node: Node) -> Vec<Node>
 /// The canvas that a value stands for; signatures in it nest at most `left` deep.
 #[cycle(read_node)]
 #[tactic(auto, using(crate::proofs::Level::tree_level_below))]
-pub(crate) fn read_node(alloc: Global, value: &Datum<'_>, left: u32) -> Result<Node, SigFault>
+pub fn read_node(alloc: Global, value: &Datum<'_>, left: u32) -> Result<Node, SigFault>
     ensures { Gives tree_view result (tree_reading left (view value.now)) }
 {
     if left == 0 {

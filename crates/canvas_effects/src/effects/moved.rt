@@ -208,7 +208,7 @@ fn go_on(
 
 /// What the end of a task makes a worker do that a line follows, behind the messages of what it
 /// calls back.
-pub(super) fn behind(
+fn behind(
     alloc: Global,
     rest: FrozenLine,
     texts: Texts,
@@ -241,7 +241,7 @@ pub(super) fn behind(
 }
 
 /// The same where the task failed.
-pub(super) fn skipped_behind(
+fn skipped_behind(
     alloc: Global,
     rest: &FrozenLine,
     fault: &Fault,

@@ -1,6 +1,7 @@
 -- Pieces of the rows as JSON, as they are written one after the other.
-use Rattle.std.specs.Prelude.{ℕ, Bool, true, false, List, [], ◌∷◌, ◌++◌, map, Option, Some, None, string_bytes, codes}
+use Rattle.std.specs.Prelude.{ℕ, Bool, true, false, String, List, [], ◌∷◌, ◌++◌, map, Option, Some, None, string_bytes, codes, decimal}
 use Rattle.std.specs.Fmt.{signed_decimal}
+use Rattle.std.specs.declared.alloc.Global.{Global}
 use Rattle.json.specs.Print.{quoted}
 use Rattle.serde_json.specs.Written.{comma_if}
 use Rattle.canvas_task.specs.Text.{Text}
@@ -9,14 +10,17 @@ use Rattle.canvas_task.specs.Printed.{kind_name, why_name}
 use Rattle.canvas_task.specs.declared.outcome.Fault.{Fault}
 use Rattle.canvas_task.specs.declared.outcome.Fault.TheVariants as fault
 use Rattle.canvas_task.specs.declared.outcome.Outcome.TheVariants as outcome
-use Rattle.canvas_semantics.specs.Evaluation.{State}
+use Rattle.canvas_semantics.specs.Evaluation.{State, ends}
+use Rattle.canvas_semantics.specs.Report.{names_by_number}
+use Rattle.canvas_semantics.specs.Tree.{Tree, ends_in_group}
 use Rattle.canvas_report.specs.declared.row.Row.{Row}
 use Rattle.canvas_report.specs.declared.row.Row.TheVariants as row
 use Rattle.canvas_report.specs.Fates.{Fates, fate_at}
 use Rattle.canvas_report.specs.declared.fate.Fate.{Fate}
 use Rattle.canvas_report.specs.declared.fate.Fate.TheVariants.{Ran, Skipped, Idle}
 use Rattle.canvas_report.specs.StoredRows.{row_of, row_status}
-use Rattle.canvas_report.specs.JsonRows.{status_name, status_of_all}
+use Rattle.canvas_report.specs.JsonRows.{status_name, status_of_all, parameter_of}
+use Rattle.canvas_report.specs.Listing.{lines}
 use Rattle.canvas_report.specs.declared.shown.Status.{Status}
 
 -- ---- rows
@@ -104,9 +108,37 @@ abbrev pub status_text : List Row → List ℕ → Text
 status_text rows ks =
     codes ",\"status\":\"" ++ status_name (status_of_all (statuses rows ks)) ++ codes "\"}\n"
 
-abbrev pub end_text : Bool → List Row → List ℕ → Text
-end_text true rows ks =
-    codes "{\"result\":[" ++ listed_json false rows ks ++ codes "]" ++ status_text rows ks
-end_text false rows [] = codes "{\"result\":null" ++ status_text rows []
-end_text false rows (k ∷ ks) =
-    codes "{\"result\":" ++ result_json (row_of rows k) ++ status_text rows (k ∷ ks)
+abbrev pub again_text : Option ℕ → Text
+again_text None = []
+again_text (Some n) = codes "\"again\":" ++ decimal n ++ codes ","
+
+-- identifiers in quotes, with a comma between two
+abbrev pub identifiers_json : Bool → List ℕ → Text
+identifiers_json later [] = []
+identifiers_json later (k ∷ ks) =
+    comma_if later ++ ((codes "\"" ++ task_text k ++ codes "\"") ++ identifiers_json true ks)
+
+-- up to the result
+abbrev pub end_front : Option ℕ → List ℕ → Text
+end_front again ks =
+    codes "{" ++ again_text again ++ codes "\"ends\":[" ++ identifiers_json false ks ++ codes "],"
+
+-- from the result on
+abbrev pub end_back : Bool → List Row → List ℕ → Text
+end_back true rows ks =
+    codes "\"result\":[" ++ listed_json false rows ks ++ codes "]" ++ status_text rows ks
+end_back false rows [] = codes "\"result\":null" ++ status_text rows []
+end_back false rows (k ∷ ks) =
+    codes "\"result\":" ++ result_json (row_of rows k) ++ status_text rows (k ∷ ks)
+
+abbrev pub end_text : Option ℕ → Bool → List Row → List ℕ → Text
+end_text again several rows ks = end_front again ks ++ end_back several rows ks
+
+-- ---- all of them
+
+-- what is told of each task, with its row, whatever that has; and of the canvas
+abbrev pub stored_lines : Fates → List (ℕ × Option (String Global)) → (again : Option ℕ)
+    → List Row → Tree → Text
+stored_lines fates blamed again rows c =
+    lines (row_line fates (parameter_of blamed) rows) (names_by_number c)
+    ++ end_text again (ends_in_group c) rows (ends c)

@@ -3,7 +3,7 @@ use Rattle.canvas_semantics.specs.Line.{count_line}
 use Rattle.canvas_collect.specs.steps.Rows.{Gains, RowFault}
 use Rattle.canvas_collect.specs.Refused.{IsCollectFault}
 use Rattle.canvas_collect.specs.Pieces.{lines_in}
-use Rattle.canvas_collect.proofs.Said.{read_more, read_none, read_all, some_left, refused_next}
+use Rattle.canvas_collect.proofs.Said.{some_left, read_more, read_none, read_all, refused_next}
 use Rattle.canvas_collect.proofs.collecting.push_rows.Goals as goal
 
 pub loop-index-init : goal.loop-index-init

@@ -1,9 +1,9 @@
-use Rattle.std.proofs.Common.{List, take}
-use Rattle.canvas_semantics.specs.Evaluation.{State, gathered}
-use Rattle.canvas_collect.specs.steps.Flows.{Within, IsKnown, IsTold, AllThere, listed}
+use Rattle.std.proofs.Common.{◌≡◌, drop}
+use Rattle.canvas_collect.specs.Completing.{gathered_from}
+use Rattle.canvas_collect.specs.Looks.{looks}
+use Rattle.canvas_collect.specs.declared.completing.Flow.TheVariants.{Value}
 use Rattle.canvas_collect.proofs.completing.gathered.Given as goal
 
 abbrev pub invariant-loop-last : goal.invariant-loop-last
 invariant-loop-last l =
-    ((s : List State) → Within l.rows s → IsKnown l.flow (gathered (listed s (take l.last-index l.lasts))))
-    × (AllThere l.rows l.lasts → IsTold l.flow)
+    gathered_from l.flow (drop l.last-index l.lasts) (looks l.rows) ≡ gathered_from Value l.lasts (looks l.rows)

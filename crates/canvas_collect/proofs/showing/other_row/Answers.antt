@@ -3,12 +3,12 @@ use Rattle.serde_json.specs.Data.{Data, depth}
 use Rattle.serde_json.specs.Read.{max_depth}
 use Rattle.serde_json.specs.View.{view}
 use Rattle.canvas_semantics.specs.Line.{count_line}
-use Rattle.canvas_collect.specs.declared.stored.StoredFault.{StoredFault}
-use Rattle.canvas_collect.specs.declared.stored.StoredFault.TheVariants.{UnknownDependency}
+use Rattle.canvas_collect.specs.declared.stored.Lack.{Lack}
+use Rattle.canvas_collect.specs.declared.stored.Lack.TheVariants.{Dependency}
 use Rattle.canvas_collect.specs.Stored.{result_of}
-use Rattle.canvas_collect.specs.Refused.{RefusesException, RefusesResult}
+use Rattle.canvas_collect.specs.steps.Lacking.{LacksFault, LacksOutcome}
 use Rattle.canvas_collect.specs.steps.Found.{value_at}
-use Rattle.canvas_collect.specs.steps.ShownRows.{IsChordRow}
+use Rattle.canvas_collect.specs.steps.Rows.{IsChordRow}
 use Rattle.canvas_collect.proofs.RowLemmas.{both, result_low, chord_row, no_json}
 use Rattle.canvas_collect.proofs.showing.other_row.Goals as goal
 
@@ -21,16 +21,16 @@ value_row-requires c =
 pub chord_row-requires : goal.chord_row-requires
 chord_row-requires c =
     let found : value_at c.get-found.result ≡ result_of (view c.args.meta.now) = search rules in
-    let F : StoredFault → Type 0 = λ e. RefusesResult c.args.run.now.digits (count_line c.args.plan.now) (view c.args.meta.now) e in
-    let refused : F UnknownDependency = subst F c.in-UnknownDependency.is c.requires.refused in
-    let P : Data → Type 0 = λ d. RefusesException c.args.run.now.digits (count_line c.args.plan.now) d UnknownDependency in
+    let F : Lack → Type 0 = λ e. LacksOutcome c.args.run.now.digits (count_line c.args.plan.now) (view c.args.meta.now) e in
+    let refused : F Dependency = subst F c.in-Dependency.is c.requires.lacks in
+    let P : Data → Type 0 = λ d. LacksFault c.args.run.now.digits (count_line c.args.plan.now) d Dependency in
     subst P (sym found) refused.1
 
-pub returns-in-UnknownDependency : goal.returns-in-UnknownDependency
-returns-in-UnknownDependency c =
+pub returns-in-Dependency : goal.returns-in-Dependency
+returns-in-Dependency c =
     let found : value_at c.get-found.result ≡ result_of (view c.args.meta.now) = search rules in
-    let F : StoredFault → Type 0 = λ e. RefusesResult c.args.run.now.digits (count_line c.args.plan.now) (view c.args.meta.now) e in
-    let refused : F UnknownDependency = subst F c.in-UnknownDependency.is c.requires.refused in
+    let F : Lack → Type 0 = λ e. LacksOutcome c.args.run.now.digits (count_line c.args.plan.now) (view c.args.meta.now) e in
+    let refused : F Dependency = subst F c.in-Dependency.is c.requires.lacks in
     both c.chord_row.result _ _ _ _
     (λ row h. let P : Data → Type 0 = λ d. IsChordRow c.args.run.now.digits (count_line c.args.plan.now) d row in
     chord_row c.args.run.now.digits (count_line c.args.plan.now) (view c.args.meta.now) row refused (subst P found h))

@@ -2,10 +2,10 @@ use Rattle.std.proofs.Common.{◌≡◌, false, true, refl, inl, inr}
 use Rattle.serde_json.specs.View.{view}
 use Rattle.std.proofs.lemmas.Result.{err_from_is_err_and}
 use Rattle.canvas_semantics.specs.Line.{count_line}
-use Rattle.canvas_collect.specs.AsStored.{IsRow, Shows}
-use Rattle.canvas_collect.specs.steps.ShownRows.{ResultFault, ShowFault}
+use Rattle.canvas_collect.specs.AsStored.{IsRow, Says}
+use Rattle.canvas_collect.specs.steps.Rows.{ResultFault, LineFault}
 use Rattle.canvas_collect.proofs.Gathering.{is_nil, not_nil}
-use Rattle.canvas_collect.proofs.RowLemmas.{both, parsed_low, unread_shown, result_shown}
+use Rattle.canvas_collect.proofs.RowLemmas.{both, parsed_low, of_unread, of_result}
 use Rattle.canvas_collect.proofs.showing.read_row.Goals as goal
 
 pub returns-then-is_empty : goal.returns-then-is_empty
@@ -18,7 +18,7 @@ pub returns-in_err-meta : goal.returns-in_err-meta
 returns-in_err-meta c =
     let p = err_from_is_err_and c.from_residual.result c.from_residual.ensures.1 in
     rw (p.1, p.2)
-    (unread_shown c.args.run.now.digits (count_line c.args.plan.now) c.args.task c.args.text.now _ (not_nil c.args.text.now c.if-is_empty.ensures)
+    (of_unread c.args.run.now.digits (count_line c.args.plan.now) c.args.task c.args.text.now _ (not_nil c.args.text.now c.if-is_empty.ensures)
     c.in_err-meta.ensures)
 
 pub returns-then-is_of : goal.returns-then-is_of
@@ -27,9 +27,9 @@ returns-then-is_of c =
     let count = count_line c.args.plan.now in
     let line = c.args.text.now in
     let d = view c.in_ok-meta.meta in
-    both c.row_of.result (IsRow run count d) (Shows run count c.args.task line) (ResultFault d) (ShowFault run count c.args.task line)
+    both c.row_of.result (IsRow run count d) (Says run count c.args.task line) (ResultFault d) (LineFault run count c.args.task line)
     (λ row shows. inr (d, (c.in_ok-meta.ensures, c.if-is_of.ensures.0 refl), shows))
-    (λ e refused. result_shown run count c.args.task line d e (c.in_ok-meta.ensures, c.if-is_of.ensures.0 refl) refused)
+    (λ e refused. of_result run count c.args.task line d e (c.in_ok-meta.ensures, c.if-is_of.ensures.0 refl) refused)
     c.row_of.ensures
 
 pub returns : goal.returns

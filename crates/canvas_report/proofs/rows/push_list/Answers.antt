@@ -7,7 +7,7 @@ use Rattle.canvas_report.proofs.rows.push_list.Goals as goal
 pub returns : goal.returns
 returns c =
     let old = string_bytes c.args.text.now in
-    let front = codes "{\"result\":[" in
+    let front = codes "\"result\":[" in
     let listed = listed_json false c.args.rows.now c.args.tasks.now in
     let results = behind old _ _ front listed c.in_ok-put.ensures c.in_ok-push_results.ensures in
     last _ old _ _ (front ++ listed ++ codes "]") (status_text c.args.rows.now c.args.tasks.now)
