@@ -1,2 +1,4 @@
-pub mod ToldJson
 pub mod NamesLeft
+pub mod Classes
+pub mod ShownRows
+pub mod ToldRows

@@ -37,3 +37,8 @@ IsStatus a n = ends_with a.refusal a.status n
 abbrev pub bytes_of : Option (String Global) → Text
 bytes_of None = []
 bytes_of (Some text) = string_bytes text
+
+-- a refusal that is told otherwise, unless memory for that is refused
+abbrev pub IsKept : (refusal told : Option Refusal) → Type 0
+IsKept None told = told ≡ None
+IsKept (Some refusal) told = (told ≡ Some refusal) ⊎ (told ≡ Some Memory)

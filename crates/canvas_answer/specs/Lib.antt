@@ -1,8 +1,11 @@
 pub mod Answers
+pub mod Asking
 pub mod Names
 pub mod Plans
+pub mod Raised
 pub mod Told
 pub mod Normal
 pub mod OnCelery
 pub mod Pictured
 pub mod Printing
+pub mod steps

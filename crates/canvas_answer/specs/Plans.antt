@@ -1,20 +1,61 @@
--- The plan of a text, as a run of it has one; or why the text has none (JSON, RFC 8259; signatures
--- as Celery writes them).
-use Rattle.std.specs.Prelude.{◌≡◌, Ok, Err}
+-- The canvas and the plan of a text, as a run of it has them; or why the text has none (JSON,
+-- RFC 8259; signatures as Celery writes them).
+use Rattle.std.specs.Prelude.{◌≡◌, Bool, true, false, List, [], Ok, Err, option_map, unwrap_or}
 use Rattle.canvas_task.specs.Text.{Text}
 use Rattle.canvas_values.specs.CanvasText.{text_reading}
 use Rattle.canvas_semantics.specs.Line.{Line, tree_of}
 use Rattle.canvas_semantics.specs.NormalLine.{normal}
 use Rattle.canvas_semantics.specs.SameMeaning.{IsSame}
 use Rattle.canvas_semantics.specs.Tree.{Tree, numbered}
+use Rattle.canvas_adapt.specs.Renamed.{renamed}
+use Rattle.canvas_adapt.specs.declared.renames.Rename.{Rename}
+use Rattle.canvas_answer.specs.Asking.{Asking}
+use Rattle.canvas_answer.specs.declared.prepared.Plans.{Plans}
+use Rattle.canvas_answer.specs.declared.prepared.Spelled.{Spelled}
 use Rattle.canvas_answer.specs.declared.refusal.Refusal.{Refusal}
 use Rattle.canvas_answer.specs.declared.refusal.Refusal.TheVariants.{Canvas, Memory}
 
--- the numbered normal line of the canvas that the text spells
+-- The canvas of a text is what it spells. Where it is adapted first that is so of a text that
+-- spells one.
+abbrev pub IsCanvasOf : (adapts : Bool) → Text → Tree → Type 0
+IsCanvasOf false bytes c = text_reading bytes ≡ Ok c
+IsCanvasOf true bytes c = (t : Tree) → text_reading bytes ≡ Ok t → c ≡ t
+
+-- the numbered normal line of a canvas
+abbrev pub IsPlanOf : Tree → Line → Type 0
+IsPlanOf c l = IsSame (normal c) c × (tree_of l ≡ numbered (normal c))
+
 abbrev pub IsTextPlan : Text → Line → Type 0
-IsTextPlan bytes l =
-    (c : Tree) × (text_reading bytes ≡ Ok c) × IsSame (normal c) c
-    × (tree_of l ≡ numbered (normal c))
+IsTextPlan bytes l = (c : Tree) × (text_reading bytes ≡ Ok c) × IsPlanOf c l
+
+-- ---- plans
+
+abbrev pub run_line : Plans → Line
+run_line plans = unwrap_or plans.named plans.shown
+
+-- As a canvas is shown, and as it is run: there the tasks of some numbers have the names that their
+-- stubs have.
+pub record ArePlansOf (its : Asking) (bytes : Text) (shown run : Line) : Type 0 where
+  pub canvas : Tree
+  pub read : IsCanvasOf its.adapts bytes canvas
+  pub shows : IsPlanOf canvas shown
+  pub runs : IsPlanOf (renamed its.renames canvas) run
+
+-- ---- texts
+
+-- The text that `canvas adapt` gives spells a canvas. Where the bytes spell one and no task gets
+-- another name, it is these bytes.
+pub record IsAdaptedText (bytes : Text) (renames : List Rename) (made : Text) : Type 0 where
+  pub spelled : (c : Tree) × (text_reading made ≡ Ok c)
+  pub kept : (c : Tree) → text_reading bytes ≡ Ok c → renames ≡ [] → made ≡ bytes
+
+-- the text that is taken for the bytes: that, where they are adapted first
+abbrev pub IsSpelled : (adapts : Bool) → Text → Text → Type 0
+IsSpelled false bytes made = made ≡ bytes
+IsSpelled true bytes made = IsAdaptedText bytes [] made
+
+abbrev pub spelled_text : Spelled → Text → Text
+spelled_text s bytes = unwrap_or (option_map (λ a. a.text.items) s.adapted) bytes
 
 -- the first refusal of a text, or memory that was refused
 abbrev pub IsReadRefusal : Text → Refusal → Type 0

@@ -1,20 +1,25 @@
 -- What a report tells of a run, in each form, where states and calls are those of evaluation.
-use Rattle.std.specs.Prelude.{◌≡◌, ◌⊎◌, ◌&&◌, if◌then◌else◌, ℕ, Bool, List, [], map, Option, IsSomeAnd, String}
+use Rattle.std.specs.Prelude.{◌≡◌, ◌⊎◌, ◌&&◌, if◌then◌else◌, ℕ, Bool, List, [], map, Option, None, Some, String}
 use Rattle.std.specs.declared.alloc.Global.{Global}
 use Rattle.canvas_task.specs.Apply.{Behaviour}
 use Rattle.canvas_task.specs.Text.{Text}
 use Rattle.canvas_semantics.specs.Evaluation.{State, with_states}
 use Rattle.canvas_semantics.specs.Line.{Line, tree_of, ends_of}
-use Rattle.canvas_semantics.specs.Report.{report_of}
 use Rattle.canvas_semantics.specs.States.{rows_from, states}
 use Rattle.canvas_semantics.specs.Tree.{Tree}
 use Rattle.canvas_ran.specs.Ran.{fates}
+use Rattle.canvas_ran.specs.Seen.{seen_fates}
 use Rattle.canvas_report.specs.Failing.{any_failed}
-use Rattle.canvas_report.specs.JsonRows.{json_lines, report_wire}
+use Rattle.canvas_report.specs.Fates.{Fates, fate_at}
+use Rattle.canvas_report.specs.JsonRows.{Shown, json_lines, parameter_of, rows_wire}
+use Rattle.canvas_report.specs.StoredRows.{AllShow}
+use Rattle.canvas_report.specs.Wording.{explained_said, stored_said}
 use Rattle.canvas_report.specs.declared.report.Report.{Report}
 use Rattle.canvas_report.specs.declared.row.Row.{Row}
 use Rattle.canvas_report.specs.declared.row.Row.TheVariants.{Known}
 use Rattle.canvas_answer.specs.Answers.{AnswersAll}
+use Rattle.canvas_answer.specs.Asking.{Asking}
+use Rattle.canvas_answer.specs.Raised.{AreShown, class_of, own_class}
 use Rattle.canvas_answer.specs.declared.answer.Answer.{Answer}
 use Rattle.canvas_answer.specs.declared.reporting.Form.{Form}
 use Rattle.canvas_answer.specs.declared.reporting.Form.TheVariants.{Plain, Json, Explained}
@@ -23,39 +28,65 @@ use Rattle.canvas_answer.specs.declared.reporting.Form.TheVariants.{Plain, Json,
 abbrev pub known_states : List State → List Row
 known_states ss = map (λ s. Known s) ss
 
--- Of a run of which it isn't told which tasks were called. What is written for a person to read is
--- left to `explained_text`, which has its own statement.
-abbrev pub IsUntoldText : Form → Tree → List State → Text → Type 0
-IsUntoldText Plain t ss text = text ≡ report_of t (rows_from 1 ss)
-IsUntoldText Json t ss text = text ≡ json_lines (report_wire [] [] t (rows_from 1 ss))
-IsUntoldText Explained t ss text = Unit {0}
+-- ---- rows as texts
 
--- of a run that ended early with this report, if it has one: that, or nothing, since memory was
--- refused, or since stubs raise exceptions of other classes
-abbrev pub IsEarlyText : Form → Tree → Option Report → Text → Type 0
-IsEarlyText form t stored text =
-    (text ≡ []) ⊎ IsSomeAnd stored (λ r. IsUntoldText form t r.rows text)
+-- the rows as JSON, with what is told of the tasks: which were called, and the parameters that are
+-- blamed for a TypeError; and of the run, how many stores answered Again
+abbrev pub IsJsonOf : Fates → List (ℕ × Option (String Global)) → (again : Option ℕ) → List Row
+    → Tree → Text → Type 0
+IsJsonOf fates blamed again rows t text =
+    (at : ℕ → Shown) × AllShow rows at
+    × (text ≡ json_lines (rows_wire (fate_at fates) (parameter_of blamed) again at t))
+
+abbrev pub IsToldText : Form → Fates → (again : Option ℕ) → List Row → Tree → Text → Type 0
+IsToldText Plain fates again rows t text = text ≡ stored_said rows t
+IsToldText Json fates again rows t text =
+    (blamed : List (ℕ × Option (String Global))) × IsJsonOf fates blamed again rows t text
+IsToldText Explained fates again rows t text = text ≡ explained_said fates rows t
+
+-- where it isn't told which tasks were called
+abbrev pub IsUntoldText : Form → List Row → Tree → Text → Type 0
+IsUntoldText Plain rows t text = text ≡ stored_said rows t
+IsUntoldText Json rows t text = IsJsonOf [] [] None rows t text
+IsUntoldText Explained rows t text = text ≡ explained_said [] rows t
 
 -- the status of a report: 3 where failures count and the result of the canvas is one
 abbrev pub report_status : (counts failed : Bool) → ℕ
 report_status counts failed = if counts && failed then 3 else 0
 
-module _ (behaviour : Behaviour) (l : Line) where
-  abbrev ss : List State
-  ss = states behaviour (tree_of l)
+-- ---- a run, where stubs may raise exceptions of any class
 
-  -- of a whole run; as JSON with the parameters that are blamed for a TypeError
-  abbrev pub IsToldText : Form → Text → Type 0
-  IsToldText Plain text = text ≡ report_of (tree_of l) (rows_from 1 ss)
-  IsToldText Json text =
-      (blamed : List (ℕ × Option (String Global)))
-      × (text ≡ json_lines
-      (report_wire (fates behaviour l) blamed (tree_of l) (rows_from 1 ss)))
-  IsToldText Explained text = Unit {0}
+module _ (its : Asking) (run shown : Line) where
+  -- Of a run that ended early with this report, if it has one: that, or nothing, since memory was
+  -- refused. What became of its tasks is seen from its rows.
+  abbrev pub IsReportText : Form → List State → Text → Type 0
+  IsReportText form ss text =
+      (rows : List Row)
+      × AreShown (class_of (seen_fates (rows_from 1 ss) run)
+      (own_class its.stubs its.errors run)) ss rows
+      × IsUntoldText form rows (tree_of shown) text
 
-  -- that is all that was asked for, in this form; where failures count, the status says of one
-  abbrev pub IsReport : Form → Bool → Answer → Type 0
-  IsReport form counts a =
-      (text : Text) × IsToldText form text
-      × AnswersAll text
-      (report_status counts (any_failed (with_states (rows_from 1 ss) (ends_of l)))) a
+  abbrev pub IsEarlyText : Form → Option Report → Text → Type 0
+  IsEarlyText form None text = text ≡ []
+  IsEarlyText form (Some r) text = (text ≡ []) ⊎ IsReportText form r.rows text
+
+  module _ (behaviour : Behaviour) where
+    abbrev ss : List State
+    ss = states behaviour (tree_of run)
+
+    -- the rows of a whole run
+    abbrev pub AreRows : List Row → Type 0
+    AreRows rows =
+        AreShown (class_of (fates behaviour run) (own_class its.stubs its.errors run)) ss rows
+
+    abbrev pub IsTold : Form → (again : Option ℕ) → Text → Type 0
+    IsTold form again text =
+        (rows : List Row) × AreRows rows
+        × IsToldText form (fates behaviour run) again rows (tree_of shown) text
+
+    -- that is all that was asked for, in this form; where failures count, the status says of one
+    abbrev pub IsReport : Form → (counts : Bool) → (again : Option ℕ) → Answer → Type 0
+    IsReport form counts again a =
+        (text : Text) × IsTold form again text
+        × AnswersAll text
+        (report_status counts (any_failed (with_states (rows_from 1 ss) (ends_of shown)))) a

@@ -1,13 +1,12 @@
 //! `canvas adapt`: a canvas that can be run, from any that Celery writes.
-ghost use Rattle.std.specs.Prelude.{◌≡◌, IfOk, Ok};
-ghost use Rattle.canvas_values.specs.CanvasText.{text_reading};
-ghost use Rattle.canvas_semantics.specs.Tree.{Tree};
+ghost use Rattle.std.specs.Prelude.{IfOk};
 ghost use Rattle.canvas_task.specs.Text.{Text};
 ghost use Rattle.canvas_answer.specs.Answers.{AnswersAll};
+ghost use Rattle.canvas_answer.specs.Plans.{IsAdaptedText};
 
 use crate::answer::Answer;
 use crate::refusal::Refusal;
-use canvas_adapt::{Adapted, BadRename, Rename, RenameFault, adapt, read_renames, rename};
+use canvas_adapt::{AdaptedText, BadRename, Rename, RenameFault, adapted_text, read_renames};
 use clap::ArgMatches;
 use std::alloc::Global;
 
@@ -41,25 +40,16 @@ fn check_numbers(renames: &[Rename], tasks: u32) -> Result<(), Refusal> {
     Ok(())
 }
 
-/// The canvas with these other names.
-fn renamed(alloc: Global, text: Vec<u8>, renames: &[Rename]) -> Result<Vec<u8>, Refusal>
-    ensures { (c : Tree) → text_reading text.items ≡ Ok c
-        → IfOk result (λ renamed. (d : Tree) × (text_reading renamed.items ≡ Ok d)) }
-{
-    if renames.is_empty() {
-        return Ok(text);
-    }
-    let renamed = rename(alloc, &text, renames)?;
-    check_numbers(renames, renamed.tasks)?;
-    Ok(renamed.text)
-}
-
 /// A canvas that can be run, as JSON, and what was changed for it.
 pub fn answer_adapt(alloc: Global, renames: &[Rename], text: &[u8]) -> Result<Answer, Refusal>
-    ensures { IfOk result (λ a. (text : Text) × (c : Tree) × (text_reading text ≡ Ok c)
-        × AnswersAll text 0 a) }
+    ensures { IfOk result (λ a. (made : Text) × IsAdaptedText text.now renames.now made
+        × AnswersAll made 0 a) }
 {
-    let Adapted { text, changes } = adapt(alloc, text)?;
-    let text = renamed(alloc, text, renames)?;
+    let AdaptedText {
+        text,
+        changes,
+        tasks,
+    } = adapted_text(alloc, text, renames)?;
+    check_numbers(renames, tasks)?;
     Ok(Answer::whole(text).as_bytes().with_changes(changes))
 }

@@ -1,11 +1,11 @@
 //! What the program prints, and its status.
 ghost use Rattle.std.specs.Prelude.{◌≡◌, ◌⊎◌, [], None, Some};
 ghost use Rattle.canvas_answer.specs.declared.answer.Remark.TheVariants as remark;
-ghost use Rattle.canvas_answer.specs.Answers.{AnswersAll, AnswersPart, IsStatus, bytes_of, refusal_status};
+ghost use Rattle.canvas_answer.specs.Answers.{AnswersAll, AnswersPart, IsKept, IsStatus, bytes_of, refusal_status};
 
+use crate::escaping::Escaping;
 use crate::printing::write_lines;
 use crate::refusal::Refusal;
-use crate::told::told_in_json;
 use canvas_adapt::Changes;
 use std::alloc::Global;
 use std::fmt::{self, Display};
@@ -44,6 +44,8 @@ pub struct Answer {
     remark: Option<Remark>,
     /// Why that isn't all that was asked for.
     refusal: Option<Refusal>,
+    /// The refusal as a JSON object in a line, where that is asked for.
+    told: Option<String>,
     /// The status where it is.
     status: u8,
 }
@@ -58,6 +60,7 @@ impl Answer {
             is_raw: false,
             remark: None,
             refusal: None,
+            told: None,
             status: 0,
         }
     }
@@ -82,6 +85,7 @@ impl Answer {
             is_raw: false,
             remark: None,
             refusal: Some(refusal),
+            told: None,
             status: 0,
         }
     }
@@ -132,28 +136,26 @@ impl Answer {
         self.with_remark(Some(Remark::Changes(changes)))
     }
 
-    /// The same with its refusal, if it has one, as it is printed where JSON is asked for.
+    /// The same whose refusal, if it has one, is told as JSON. Where that takes memory which is
+    /// refused, that is the refusal.
     pub fn in_json(self, alloc: Global) -> Answer
-        ensures out { result.out ≡ self.out }
-        ensures whole { self.refusal ≡ None → result ≡ self }
+        ensures same { (result.out ≡ self.out) × (result.remark ≡ self.remark)
+            × (result.status ≡ self.status) }
+        ensures refusal { IsKept self.refusal result.refusal }
     {
-        let Answer {
-            out,
-            is_raw,
-            remark,
-            refusal,
-            status,
-        } = self;
-        let refusal = match refusal {
-            Some(refusal) => Some(told_in_json(alloc, refusal)),
-            None => None,
+        let told = match &self.refusal {
+            Some(refusal) if !refusal.is_an_end() => refusal.json(alloc),
+            _ => return self,
         };
-        Answer {
-            out,
-            is_raw,
-            remark,
-            refusal,
-            status,
+        match told {
+            Ok(told) => Answer {
+                told: Some(told),
+                ..self
+            },
+            Err(_) => Answer {
+                refusal: Some(Refusal::Memory),
+                ..self
+            },
         }
     }
 
@@ -165,9 +167,9 @@ impl Answer {
     {
         let is_written = self.write_out(out).is_ok();
         match &self.refusal {
-            Some(refusal) => refusal.print(err),
+            Some(refusal) => refusal.print(self.told.as_ref(), err),
             None if is_written => self.print_remark(err),
-            None => Refusal::CannotWrite.print(err),
+            None => Refusal::CannotWrite.print(None, err),
         }
     }
 
@@ -186,23 +188,32 @@ impl Answer {
         if let Some(remark) = &self.remark
             && write_and_flush(err, remark).is_err()
         {
-            return Refusal::CannotWrite.print(err);
+            return Refusal::CannotWrite.print(None, err);
         }
         self.status
     }
 }
 
 impl Refusal {
-    /// Prints why there is no answer, piece by piece, since there may be no memory for a text.
-    /// Where that can't be printed either, the status is all that is left.
-    fn print<E: Write>(&self, err: &mut E) -> u8
+    /// Prints why there is no answer: the object that is told of it, or lines, piece by piece,
+    /// since there may be no memory for a text. If that can't be printed either, the status is all
+    /// that is left.
+    fn print<E: Write>(&self, told: Option<&String>, err: &mut E) -> u8
         ensures { result ≡ refusal_status self.now }
     {
-        let _ = match self {
-            Refusal::Found(text) => write_lines(err, text.as_bytes()),
-            _ => write_and_flush(err, self),
+        let _ = match told {
+            Some(object) => write_lines(err, object.as_bytes()),
+            None => self.print_lines(err),
         };
         self.status()
+    }
+
+    fn print_lines<E: Write>(&self, err: &mut E) -> io::Result<()> {
+        if matches!(self, Refusal::Words { in_line: true, .. }) {
+            write_and_flush(&mut Escaping::of(err, true), self)?;
+            return writeln!(err);
+        }
+        write_and_flush(&mut Escaping::of(err, false), self)
     }
 }
 

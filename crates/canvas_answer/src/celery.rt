@@ -1,10 +1,11 @@
 //! The commands for a canvas on Celery's own workers: its start, the keys of its results, and the
 //! report of what these workers stored.
-ghost use Rattle.std.specs.Prelude.{◌≡◌, IfOk, None};
+ghost use Rattle.std.specs.Prelude.{true, IfOk, string_bytes};
 ghost use Rattle.canvas_celery.specs.Keys.{result_keys};
 ghost use Rattle.canvas_semantics.specs.Line.{Line, count_line};
+ghost use Rattle.canvas_task.specs.Text.{Text};
 ghost use Rattle.canvas_answer.specs.Answers.{AnswersAll};
-ghost use Rattle.canvas_answer.specs.OnCelery.{IsOnCelery, commands_of};
+ghost use Rattle.canvas_answer.specs.OnCelery.{IsOnCelery, IsCollected, IsStoredText, AreCompleted, AreReported, commands_of};
 ghost use Rattle.canvas_answer.specs.Plans.{IsTextPlan};
 
 mod refusal;
@@ -12,16 +13,15 @@ mod refusal;
 use crate::answer::Answer;
 use crate::ignored::export_remark;
 use crate::input::results_of;
-use crate::plan::{lasting, plan_of};
+use crate::plan::{lasting, plan_of, signed_plan};
 use crate::refusal::Refusal;
 use crate::reporting::{Form, Manner};
 use canvas_celery::{Run, keys};
-use canvas_collect::{
-    CollectFault, StoredFault, collect, collect_as_stored, complete, complete_as_stored,
-};
+use canvas_collect::{collect, complete};
 use canvas_export::{Target, export};
-use canvas_report::{Report, Row, Told, stored_rows_text, stored_text};
+use canvas_report::{Row, Told, explained_text, stored_rows_text, stored_text};
 use canvas_rewrite::Plan;
+use canvas_task::Memory;
 pub use refusal::CeleryRefusal;
 use std::alloc::Global;
 use std::io::Read;
@@ -43,6 +43,7 @@ pub enum OnCelery<'w> {
 pub struct Collecting {
     /// Whether the report also has the tasks that a failure reaches.
     pub completes: bool,
+    /// In which form. What workers stored has no status of its own.
     pub manner: Manner,
 }
 
@@ -61,27 +62,35 @@ where
     ensures { IfOk result (λ a. (l : Line) × IsTextPlan text.now l
         × IsOnCelery run.now.digits asked.entry l a) }
 {
-    let plan = lasting(plan_of(rt.alloc(), text)?);
+    let alloc = rt.alloc();
     match asked {
-        OnCelery::Export(target) => answer_export(rt.alloc(), &plan, run, &target, text, texts),
-        OnCelery::Keys { prefix } => answer_keys(rt.alloc(), &plan, run, prefix),
-        OnCelery::Collect(collecting) => answer_collect(rt, &plan, run, collecting, input),
+        OnCelery::Export(target) => answer_export(alloc, run, &target, text, texts),
+        OnCelery::Keys { prefix } => {
+            let plan = lasting(plan_of(alloc, text)?);
+            answer_keys(alloc, &plan, run, prefix)
+        }
+        OnCelery::Collect(collecting) => {
+            let plan = lasting(plan_of(alloc, text)?);
+            answer_collect(rt, &plan, run, collecting, input)
+        }
     }
 }
 
 /// The commands for Redis that start a canvas, and what the workers get of it otherwise.
 fn answer_export(
     alloc: Global,
-    plan: &Plan,
     run: &Run,
     target: &Target<'_>,
     text: &[u8],
     texts: usize,
 ) -> Result<Answer, Refusal>
-    ensures { IfOk result (AnswersAll (commands_of run.now.digits target.now plan.now) 0) }
+    ensures { IfOk result (λ a. (l : Line) × IsTextPlan text.now l
+        × AnswersAll (commands_of run.now.digits target.now l) 0 a) }
 {
-    let start = export(alloc, plan, run, target)?;
-    let remark = export_remark(alloc, text, texts)?;
+    let (plan, signatures) = signed_plan(alloc, text)?;
+    let plan = lasting(plan);
+    let start = export(alloc, &plan, run, target)?;
+    let remark = export_remark(alloc, signatures, texts)?;
     Ok(Answer::whole(start).as_bytes().with_remark(remark))
 }
 
@@ -103,13 +112,14 @@ fn answer_collect<S, R: Read>(
 ) -> Result<Answer, Refusal>
 where
     S: Files + AllocGlobal,
-    ensures { IfOk result (λ a. a.refusal ≡ None) }
+    ensures { IfOk result
+        (λ a. (results : Text) × IsCollected run.now.digits collecting results plan.now a) }
 {
     let results = results_of(rt, "-", input)?;
     answer_results(rt.alloc(), plan, run, collecting, results)
 }
 
-/// The report that these results give.
+/// The report that these results give, which may be long, and are dropped before it is made.
 fn answer_results(
     alloc: Global,
     plan: &Plan,
@@ -117,44 +127,35 @@ fn answer_results(
     collecting: Collecting,
     results: Vec<u8>,
 ) -> Result<Answer, Refusal>
-    ensures { IfOk result (λ a. a.refusal ≡ None) }
-{
-    match collected(alloc, plan, run, &results, collecting.completes)? {
-        Some(report) => collecting.manner.untold(alloc, plan, &report),
-        None => answer_stored(alloc, plan, run, collecting, results),
-    }
-}
-
-/// The same where the tasks may have returned or raised anything. The results, which may be long,
-/// are dropped before the report is made.
-fn answer_stored(
-    alloc: Global,
-    plan: &Plan,
-    run: &Run,
-    collecting: Collecting,
-    results: Vec<u8>,
-) -> Result<Answer, Refusal>
-    ensures { IfOk result (λ a. a.refusal ≡ None) }
+    ensures { IfOk result (IsCollected run.now.digits collecting results.items plan.now) }
 {
     let rows = stored_rows(alloc, plan, run, &results, collecting.completes)?;
     drop(results);
-    answer_rows(alloc, plan, &rows, collecting.manner.form)
+    let text = text_of_rows(alloc, plan, &rows, collecting.manner.form)?;
+    Ok(Answer::whole(text.into_bytes()))
 }
 
-/// The report of rows of any kind.
-fn answer_rows(alloc: Global, plan: &Plan, rows: &[Row], form: Form) -> Result<Answer, Refusal>
-    ensures { IfOk result (λ a. a.refusal ≡ None) }
+/// The report of rows of any kind. Celery's workers tell no more.
+pub(crate) fn text_of_rows(
+    alloc: Global,
+    plan: &Plan,
+    rows: &[Row],
+    form: Form,
+) -> Result<String, Memory>
+    ensures { IfOk result (λ text. IsStoredText form plan.now rows.now (string_bytes text)) }
 {
-    // Celery's workers tell no more.
-    let told = Told {
-        fates: &[],
-        blamed: &[],
-    };
-    let text = match form {
-        Form::Json => stored_rows_text(alloc, plan, rows, told)?,
-        Form::Plain | Form::Explained => stored_text(alloc, plan, rows)?,
-    };
-    Ok(Answer::whole(text.into_bytes()))
+    match form {
+        Form::Plain => stored_text(alloc, plan, rows),
+        Form::Json => {
+            let told = Told {
+                fates: &[],
+                blamed: &[],
+                again: None,
+            };
+            stored_rows_text(alloc, plan, rows, told)
+        }
+        Form::Explained => explained_text(alloc, plan, rows, &[]),
+    }
 }
 
 /// The run that the words name.
@@ -165,49 +166,30 @@ pub(crate) fn run_of(text: &str) -> Result<Run, Refusal> {
     }
 }
 
-/// Whether a result is one of a task that returns or raises what the engine's own tasks don't.
-fn is_of_another_kind(fault: &CollectFault) -> bool {
-    match fault {
-        CollectFault::Stored { fault, .. } => matches!(
-            fault,
-            StoredFault::NotNumber | StoredFault::UnknownException | StoredFault::UnknownDependency
-        ),
-        _ => false,
-    }
+/// Rows with the failures that reach those that are pending.
+fn completed_rows(plan: &Plan, rows: Vec<Row>) -> Result<Vec<Row>, Refusal>
+    ensures { IfOk result (λ made. AreCompleted true plan.now rows.items made.items) }
+{
+    let mut made = rows;
+    complete(plan, made.as_mut_slice())?;
+    Ok(made)
 }
 
-/// The report that stored results give, where all are outcomes that the engine's own tasks have.
-fn collected(
-    alloc: Global,
-    plan: &Plan,
-    run: &Run,
-    results: &[u8],
-    completes: bool,
-) -> Result<Option<Report>, CollectFault> {
-    match collect(alloc, plan, run, results) {
-        Ok(rows) => Ok(Some(Report {
-            rows: if completes {
-                complete(plan, rows)
-            } else {
-                rows
-            },
-        })),
-        Err(fault) if is_of_another_kind(&fault) => Ok(None),
-        Err(fault) => Err(fault),
-    }
-}
-
-/// The rows that stored results give, whatever the tasks returned or raised.
+/// The rows that stored results give, completed where that is asked for.
 pub(crate) fn stored_rows(
     alloc: Global,
     plan: &Plan,
     run: &Run,
     results: &[u8],
     completes: bool,
-) -> Result<Vec<Row>, Refusal> {
-    let mut rows = collect_as_stored(alloc, plan, run, results)?;
+) -> Result<Vec<Row>, Refusal>
+    ensures { IfOk result
+        (λ rows. AreReported run.now.digits completes results.now plan.now rows.items) }
+{
+    let rows = collect(alloc, plan, run, results)?;
     if completes {
-        complete_as_stored(alloc, plan, &mut rows)?;
+        completed_rows(plan, rows)
+    } else {
+        Ok(rows)
     }
-    Ok(rows)
 }

@@ -44,6 +44,6 @@ pub fn object_text<T: Tasks>(
     report: &Report,
     source: &Source<'_, T>,
 ) -> Result<String, Refusal> {
-    let text = source.json_of(alloc, plans, report)?;
+    let text = source.json_of(alloc, plans, report, None)?;
     object_of_lines(alloc, &text)
 }

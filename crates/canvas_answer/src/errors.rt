@@ -1,4 +1,6 @@
 //! Exceptions of other classes than the four that the program's own tasks raise.
+ghost use Rattle.std.specs.Prelude.{◌≡◌, option_map};
+ghost use Rattle.canvas_answer.specs.Raised.{class_named};
 
 use std::alloc::{AllocError, Global};
 
@@ -71,7 +73,9 @@ pub(crate) fn push_error(
 }
 
 /// The class of the exception that the stub of a name raises, where it is another.
-pub(crate) fn class_named<'a>(errors: &'a [OtherError], name: &str) -> Option<&'a str> {
+pub(crate) fn class_named<'a>(errors: &'a [OtherError], name: &str) -> Option<&'a str>
+    ensures { option_map (λ c. c.now) result ≡ class_named errors.now name.now }
+{
     for error in errors {
         if error.name.as_str() == name {
             return Some(error.class.as_str());

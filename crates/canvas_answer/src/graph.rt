@@ -1,19 +1,23 @@
 //! `canvas graph`: a canvas as a picture.
-ghost use Rattle.std.specs.Prelude.{◌≡◌, [], IfOk, None, Some, option_map, string_bytes};
+ghost use Rattle.std.specs.Prelude.{◌≡◌, [], IfOk, List, None, Some, option_map, string_bytes};
 ghost use Rattle.canvas_ran.specs.Ran.{fates};
 ghost use Rattle.canvas_report.specs.Nodes.{looks};
 ghost use Rattle.canvas_report.specs.Picture.{IsPicture};
-ghost use Rattle.canvas_semantics.specs.Line.{Line, tree_of};
+ghost use Rattle.canvas_report.specs.declared.row.Row.{Row};
+ghost use Rattle.canvas_semantics.specs.Line.{tree_of};
 ghost use Rattle.canvas_semantics.specs.States.{states};
 ghost use Rattle.canvas_task.specs.Apply.{Behaviour};
+ghost use Rattle.canvas_task.specs.Text.{Text};
+ghost use Rattle.canvas_answer.specs.OnCelery.{IsStoredPicture};
+ghost use Rattle.canvas_answer.specs.Asking.{asking};
 ghost use Rattle.canvas_answer.specs.Pictured.{IsPictured};
-ghost use Rattle.canvas_answer.specs.Plans.{IsTextPlan};
-ghost use Rattle.canvas_answer.specs.Told.{known_states};
+ghost use Rattle.canvas_answer.specs.Plans.{run_line};
+ghost use Rattle.canvas_answer.specs.Told.{AreRows};
+ghost use Rattle.canvas_answer.specs.declared.graph.Stored.{Stored};
 
 use crate::answer::Answer;
 use crate::celery::stored_rows;
 use crate::input::results_of;
-use crate::plan::{lasting, plan_of};
 use crate::prepared::Plans;
 use crate::refusal::Refusal;
 use crate::source::Source;
@@ -59,7 +63,10 @@ fn stored_picture(
     plan: &Plan,
     asked: &Stored<'_>,
     results: &[u8],
-) -> Result<Answer, Refusal> {
+) -> Result<Answer, Refusal>
+    ensures { IfOk result (IsStoredPicture asked.now.run.digits asked.now.completes results.now
+        plan.now) }
+{
     let rows = stored_rows(alloc, plan, &asked.run, results, asked.completes)?;
     picture(alloc, plan, Some(&rows))
 }
@@ -72,6 +79,8 @@ fn answer_stored<S, R: Read>(
 ) -> Result<Answer, Refusal>
 where
     S: Files + AllocGlobal,
+    ensures { IfOk result (λ a. (results : Text)
+        × IsStoredPicture asked.now.run.digits asked.now.completes results plan.now a) }
 {
     let results = results_of(rt, asked.file, input)?;
     stored_picture(rt.alloc(), plan, asked, &results)
@@ -81,18 +90,19 @@ where
 pub fn plan_picture<S, R: Read>(
     rt: &S,
     stored: Option<Stored<'_>>,
-    text: &[u8],
+    plan: &Plan,
     input: &mut R,
 ) -> Result<Answer, Refusal>
 where
     S: Files + AllocGlobal,
-    ensures { stored.entry ≡ None → IfOk result
-        (λ a. (l : Line) × IsTextPlan text.now l × IsPictured [] None l a) }
+    ensures plain { stored.entry ≡ None → IfOk result (IsPictured [] None plan.now) }
+    ensures stored { (asked : Stored) → stored.entry ≡ Some asked → IfOk result
+        (λ a. (results : Text)
+        × IsStoredPicture asked.run.digits asked.completes results plan.now a) }
 {
-    let plan = lasting(plan_of(rt.alloc(), text)?);
     match stored {
-        Some(asked) => answer_stored(rt, &plan, &asked, input),
-        None => picture(rt.alloc(), &plan, None),
+        Some(asked) => answer_stored(rt, plan, &asked, input),
+        None => picture(rt.alloc(), plan, None),
     }
 }
 
@@ -103,13 +113,14 @@ fn picture_text<T>(
     source: &Source<'_, T>,
 ) -> Result<String, Memory>
     ensures { (behaviour : Behaviour)
-        → report.now.rows ≡ states behaviour (tree_of plans.now.shown)
-        → source.now.errors.now ≡ []
-        → IfOk result (λ text. IsPicture (looks (fates behaviour plans.now.shown)
-        (Some (known_states report.now.rows))) plans.now.shown (string_bytes text)) }
+        → report.now.rows ≡ states behaviour (tree_of (run_line plans.now))
+        → IfOk result (λ text. (rows : List Row)
+        × AreRows (asking source.now.setting) (run_line plans.now) plans.now.shown behaviour rows
+        × IsPicture (looks (fates behaviour (run_line plans.now)) (Some rows)) plans.now.shown
+        (string_bytes text)) }
 {
-    let fates = fates(alloc, &plans.shown, report)?;
-    let rows = source.named_rows(alloc, plans, report, &fates)?;
+    let fates = fates(alloc, plans.run(), report)?;
+    let rows = source.rows(alloc, plans, report, &fates)?;
     graph_text(alloc, &plans.shown, Some(&rows), &fates)
 }
 
@@ -121,10 +132,10 @@ pub fn report_picture<T>(
     source: &Source<'_, T>,
 ) -> Result<Answer, Refusal>
     ensures { (behaviour : Behaviour)
-        → report.now.rows ≡ states behaviour (tree_of plans.now.shown)
-        → source.now.errors.now ≡ []
-        → IfOk result (IsPictured (fates behaviour plans.now.shown)
-        (Some (known_states report.now.rows)) plans.now.shown) }
+        → report.now.rows ≡ states behaviour (tree_of (run_line plans.now))
+        → IfOk result (λ a. (rows : List Row)
+        × AreRows (asking source.now.setting) (run_line plans.now) plans.now.shown behaviour rows
+        × IsPictured (fates behaviour (run_line plans.now)) (Some rows) plans.now.shown a) }
 {
     Ok(Answer::whole(picture_text(alloc, plans, report, source)?.into_bytes()))
 }

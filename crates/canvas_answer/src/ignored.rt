@@ -1,8 +1,7 @@
 //! What of a canvas Celery's workers get otherwise, as standard error tells it.
 
 use crate::answer::Remark;
-use canvas_finding::{ignored_options, shown_name};
-use canvas_task::Memory;
+use canvas_finding::{Signature, shown_name};
 use std::alloc::{AllocError, Global};
 
 /// The line on an option.
@@ -61,14 +60,25 @@ fn lines_of(alloc: Global, texts: usize, names: &[String]) -> Result<String, All
     Ok(lines)
 }
 
+/// The names of the options that signatures have and that are ignored.
+fn ignored_names(alloc: Global, signatures: Vec<Signature>) -> Result<Vec<String>, AllocError> {
+    let mut names = Vec::new(alloc);
+    for signature in signatures {
+        for option in signature.ignored {
+            names.push(option)?;
+        }
+    }
+    Ok(names)
+}
+
 /// What is said of an export: how many arguments are texts since the canvas was adapted, and which
-/// options are ignored.
+/// options of its signatures are ignored.
 pub(crate) fn export_remark(
     alloc: Global,
-    text: &[u8],
+    signatures: Vec<Signature>,
     texts: usize,
-) -> Result<Option<Remark>, Memory> {
-    let mut names = ignored_options(alloc, text)?;
+) -> Result<Option<Remark>, AllocError> {
+    let mut names = ignored_names(alloc, signatures)?;
     if names.is_empty() && texts == 0 {
         return Ok(None);
     }

@@ -1,83 +1,103 @@
 //! The rows of a run with the exceptions that stubs raise by their own classes. A task that was
 //! called has that of its stub, one that was skipped that of the task that it is due to.
-ghost use Rattle.std.specs.Prelude.{◌≡◌, IfOk};
+ghost use Rattle.std.specs.Prelude.{◌≡◌, [], IfOk, ℕ, Some, map, option_map, suc};
+ghost use Rattle.canvas_semantics.specs.States.{numbers_from};
+ghost use Rattle.canvas_answer.specs.Raised.{AreShown, IsBlamed, IsRaised, IsShown, class_by, class_of, class_raised, own_class};
 ghost use Rattle.canvas_answer.specs.Told.{known_states};
+ghost use Rattle.canvas_answer.specs.steps.Classes.{class_at, class_in};
 
 use crate::errors::class_named;
-use crate::source::Source;
+use crate::setting::Setting;
 use crate::stubs::stub_named;
-use canvas_report::{Fate, Report, Row, state_in};
+use canvas_report::{Fate, Report, Row};
 use canvas_rewrite::Plan;
-use canvas_task::{Fault, Kind, Outcome, TaskNo};
+use canvas_task::{Fault, Kind, Outcome, TaskNo, Why};
 use std::alloc::{AllocError, Global};
 
-/// The class of the exception that answered a call of a name with NotRegistered, where that stands
-/// for another.
-fn class_raised<'a, T>(source: &Source<'a, T>, name: &str) -> Option<&'a str> {
-    if stub_named(source.stubs, name).is_some() {
-        class_named(source.errors, name)
+/// The class of the exception that the stub raises which answers a name, where NotRegistered takes
+/// its place in a run.
+fn class_raised<'a>(setting: Setting<'a>, name: &str) -> Option<&'a str>
+    ensures { option_map (λ c. c.now) result
+        ≡ class_raised setting.entry.stubs.now setting.entry.errors.now name.now }
+{
+    if stub_named(setting.stubs, name).is_some() {
+        class_named(setting.errors, name)
     } else {
-        class_named(source.errors, "*")
+        class_named(setting.errors, "*")
     }
 }
 
-/// Whether a task failed with NotRegistered.
-fn is_unknown(report: &Report, task: TaskNo) -> bool {
-    matches!(
-        state_in(report.rows.get(), task),
-        Some(Outcome::Failure(Fault::Plain(Kind::NotRegistered)))
-    )
+/// The same of a task of the plan that is run.
+fn own_class<'a>(setting: Setting<'a>, plan: &Plan, task: TaskNo) -> Option<&'a str>
+    ensures { option_map (λ c. c.now) result
+        ≡ own_class setting.entry.stubs.now setting.entry.errors.now plan.now task }
+{
+    match plan.name(task) {
+        Some(name) => class_raised(setting, name),
+        None => None,
+    }
 }
 
-/// The class that was found of a task.
-fn class_at<'a>(classes: &[Option<&'a str>], task: TaskNo) -> Option<&'a str> {
-    match classes.get(task.get() as usize - 1) {
+/// The class at a place in a list of classes.
+fn class_in<'a>(classes: &[Option<&'a str>], place: usize) -> Option<&'a str>
+    ensures { option_map (λ c. c.now) result ≡ class_in classes.now place }
+{
+    match classes.get(place) {
         Some(class) => *class,
         None => None,
     }
 }
 
-/// The other class of the exception with which a task failed, where those of the tasks before it
-/// are known.
-fn class_of<'a, T>(
+/// The class of a task, from 1.
+fn class_at<'a>(classes: &[Option<&'a str>], task: TaskNo) -> Option<&'a str>
+    ensures { option_map (λ c. c.now) result ≡ class_at classes.now task }
+{
+    class_in(classes, task.get() as usize - 1)
+}
+
+/// The class of the exception that a task has of which this became, where those of the tasks before
+/// it are known.
+fn class_by<'a>(
+    setting: Setting<'a>,
     plan: &Plan,
-    report: &Report,
-    source: &Source<'a, T>,
     before: &[Option<&'a str>],
     task: TaskNo,
     fate: Fate,
-) -> Option<&'a str> {
-    if !is_unknown(report, task) {
-        return None;
-    }
+) -> Option<&'a str>
+    ensures { option_map (λ c. c.now) result
+        ≡ class_by task (own_class setting.entry.stubs.now setting.entry.errors.now plan.now task)
+        (λ d. class_at before.now d) (Some fate) }
+{
     match fate {
-        Fate::Ran => class_raised(source, plan.name(task)?),
-        Fate::Skipped(blamed) => class_at(before, blamed),
-        Fate::Idle => None,
+        Fate::Ran => own_class(setting, plan, task),
+        Fate::Skipped(due) if due.get() < task.get() => class_at(before, due),
+        Fate::Skipped(_) | Fate::Idle => None,
     }
 }
 
-/// Of each task of a plan's run the other class of the exception with which it failed.
-pub(crate) fn classes_of<'a, T>(
+/// The class of each task's exception, where a run by a plan had these fates.
+pub(crate) fn classes_of<'a>(
     alloc: Global,
     plan: &Plan,
-    report: &Report,
-    source: &Source<'a, T>,
+    setting: Setting<'a>,
     fates: &[(TaskNo, Fate)],
-) -> Result<Vec<Option<&'a str>>, AllocError> {
+) -> Result<Vec<Option<&'a str>>, AllocError>
+    ensures { (n : ℕ) → map (λ f. f.0) fates.now ≡ numbers_from 1 n
+        → IfOk result (λ classes. (k : ℕ) → class_at classes.items k
+        ≡ class_of fates.now
+        (own_class setting.entry.stubs.now setting.entry.errors.now plan.now) k) }
+{
     let mut classes = Vec::new(alloc);
-    for (task, fate) in fates {
-        let class = class_of(plan, report, source, &classes, *task, *fate);
+    for told in fates {
+        let class = class_by(setting, plan, &classes, told.0, told.1);
         classes.push(class)?;
     }
     Ok(classes)
 }
 
-fn raised_row(
-    alloc: Global,
-    state: Option<Outcome>,
-    class: Option<&str>,
-) -> Result<Row, AllocError> {
+fn raised_row(alloc: Global, state: Option<Outcome>, class: Option<&str>) -> Result<Row, AllocError>
+    ensures { IfOk result (IsRaised (option_map (λ c. c.now) class.entry) state) }
+{
     match class {
         Some(class) => Ok(Row::Raised(String::from_str(alloc, class)?)),
         None => Ok(Row::Known(state)),
@@ -89,7 +109,9 @@ fn blamed_row(
     state: Option<Outcome>,
     dep: TaskNo,
     class: Option<&str>,
-) -> Result<Row, AllocError> {
+) -> Result<Row, AllocError>
+    ensures { IfOk result (IsBlamed dep (option_map (λ c. c.now) class.entry) state) }
+{
     match class {
         Some(class) => {
             let name = String::from_str(alloc, class)?;
@@ -99,27 +121,27 @@ fn blamed_row(
     }
 }
 
-fn failed_row(
+/// The row of the task at a place, from 0, with this state.
+fn shown_row(
     alloc: Global,
-    state: Option<Outcome>,
-    fault: &Fault,
     classes: &[Option<&str>],
-    own: Option<&str>,
-) -> Result<Row, AllocError> {
-    match fault {
-        Fault::Plain(_) => raised_row(alloc, state, own),
-        Fault::Chord { dep, .. } => blamed_row(alloc, state, *dep, class_at(classes, *dep)),
-    }
-}
-
-fn row_of(
-    alloc: Global,
+    place: usize,
     state: &Option<Outcome>,
-    classes: &[Option<&str>],
-    own: Option<&str>,
-) -> Result<Row, AllocError> {
+) -> Result<Row, AllocError>
+    ensures { IfOk result (IsShown (λ k. class_at classes.now k) (suc place) state.now) }
+{
     match state {
-        Some(Outcome::Failure(fault)) => failed_row(alloc, *state, fault, classes, own),
+        Some(Outcome::Failure(Fault::Plain(Kind::NotRegistered))) => {
+            raised_row(alloc, *state, class_in(classes, place))
+        }
+        Some(
+            Outcome::Failure(
+                Fault::Chord {
+                    dep,
+                    why: Why::Plain(Kind::NotRegistered),
+                },
+            ),
+        ) => blamed_row(alloc, *state, *dep, class_at(classes, *dep)),
         _ => Ok(Row::Known(*state)),
     }
 }
@@ -140,14 +162,36 @@ pub(crate) fn rows_of(
     alloc: Global,
     report: &Report,
     classes: &[Option<&str>],
-) -> Result<Vec<Row>, AllocError> {
+) -> Result<Vec<Row>, AllocError>
+    ensures { IfOk result
+        (λ rows. AreShown (λ k. class_at classes.now k) report.now.rows rows.items) }
+{
     let mut rows = Vec::new(alloc);
-    for (index, state) in report.rows.get().iter().enumerate() {
-        let own = match classes.get(index) {
-            Some(class) => *class,
-            None => None,
-        };
-        rows.push(row_of(alloc, state, classes, own)?)?;
+    for state in report.rows.get() {
+        let row = shown_row(alloc, classes, rows.len(), state)?;
+        rows.push(row)?;
     }
     Ok(rows)
+}
+
+/// The rows of a report, where the run had these fates.
+pub(crate) fn named_rows(
+    alloc: Global,
+    plan: &Plan,
+    report: &Report,
+    setting: Setting<'_>,
+    fates: &[(TaskNo, Fate)],
+) -> Result<Vec<Row>, AllocError>
+    ensures shown { (n : ℕ) → map (λ f. f.0) fates.now ≡ numbers_from 1 n
+        → IfOk result (λ rows. AreShown (λ k. class_of fates.now
+        (own_class setting.entry.stubs.now setting.entry.errors.now plan.now) k)
+        report.now.rows rows.items) }
+    ensures known { setting.entry.errors.now ≡ []
+        → IfOk result (λ rows. rows.items ≡ known_states report.now.rows) }
+{
+    if setting.errors.is_empty() {
+        return known_rows(alloc, report);
+    }
+    let classes = classes_of(alloc, plan, setting, fates)?;
+    rows_of(alloc, report, &classes)
 }

@@ -1,11 +1,9 @@
 //! The names that `--task` says: a task of the canvas has each, unless it is `*` or a built-in
 //! task's.
-ghost use Rattle.std.specs.Prelude.{◌≡◌, ◌⊎◌, [], IfErr, IfOk, None, Some, is_some, option_map};
-ghost use Rattle.canvas_semantics.specs.Line.{Line, names};
+ghost use Rattle.std.specs.Prelude.{◌≡◌, IfErr, IfOk, None, Some, option_map};
+ghost use Rattle.canvas_semantics.specs.Line.{names};
 ghost use Rattle.canvas_answer.specs.Names.{IsUnknownName, first_unknown, has_name, is_called, is_common};
-ghost use Rattle.canvas_answer.specs.Plans.{IsReadRefusal, IsTextPlan};
 
-use crate::plan::{lasting, plan_of};
 use crate::refusal::Refusal;
 use canvas_rewrite::Plan;
 use canvas_stubs::Stub;
@@ -36,18 +34,6 @@ fn has_name(plan: &Plan, name: &str) -> bool
 {
     for index in 0..plan.tasks() {
         if is_called(plan.name(plan.task_at(index)), name) {
-            return true;
-        }
-    }
-    false
-}
-
-/// Whether some stubs have a name that not any canvas may be run with.
-fn names_tasks(stubs: &[Stub]) -> bool
-    ensures { result ≡ is_some (first_unknown [] stubs.now) }
-{
-    for stub in stubs {
-        if !is_common(stub.name.get().as_str()) {
             return true;
         }
     }
@@ -106,7 +92,7 @@ fn refused_name(alloc: Global, plan: &Plan, name: &str) -> Result<Refusal, Alloc
 }
 
 /// Refuses the first of some stubs whose name no task of the plan has.
-fn check_plan(alloc: Global, plan: &Plan, stubs: &[Stub]) -> Result<(), Refusal>
+pub(crate) fn check_names(alloc: Global, plan: &Plan, stubs: &[Stub]) -> Result<(), Refusal>
     ensures known { IfOk result (λ _. first_unknown (names plan.now) stubs.now ≡ None) }
     ensures unknown { IfErr result (IsUnknownName (first_unknown (names plan.now) stubs.now)) }
 {
@@ -117,20 +103,4 @@ fn check_plan(alloc: Global, plan: &Plan, stubs: &[Stub]) -> Result<(), Refusal>
         },
         None => Ok(()),
     }
-}
-
-/// Refuses the first of some stubs whose name no task of the text's canvas has. The text isn't read
-/// where any canvas may be run with all of them.
-pub(crate) fn check_names(alloc: Global, text: &[u8], stubs: &[Stub]) -> Result<(), Refusal>
-    ensures known { IfOk result (λ _. (first_unknown [] stubs.now ≡ None)
-        ⊎ ((l : Line) × IsTextPlan text.now l × (first_unknown (names l) stubs.now ≡ None))) }
-    ensures unknown { IfErr result (λ refusal. IsReadRefusal text.now refusal
-        ⊎ ((l : Line) × IsTextPlan text.now l
-        × IsUnknownName (first_unknown (names l) stubs.now) refusal)) }
-{
-    if !names_tasks(stubs) {
-        return Ok(());
-    }
-    let plan = lasting(plan_of(alloc, text)?);
-    check_plan(alloc, &plan, stubs)
 }

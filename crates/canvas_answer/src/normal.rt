@@ -1,15 +1,11 @@
 //! `canvas normal`: the line that a canvas is run as.
-ghost use Rattle.std.specs.Prelude.{◌≡◌, ◌++◌, IfOk, IfErr, Ok, codes, string_bytes};
-ghost use Rattle.canvas_values.specs.CanvasText.{text_reading};
+ghost use Rattle.std.specs.Prelude.{◌++◌, IfOk, codes, string_bytes};
 ghost use Rattle.canvas_values.specs.SignatureView.{view};
-ghost use Rattle.canvas_semantics.specs.Tree.{Tree};
 ghost use Rattle.canvas_task.specs.Text.{Text};
 ghost use Rattle.canvas_answer.specs.Answers.{AnswersAll};
 ghost use Rattle.canvas_answer.specs.Normal.{IsNormalNode, IsNormalText};
-ghost use Rattle.canvas_answer.specs.Plans.{IsReadRefusal};
 
 use crate::answer::Answer;
-use crate::plan::{canvas_of, lasting};
 use crate::refusal::Refusal;
 use canvas_rewrite::{node_of, normalise};
 use canvas_sig::{Canvas, write_node};
@@ -42,13 +38,11 @@ fn line_text(alloc: Global, canvas: &Canvas) -> Result<String, Memory>
 }
 
 /// The normal line of a canvas as JSON, with a line feed.
-pub fn answer_normal(alloc: Global, text: &[u8]) -> Result<Answer, Refusal>
-    ensures ok { IfOk result (λ a. (c : Tree) × (line : Text) × (text_reading text.now ≡ Ok c)
-        × IsNormalText c line × AnswersAll line 0 a) }
-    ensures err { IfErr result (IsReadRefusal text.now) }
+pub fn answer_normal(alloc: Global, canvas: &Canvas) -> Result<Answer, Refusal>
+    ensures { IfOk result (λ a. (line : Text) × IsNormalText canvas.now line
+        × AnswersAll line 0 a) }
 {
-    let canvas = lasting(canvas_of(alloc, text)?);
-    match line_text(alloc, &canvas) {
+    match line_text(alloc, canvas) {
         Ok(line) => Ok(Answer::whole(line.into_bytes()).as_bytes()),
         Err(Memory) => Err(Refusal::Memory),
     }

@@ -5,6 +5,7 @@ ghost use Rattle.canvas_values.specs.CanvasText.{text_reading};
 ghost use Rattle.canvas_answer.specs.Plans.{IsTextPlan, IsReadRefusal};
 
 use crate::refusal::Refusal;
+use canvas_finding::{Reading, Signature, read};
 use canvas_rewrite::Plan;
 use canvas_sig::{Canvas, SigFault, read_canvas};
 use canvas_task::Memory;
@@ -32,6 +33,16 @@ pub fn plan_of(alloc: Global, text: &[u8]) -> Result<Plan, Refusal>
     match Plan::of(alloc, canvas) {
         Ok(plan) => Ok(plan),
         Err(Memory) => Err(Refusal::Memory),
+    }
+}
+
+/// The same, with the signatures of the text.
+pub(crate) fn signed_plan(alloc: Global, text: &[u8]) -> Result<(Plan, Vec<Signature>), Refusal>
+    ensures { IfOk result (λ r. IsTextPlan text.now r.0) }
+{
+    match read(alloc, text)? {
+        Reading::Canvas { canvas, signatures } => Ok((Plan::of(alloc, canvas)?, signatures)),
+        Reading::Refused(finding) => Err(Refusal::Canvas(finding.fault)),
     }
 }
 

@@ -1,44 +1,85 @@
-//! Canvases as they are run: adapted where that is asked for, and with a name of its own for each
-//! task that is named by its number.
-ghost use Rattle.std.specs.Prelude.{◌≡◌, IfOk, None, false};
-ghost use Rattle.canvas_answer.specs.Plans.{IsTextPlan};
+//! A canvas that is made ready: read once, adapted where that is asked for, and planned.
+ghost use Rattle.std.specs.Prelude.{◌≡◌, IfOk, IfSome, None};
+ghost use Rattle.canvas_adapt.specs.Renamed.{renamed};
+ghost use Rattle.canvas_answer.specs.Plans.{IsCanvasOf, IsPlanOf, IsSpelled, run_line, spelled_text};
 
-use crate::errors::OtherError;
-use crate::names::check_names;
-use crate::plan::plan_of;
+use crate::plan::canvas_of;
 use crate::refusal::Refusal;
-use crate::source::Source;
-use canvas_adapt::{Adapted, Changes, Rename, adapt, rename};
+use canvas_adapt::{
+    Adapted, AdaptedText, Changes, Rename, adapt, adapted_text, law_of_renames, renamed,
+};
 use canvas_rewrite::Plan;
-use canvas_stubs::Stub;
+use canvas_sig::Canvas;
 use std::alloc::Global;
 
-/// How canvases are run, besides what answers their calls.
-#[derive(Clone, Copy)]
-pub struct Setting<'a> {
-    /// Whether they are adapted first.
-    pub adapts: bool,
-    /// The stubs that stand before the tasks.
-    pub stubs: &'a [Stub],
-    /// Those of names that the words say.
-    pub said: &'a [Stub],
-    pub errors: &'a [OtherError],
-    pub renames: &'a [Rename],
-}
-
-/// The texts that are made of a canvas's.
+/// A canvas, and what was changed for it.
 #[derive(Drop)]
 pub struct Prepared {
-    adapted: Option<Adapted>,
-    renamed: Option<Vec<u8>>,
+    pub canvas: Canvas,
+    pub changes: Changes,
 }
 
-fn adapted(alloc: Global, text: &[u8], setting: Setting<'_>) -> Result<Option<Adapted>, Refusal> {
-    if setting.adapts {
-        Ok(Some(adapt(alloc, text)?))
-    } else {
-        Ok(None)
+impl Prepared {
+    /// The canvas of a text, adapted where that is asked for. The text is read once.
+    pub fn of(alloc: Global, text: &[u8], adapts: bool) -> Result<Prepared, Refusal>
+        ensures { IfOk result (λ p. IsCanvasOf adapts text.now p.canvas) }
+    {
+        if adapts {
+            let Adapted { canvas, changes } = adapt(alloc, text)?;
+            return Ok(Prepared { canvas, changes });
+        }
+        let canvas = canvas_of(alloc, text)?;
+        Ok(Prepared {
+            canvas,
+            changes: Changes::none(),
+        })
     }
+}
+
+/// The text that spells a canvas which can be run, for what points into it.
+#[derive(Drop)]
+pub struct Spelled {
+    adapted: Option<AdaptedText>,
+}
+
+impl Spelled {
+    /// The text as it is, or adapted where that is asked for.
+    pub fn of(alloc: Global, text: &[u8], adapts: bool) -> Result<Spelled, Refusal>
+        ensures { IfOk result (λ s. IsSpelled adapts text.now (spelled_text s text.now)) }
+    {
+        let adapted = if adapts {
+            Some(adapted_text(alloc, text, &[])?)
+        } else {
+            None
+        };
+        Ok(Spelled { adapted })
+    }
+
+    /// The text, which is that of `of` where nothing was adapted.
+    pub fn text<'a>(&'a self, text: &'a [u8]) -> &'a [u8]
+        ensures { result.now ≡ spelled_text self.now text.now }
+    {
+        match &self.adapted {
+            Some(adapted) => &adapted.text,
+            None => text,
+        }
+    }
+
+    /// How many arguments are texts since it was adapted.
+    pub fn texts(&self) -> usize {
+        match &self.adapted {
+            Some(adapted) => adapted.changes.arguments,
+            None => 0,
+        }
+    }
+}
+
+/// The plan of a canvas, as it is shown and as it is run.
+#[derive(Drop)]
+pub struct Plans {
+    pub shown: Plan,
+    /// Where some of its tasks have other names for the run.
+    named: Option<Plan>,
 }
 
 /// The first of these numbers that a canvas of so many tasks doesn't have is refused.
@@ -51,103 +92,43 @@ fn check_numbers(renames: &[Rename], tasks: u32) -> Result<(), Refusal> {
     Ok(())
 }
 
-fn renamed(alloc: Global, text: &[u8], setting: Setting<'_>) -> Result<Option<Vec<u8>>, Refusal> {
-    if setting.renames.is_empty() {
+fn plan_of(alloc: Global, canvas: Canvas) -> Result<Plan, Refusal>
+    ensures { IfOk result (IsPlanOf canvas) }
+{
+    Ok(Plan::of(alloc, canvas)?)
+}
+
+/// The plan of a canvas some of whose tasks have other names, where there are any.
+fn named_plan(alloc: Global, canvas: &Canvas, renames: &[Rename]) -> Result<Option<Plan>, Refusal>
+    ensures some { IfOk result (λ plan. IfSome plan (IsPlanOf (renamed renames.now canvas.now))) }
+    ensures none { IfOk result (λ plan. plan ≡ None → renamed renames.now canvas.now ≡ canvas.now) }
+{
+    if renames.is_empty() {
+        law_of_renames();
         return Ok(None);
     }
-    let renamed = rename(alloc, text, setting.renames)?;
-    check_numbers(setting.renames, renamed.tasks)?;
-    Ok(Some(renamed.text))
-}
-
-fn adapted_or<'a>(adapted: &'a Option<Adapted>, text: &'a [u8]) -> &'a [u8] {
-    match adapted {
-        Some(adapted) => &adapted.text,
-        None => text,
-    }
-}
-
-fn text_or<'a>(made: &'a Option<Vec<u8>>, text: &'a [u8]) -> &'a [u8] {
-    match made {
-        Some(made) => made,
-        None => text,
-    }
-}
-
-fn changes_of(adapted: &Option<Adapted>) -> Changes {
-    match adapted {
-        Some(adapted) => adapted.changes,
-        None => Changes::none(),
-    }
-}
-
-impl Prepared {
-    /// The texts that a setting asks for of a canvas's.
-    pub fn of(alloc: Global, text: &[u8], setting: Setting<'_>) -> Result<Prepared, Refusal> {
-        let adapted = adapted(alloc, text, setting)?;
-        let renamed = renamed(alloc, adapted_or(&adapted, text), setting)?;
-        Ok(Prepared { adapted, renamed })
-    }
-
-    /// Refuses a name that the words say, where no task of the canvas has it.
-    pub fn check_names(
-        &self,
-        alloc: Global,
-        text: &[u8],
-        setting: Setting<'_>,
-    ) -> Result<(), Refusal> {
-        check_names(alloc, adapted_or(&self.adapted, text), setting.said)
-    }
-
-    /// What a run of the canvas is of, whose text is this.
-    pub fn source<'a, T>(
-        &'a self,
-        text: &'a [u8],
-        tasks: &'a T,
-        setting: Setting<'a>,
-    ) -> Source<'a, T> {
-        let shown = adapted_or(&self.adapted, text);
-        Source {
-            text: text_or(&self.renamed, shown),
-            shown,
-            is_renamed: self.renamed.is_some(),
-            changes: changes_of(&self.adapted),
-            tasks,
-            stubs: setting.stubs,
-            errors: setting.errors,
-        }
-    }
-}
-
-/// The plan of a canvas, as it is shown and as it is run.
-#[derive(Drop)]
-pub struct Plans {
-    pub shown: Plan,
-    /// Where some of its tasks have other names.
-    renamed: Option<Plan>,
+    let named = renamed(alloc, canvas, renames)?;
+    Ok(Some(plan_of(alloc, named)?))
 }
 
 impl Plans {
-    /// The plans of a canvas, one where no task has another name.
-    pub fn of<T>(alloc: Global, source: &Source<'_, T>) -> Result<Plans, Refusal>
-        ensures shown { IfOk result (λ plans. IsTextPlan source.now.shown.now plans.shown) }
-        ensures one { IfOk result
-            (λ plans. source.now.is_renamed ≡ false → plans.renamed ≡ None) }
+    /// The plans of a canvas, one where no task has another name for the run.
+    pub fn of(alloc: Global, canvas: Canvas, renames: &[Rename]) -> Result<Plans, Refusal>
+        ensures shown { IfOk result (λ plans. IsPlanOf canvas plans.shown) }
+        ensures run { IfOk result
+            (λ plans. IsPlanOf (renamed renames.now canvas) (run_line plans)) }
     {
-        let shown = plan_of(alloc, source.shown)?;
-        let renamed = if source.is_renamed {
-            Some(plan_of(alloc, source.text)?)
-        } else {
-            None
-        };
-        Ok(Plans { shown, renamed })
+        let named = named_plan(alloc, &canvas, renames)?;
+        let shown = plan_of(alloc, canvas)?;
+        check_numbers(renames, shown.tasks())?;
+        Ok(Plans { shown, named })
     }
 
     /// The plan that is run.
     pub fn run(&self) -> &Plan
-        ensures { self.now.renamed ≡ None → result.now ≡ self.now.shown }
+        ensures { result.now ≡ run_line self.now }
     {
-        match &self.renamed {
+        match &self.named {
             Some(plan) => plan,
             None => &self.shown,
         }

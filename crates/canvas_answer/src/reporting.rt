@@ -1,24 +1,24 @@
 //! Reports as texts or as JSON, and results that decide the status.
-ghost use Rattle.std.specs.Prelude.{◌≡◌, [], IfOk, option_map, string_bytes};
+ghost use Rattle.std.specs.Prelude.{◌≡◌, IfOk, None, option_map, string_bytes};
 ghost use Rattle.canvas_report.specs.Failing.{any_failed};
 ghost use Rattle.canvas_semantics.specs.Evaluation.{with_states};
 ghost use Rattle.canvas_semantics.specs.Line.{ends_of, tree_of};
-ghost use Rattle.canvas_semantics.specs.Report.{report_of};
 ghost use Rattle.canvas_semantics.specs.States.{rows_from, states};
 ghost use Rattle.canvas_task.specs.Apply.{Behaviour};
 ghost use Rattle.canvas_task.specs.Text.{Text};
-ghost use Rattle.canvas_answer.specs.Answers.{AnswersPart, AnswersAll, bytes_of};
-ghost use Rattle.canvas_answer.specs.Told.{IsReport, IsToldText, IsUntoldText, IsEarlyText, report_status};
+ghost use Rattle.canvas_answer.specs.Answers.{AnswersAll, AnswersPart, bytes_of};
+ghost use Rattle.canvas_answer.specs.Asking.{asking};
+ghost use Rattle.canvas_answer.specs.Plans.{run_line};
+ghost use Rattle.canvas_answer.specs.Told.{IsEarlyText, IsReport, IsReportText, IsTold, report_status};
+ghost use Rattle.canvas_answer.specs.declared.reporting.Form.TheVariants.{Explained, Plain};
 
 use crate::answer::Answer;
-use crate::named_rows::known_rows;
+use crate::celery::text_of_rows;
 use crate::prepared::Plans;
 use crate::refusal::Refusal;
 use crate::source::Source;
 use canvas_ran::fates;
-use canvas_report::{
-    Report, Told, explained_text, is_failure, report_text, rows_text, stored_text,
-};
+use canvas_report::{Report, explained_text, is_failure, report_text, stored_text};
 use canvas_rewrite::Plan;
 use canvas_task::{Memory, Tasks};
 use std::alloc::Global;
@@ -53,35 +53,18 @@ impl Manner {
         plans: &Plans,
         report: &Report,
         source: &Source<'_, T>,
+        again: Option<u64>,
     ) -> Result<String, Refusal>
         ensures { (behaviour : Behaviour)
-            → report.now.rows ≡ states behaviour (tree_of plans.now.shown)
-            → source.now.errors.now ≡ []
-            → IfOk result
-            (λ text. IsToldText behaviour plans.now.shown self.now.form (string_bytes text)) }
+            → report.now.rows ≡ states behaviour (tree_of (run_line plans.now))
+            → IfOk result (λ text. IsTold (asking source.now.setting)
+            (run_line plans.now) plans.now.shown behaviour self.now.form again
+            (string_bytes text)) }
     {
         match self.form {
             Form::Plain => plain_text(alloc, plans, report, source),
-            Form::Json => source.json_of(alloc, plans, report),
+            Form::Json => source.json_of(alloc, plans, report, again),
             Form::Explained => explained(alloc, plans, report, source),
-        }
-    }
-
-    /// A report that doesn't tell which tasks were called.
-    fn text(&self, alloc: Global, plan: &Plan, report: &Report) -> Result<String, Memory>
-        ensures { IfOk result (λ text.
-            IsUntoldText self.now.form (tree_of plan.now) report.now.rows (string_bytes text)) }
-    {
-        match self.form {
-            Form::Plain => report_text(alloc, plan, report),
-            Form::Json => {
-                let told = Told {
-                    fates: &[],
-                    blamed: &[],
-                };
-                rows_text(alloc, plan, report, told)
-            }
-            Form::Explained => explained_text(alloc, plan, &known_rows(alloc, report)?, &[]),
         }
     }
 
@@ -92,30 +75,15 @@ impl Manner {
         plans: &Plans,
         report: &Report,
         source: &Source<'_, T>,
+        again: Option<u64>,
     ) -> Result<Answer, Refusal>
         ensures { (behaviour : Behaviour)
-            → report.now.rows ≡ states behaviour (tree_of plans.now.shown)
-            → source.now.errors.now ≡ []
-            → IfOk result (IsReport behaviour plans.now.shown self.now.form self.now.fails) }
+            → report.now.rows ≡ states behaviour (tree_of (run_line plans.now))
+            → IfOk result (IsReport (asking source.now.setting)
+            (run_line plans.now) plans.now.shown behaviour self.now.form self.now.fails again) }
     {
-        let text = self.whole_text(alloc, plans, report, source)?;
+        let text = self.whole_text(alloc, plans, report, source, again)?;
         Ok(self.answer(text, &plans.shown, report))
-    }
-
-    /// A report that doesn't tell which tasks were called, and the status that its result has.
-    pub(crate) fn untold(
-        &self,
-        alloc: Global,
-        plan: &Plan,
-        report: &Report,
-    ) -> Result<Answer, Refusal>
-        ensures { IfOk result (λ a. (text : Text)
-            × IsUntoldText self.now.form (tree_of plan.now) report.now.rows text
-            × AnswersAll text (report_status self.now.fails
-            (any_failed (with_states (rows_from 1 report.now.rows) (ends_of plan.now)))) a) }
-    {
-        let text = self.text(alloc, plan, report)?;
-        Ok(self.answer(text, plan, report))
     }
 
     fn answer(&self, text: String, plan: &Plan, report: &Report) -> Answer
@@ -131,7 +99,7 @@ impl Manner {
     }
 
     /// Why a run has no whole report, and what it stored, where that is known and there is memory
-    /// for it. Where stubs raise exceptions of other classes nothing is told of what it stored.
+    /// for it.
     pub fn early<T>(
         &self,
         alloc: Global,
@@ -141,7 +109,8 @@ impl Manner {
         refusal: Refusal,
     ) -> Answer
         ensures { (text : Text) × AnswersPart text refusal result
-            × IsEarlyText self.now.form (tree_of plans.now.shown)
+            × IsEarlyText (asking source.now.setting)
+            (run_line plans.now) plans.now.shown self.now.form
             (option_map (λ r. r.now) stored.entry) text }
     {
         let text = self.early_text(alloc, plans, source, stored);
@@ -155,15 +124,31 @@ impl Manner {
         source: &Source<'_, T>,
         stored: Option<&Report>,
     ) -> Option<String>
-        ensures { IsEarlyText self.now.form (tree_of plans.now.shown)
+        ensures { IsEarlyText (asking source.now.setting)
+            (run_line plans.now) plans.now.shown self.now.form
             (option_map (λ r. r.now) stored.entry) (bytes_of result) }
     {
         match stored {
-            Some(report) if source.errors.is_empty() => {
-                self.text(alloc, &plans.shown, report).ok()
-            }
-            _ => None,
+            Some(report) => self.stored_report(alloc, plans, source, report).ok(),
+            None => None,
         }
+    }
+
+    /// What a run that ended early stored.
+    fn stored_report<T>(
+        &self,
+        alloc: Global,
+        plans: &Plans,
+        source: &Source<'_, T>,
+        report: &Report,
+    ) -> Result<String, Memory>
+        ensures { IfOk result (λ text. IsReportText (asking source.now.setting)
+            (run_line plans.now) plans.now.shown self.now.form report.now.rows
+            (string_bytes text)) }
+    {
+        let fates = fates(alloc, plans.run(), report)?;
+        let rows = source.rows(alloc, plans, report, &fates)?;
+        text_of_rows(alloc, &plans.shown, &rows, self.form)
     }
 }
 
@@ -173,14 +158,16 @@ fn plain_text<T>(
     report: &Report,
     source: &Source<'_, T>,
 ) -> Result<String, Refusal>
-    ensures { source.now.errors.now ≡ [] → IfOk result (λ text. string_bytes text
-        ≡ report_of (tree_of plans.now.shown) (rows_from 1 report.now.rows)) }
+    ensures { (behaviour : Behaviour)
+        → report.now.rows ≡ states behaviour (tree_of (run_line plans.now))
+        → IfOk result (λ text. IsTold (asking source.now.setting)
+        (run_line plans.now) plans.now.shown behaviour Plain None (string_bytes text)) }
 {
-    if source.errors.is_empty() {
+    if source.setting.errors.is_empty() {
         return Ok(report_text(alloc, &plans.shown, report)?);
     }
-    let fates = fates(alloc, &plans.shown, report)?;
-    let rows = source.named_rows(alloc, plans, report, &fates)?;
+    let fates = fates(alloc, plans.run(), report)?;
+    let rows = source.rows(alloc, plans, report, &fates)?;
     Ok(stored_text(alloc, &plans.shown, &rows)?)
 }
 
@@ -189,8 +176,13 @@ fn explained<T>(
     plans: &Plans,
     report: &Report,
     source: &Source<'_, T>,
-) -> Result<String, Refusal> {
-    let fates = fates(alloc, &plans.shown, report)?;
-    let rows = source.named_rows(alloc, plans, report, &fates)?;
+) -> Result<String, Refusal>
+    ensures { (behaviour : Behaviour)
+        → report.now.rows ≡ states behaviour (tree_of (run_line plans.now))
+        → IfOk result (λ text. IsTold (asking source.now.setting)
+        (run_line plans.now) plans.now.shown behaviour Explained None (string_bytes text)) }
+{
+    let fates = fates(alloc, plans.run(), report)?;
+    let rows = source.rows(alloc, plans, report, &fates)?;
     Ok(explained_text(alloc, &plans.shown, &rows, &fates)?)
 }

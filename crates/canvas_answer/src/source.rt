@@ -1,22 +1,26 @@
 //! What a run is of: a canvas's text, and what answers its calls. It says which parameter makes a
 //! call a TypeError.
-ghost use Rattle.std.specs.Prelude.{◌≡◌, [], IfOk, string_bytes};
-ghost use Rattle.canvas_report.specs.JsonRows.{json_lines, report_wire};
+ghost use Rattle.std.specs.Prelude.{◌≡◌, [], IfOk, List, ℕ, map, string_bytes};
+ghost use Rattle.canvas_report.specs.declared.row.Row.{Row};
 ghost use Rattle.canvas_semantics.specs.Line.{tree_of};
-ghost use Rattle.canvas_semantics.specs.States.{rows_from, states};
+ghost use Rattle.canvas_semantics.specs.States.{numbers_from, states};
 ghost use Rattle.canvas_task.specs.Apply.{Behaviour};
-ghost use Rattle.canvas_answer.specs.Told.{IsToldText, known_states};
+ghost use Rattle.canvas_answer.specs.Asking.{asking};
+ghost use Rattle.canvas_answer.specs.Plans.{ArePlansOf, run_line};
+ghost use Rattle.canvas_answer.specs.Raised.{AreShown, class_of, own_class};
+ghost use Rattle.canvas_answer.specs.Told.{IsJsonOf, IsTold, known_states};
 ghost use Rattle.canvas_answer.specs.declared.reporting.Form.TheVariants.{Json};
 
-use crate::errors::OtherError;
-use crate::named_rows::{classes_of, known_rows, rows_of};
-use crate::plan::canvas_of;
-use crate::prepared::Plans;
+use crate::named_rows::named_rows;
+use crate::names::check_names;
+use crate::prepared::{Plans, Prepared};
 use crate::refusal::Refusal;
+use crate::setting::Setting;
 use crate::stubs::stub_named;
-use canvas_adapt::Changes;
+use canvas_adapt::renamed;
 use canvas_ran::fates;
 use canvas_report::{Fate, Report, Row, Told, rows_text, state_in, stored_rows_text};
+use canvas_rewrite::Plan;
 use canvas_sig::Canvas;
 use canvas_stubs::{Does, Stub};
 use canvas_task::{Builtin, Fault, Kind, Memory, Outcome, TaskNo, Tasks};
@@ -24,20 +28,13 @@ use canvas_values::TaskSig;
 use canvas_warning::{Blame, Expected, Forecast, Input, Wrong, blamed, forecasts, tasks_in};
 use std::alloc::{AllocError, Global};
 
-/// A canvas's text, and the tasks that its calls are answered by, which have these stubs before
-/// them.
+/// A canvas's text, how it is made ready, and the tasks that its calls are answered by, which have
+/// the stubs before them.
 #[derive(Drop)]
 pub struct Source<'a, T> {
     pub text: &'a [u8],
-    /// The same where no task has another name for the run.
-    pub shown: &'a [u8],
-    pub is_renamed: bool,
-    /// What was changed of the canvas before, where it was adapted.
-    pub changes: Changes,
+    pub setting: Setting<'a>,
     pub tasks: &'a T,
-    pub stubs: &'a [Stub],
-    /// What stubs raise in place of NotRegistered.
-    pub errors: &'a [OtherError],
 }
 
 /// A parameter that is at fault.
@@ -201,22 +198,46 @@ fn blamed_of(
 }
 
 impl<'a, T> Source<'a, T> {
-    /// The rows of a whole run, with the exceptions that stubs raise.
-    pub(crate) fn named_rows(
+    /// The plans of the canvas, whose text is read for them once.
+    pub fn plans(&self, alloc: Global) -> Result<Plans, Refusal>
+        ensures { IfOk result (λ plans. ArePlansOf (asking self.now.setting)
+            self.now.text.now plans.shown (run_line plans)) }
+    {
+        let Prepared { canvas, .. } = Prepared::of(alloc, self.text, self.setting.adapts)?;
+        Plans::of(alloc, canvas, self.setting.renames)
+    }
+
+    /// Refuses a name that the words say, where no task of the plan has it.
+    pub fn check_names(&self, alloc: Global, plan: &Plan) -> Result<(), Refusal> {
+        check_names(alloc, plan, self.setting.said)
+    }
+
+    /// The plans, where each name that the words say is that of a task.
+    pub fn checked_plans(&self, alloc: Global) -> Result<Plans, Refusal>
+        ensures { IfOk result (λ plans. ArePlansOf (asking self.now.setting)
+            self.now.text.now plans.shown (run_line plans)) }
+    {
+        let plans = self.plans(alloc)?;
+        self.check_names(alloc, &plans.shown)?;
+        Ok(plans)
+    }
+
+    /// The rows of a run, with the exceptions that stubs raise.
+    pub(crate) fn rows(
         &self,
         alloc: Global,
         plans: &Plans,
         report: &Report,
         fates: &[(TaskNo, Fate)],
     ) -> Result<Vec<Row>, AllocError>
-        ensures { self.now.errors.now ≡ []
+        ensures shown { (n : ℕ) → map (λ f. f.0) fates.now ≡ numbers_from 1 n
+            → IfOk result (λ rows. AreShown (class_of fates.now
+            (own_class self.now.setting.stubs.now self.now.setting.errors.now
+            (run_line plans.now))) report.now.rows rows.items) }
+        ensures known { self.now.setting.errors.now ≡ []
             → IfOk result (λ rows. rows.items ≡ known_states report.now.rows) }
     {
-        if self.errors.is_empty() {
-            return known_rows(alloc, report);
-        }
-        let classes = classes_of(alloc, plans.run(), report, self, fates)?;
-        rows_of(alloc, report, &classes)
+        named_rows(alloc, plans.run(), report, self.setting, fates)
     }
 }
 
@@ -229,13 +250,14 @@ impl<'a, T: Tasks> Source<'a, T> {
     ) -> Result<Vec<Foreseen>, Memory> {
         let forecasts = forecasts(alloc, canvas, self.tasks)?;
         let tasks = tasks_in(alloc, canvas)?;
-        match foreseen_by(alloc, self.stubs, &forecasts, &tasks) {
+        match foreseen_by(alloc, self.setting.stubs, &forecasts, &tasks) {
             Ok(foreseen) => Ok(foreseen),
             Err(_) => Err(Memory),
         }
     }
 
     /// The tasks whose call is a TypeError, each with the parameter that is at fault, if it is one.
+    /// The canvas is read once more where there is such a task.
     fn blamed_in_run(
         &self,
         alloc: Global,
@@ -245,19 +267,9 @@ impl<'a, T: Tasks> Source<'a, T> {
         if !any_bad_call(report, fates) {
             return Ok(Vec::new(alloc));
         }
-        let canvas = canvas_of(alloc, self.text)?;
-        self.blamed_in_canvas(alloc, &canvas, report, fates)
-    }
-
-    /// The same of the canvas that was run.
-    fn blamed_in_canvas(
-        &self,
-        alloc: Global,
-        canvas: &Canvas,
-        report: &Report,
-        fates: &[(TaskNo, Fate)],
-    ) -> Result<Vec<(TaskNo, Option<String>)>, Refusal> {
-        let foreseen = self.all_foreseen(alloc, canvas)?;
+        let Prepared { canvas, .. } = Prepared::of(alloc, self.text, self.setting.adapts)?;
+        let named = renamed(alloc, &canvas, self.setting.renames)?;
+        let foreseen = self.all_foreseen(alloc, &named)?;
         Ok(blamed_of(alloc, &foreseen, report, fates)?)
     }
 
@@ -267,17 +279,19 @@ impl<'a, T: Tasks> Source<'a, T> {
         alloc: Global,
         plans: &Plans,
         report: &Report,
+        again: Option<u64>,
     ) -> Result<String, Refusal>
         ensures { (behaviour : Behaviour)
-            → report.now.rows ≡ states behaviour (tree_of plans.now.shown)
-            → self.now.errors.now ≡ []
-            → IfOk result (λ text. IsToldText behaviour plans.now.shown Json (string_bytes text)) }
+            → report.now.rows ≡ states behaviour (tree_of (run_line plans.now))
+            → IfOk result (λ text. IsTold (asking self.now.setting)
+            (run_line plans.now) plans.now.shown behaviour Json again (string_bytes text)) }
     {
-        let fates = fates(alloc, &plans.shown, report)?;
+        let fates = fates(alloc, plans.run(), report)?;
         let blamed = self.blamed_in_run(alloc, report, &fates)?;
         let told = Told {
             fates: &fates,
             blamed: &blamed,
+            again,
         };
         self.json_told(alloc, plans, report, told)
     }
@@ -290,14 +304,17 @@ impl<'a, T: Tasks> Source<'a, T> {
         report: &Report,
         told: Told<'_>,
     ) -> Result<String, Refusal>
-        ensures { self.now.errors.now ≡ [] → IfOk result (λ text. string_bytes text ≡ json_lines
-            (report_wire told.entry.fates.now told.entry.blamed.now (tree_of plans.now.shown)
-            (rows_from 1 report.now.rows))) }
+        ensures { (n : ℕ) → map (λ f. f.0) told.entry.fates.now ≡ numbers_from 1 n
+            → IfOk result (λ text. (rows : List Row)
+            × AreShown (class_of told.entry.fates.now (own_class self.now.setting.stubs.now
+            self.now.setting.errors.now (run_line plans.now))) report.now.rows rows
+            × IsJsonOf told.entry.fates.now told.entry.blamed.now told.entry.again rows
+            (tree_of plans.now.shown) (string_bytes text)) }
     {
-        if self.errors.is_empty() {
+        if self.setting.errors.is_empty() {
             return Ok(rows_text(alloc, &plans.shown, report, told)?);
         }
-        let rows = self.named_rows(alloc, plans, report, told.fates)?;
+        let rows = self.rows(alloc, plans, report, told.fates)?;
         Ok(stored_rows_text(alloc, &plans.shown, &rows, told)?)
     }
 }

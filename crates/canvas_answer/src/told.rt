@@ -1,10 +1,13 @@
-//! Refusals as JSON objects.
+//! How a refusal is told to programs: a JSON object in a line, of which a canvas's has the code and
+//! the place too.
 
 use crate::celery::CeleryRefusal;
-use crate::finding::{fault_json, refusal_json};
+use crate::finding::{pointer_json, task_json, write_columns};
 use crate::refusal::Refusal;
-use crate::unread::Unread;
+use crate::said::{Name, Note};
+use canvas_finding::{Finding, find};
 use canvas_report::quoted_json;
+use canvas_sig::SigFault;
 use canvas_task::Memory;
 use std::alloc::{AllocError, Global};
 
@@ -16,84 +19,112 @@ const AGAIN: &str =
 
 const RUN: &str = "wanted 22 lower-case hexadecimal digits";
 
-fn object(alloc: Global, name: &str, note: &str) -> Result<String, AllocError> {
-    let note = quoted_json(alloc, note)?;
-    format!(in alloc; "{{\"name\":\"{name}\",\"note\":{note}}}\n")
+/// What programs are told of a refusal.
+#[derive(Drop)]
+struct Told<'a> {
+    name: String,
+    note: String,
+    /// The fault of a canvas, with where it is found, if it is.
+    canvas: Option<(SigFault, Option<&'a Finding>)>,
 }
 
-fn unread_object(alloc: Global, file: &str, why: Unread) -> Result<String, AllocError> {
-    object(alloc, "CannotRead", &format!(in alloc; "{file}: {why}")?)
+impl Told<'_> {
+    /// The object, whose members are in the byte order of their names.
+    fn json(&self, alloc: Global) -> Result<String, AllocError> {
+        let mut text = String::from_str(alloc, "{")?;
+        if let Some((fault, found)) = self.canvas {
+            let code = fault.code();
+            write!(text, "\"code\":{code},")?;
+            write_columns(&mut text, found)?;
+        }
+        let (name, note) = (&self.name, quoted_json(alloc, &self.note)?);
+        write!(text, "\"name\":\"{name}\",\"note\":{note}")?;
+        if let Some((_, found)) = self.canvas {
+            let (pointer, task) = (pointer_json(alloc, found)?, task_json(alloc, found)?);
+            write!(text, ",\"pointer\":{pointer},\"task\":{task}")?;
+        }
+        text.push_str("}\n")?;
+        Ok(text)
+    }
 }
 
 /// What the parser of words says, without usage and hints.
-fn words_object(alloc: Global, said: &str) -> Result<String, AllocError> {
-    let (fault, _hints) = said.split_once("\n\n").unwrap_or((said, ""));
-    object(
-        alloc,
-        "BadWords",
-        fault.strip_prefix("error: ").unwrap_or(fault),
-    )
+fn words_note(alloc: Global, error: &clap::Error) -> Result<String, AllocError> {
+    let said = format!(in alloc; "{error}")?;
+    let (fault, _hints) = said.split_once("\n\n").unwrap_or((&said, ""));
+    String::from_str(alloc, fault.strip_prefix("error: ").unwrap_or(fault))
 }
 
-/// A refusal that is printed behind `canvas: refused`: its name and the rest of its line. Another
-/// is printed as ever.
-fn line_object(alloc: Global, said: &str) -> Result<Option<String>, AllocError> {
-    let Some(refused) = said.strip_prefix("canvas: refused ") else {
-        return Ok(None);
-    };
-    let line = refused.strip_suffix("\n").unwrap_or(refused);
-    let (name, note) = line.split_once(' ').unwrap_or((line, ""));
-    Ok(Some(object(alloc, name, note)?))
-}
-
-fn printed(alloc: Global, refusal: &Refusal) -> Result<String, AllocError> {
-    format!(in alloc; "{refusal}")
-}
-
-/// The name of a refusal whose line has no more, and what is wanted.
-fn name_and_note(refusal: &Refusal) -> Option<(&'static str, &'static str)> {
+/// What is wanted in place of words whose line for people is their name alone.
+fn wanted(refusal: &Refusal) -> Option<&'static str> {
     match refusal {
-        Refusal::BadTurn => Some(("BadTurn", TURNS)),
-        Refusal::BadAgain => Some(("BadAgain", AGAIN)),
-        Refusal::Celery(CeleryRefusal::BadRun) => Some(("BadRun", RUN)),
+        Refusal::BadTurn => Some(TURNS),
+        Refusal::BadAgain => Some(AGAIN),
+        Refusal::Celery(CeleryRefusal::BadRun) => Some(RUN),
         _ => None,
     }
 }
 
-/// What is printed of a refusal where JSON is asked for; nothing of one that is printed as ever.
-fn told_object(alloc: Global, refusal: &Refusal) -> Result<Option<String>, AllocError> {
-    if let Some((name, note)) = name_and_note(refusal) {
-        return Ok(Some(object(alloc, name, note)?));
+fn note_of(alloc: Global, refusal: &Refusal) -> Result<String, AllocError> {
+    if let Some(wanted) = wanted(refusal) {
+        return String::from_str(alloc, wanted);
     }
     match refusal {
-        Refusal::CannotRead { file, why } => Ok(Some(unread_object(alloc, file, *why)?)),
-        Refusal::Canvas(fault) => Ok(Some(fault_json(alloc, *fault)?)),
-        Refusal::Words(_) => Ok(Some(words_object(alloc, &printed(alloc, refusal)?)?)),
-        _ => line_object(alloc, &printed(alloc, refusal)?),
+        Refusal::Words { error, .. } => words_note(alloc, error),
+        Refusal::Found(finding) => finding.note.clone(),
+        _ => {
+            let note = Note::plain(refusal);
+            format!(in alloc; "{note}")
+        }
     }
 }
 
-/// A refusal as it is printed where JSON is asked for.
-pub(crate) fn told_in_json(alloc: Global, refusal: Refusal) -> Refusal {
-    match told_object(alloc, &refusal) {
-        Ok(Some(text)) => Refusal::Found(text),
-        Ok(None) => refusal,
-        Err(_) => Refusal::Memory,
-    }
-}
-
-fn found(told: Result<String, Memory>) -> Refusal {
-    match told {
-        Ok(text) => Refusal::Found(text),
-        Err(_) => Refusal::Memory,
-    }
-}
-
-/// A refusal as it is printed where JSON is asked for, where it may be that of a canvas with this
-/// text.
-pub fn told_of_text(alloc: Global, text: &[u8], refusal: Refusal) -> Refusal {
+/// The fault of a canvas, with where it is found, if it is.
+fn canvas_fault(refusal: &Refusal) -> Option<(SigFault, Option<&Finding>)> {
     match refusal {
-        Refusal::Canvas(fault) => found(refusal_json(alloc, text, fault)),
-        other => other,
+        Refusal::Canvas(fault) => Some((*fault, None)),
+        Refusal::Found(finding) => Some((finding.fault, Some(finding))),
+        _ => None,
+    }
+}
+
+impl Refusal {
+    /// The refusal as a JSON object in a line.
+    pub fn json(&self, alloc: Global) -> Result<String, AllocError> {
+        let name = Name(self);
+        let told = Told {
+            name: format!(in alloc; "{name}")?,
+            note: note_of(alloc, self)?,
+            canvas: canvas_fault(self),
+        };
+        told.json(alloc)
+    }
+
+    /// Whether its line for people is all that is said of it, also where JSON is asked for: the
+    /// status says the rest.
+    pub(crate) fn is_an_end(&self) -> bool {
+        matches!(
+            self,
+            Refusal::Memory | Refusal::Stopped | Refusal::CannotWrite
+        )
+    }
+
+    /// The same with its place in the canvas's text, where it is found there.
+    pub fn placed(self, alloc: Global, text: &[u8]) -> Refusal {
+        match self {
+            Refusal::Canvas(fault) => match found(alloc, text, fault) {
+                Ok(refusal) => refusal,
+                Err(_) => Refusal::Memory,
+            },
+            other => other,
+        }
+    }
+}
+
+/// The refusal of a text for a fault, with its place where the text has the same.
+fn found(alloc: Global, text: &[u8], fault: SigFault) -> Result<Refusal, Memory> {
+    match find(alloc, text)? {
+        Some(finding) if finding.fault == fault => Ok(Refusal::Found(finding)),
+        _ => Ok(Refusal::Canvas(fault)),
     }
 }

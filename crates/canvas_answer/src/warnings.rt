@@ -1,7 +1,7 @@
 //! What `canvas check` warns of: what may surprise of a canvas that is accepted.
 
 use crate::source::{AtFault, Foreseen, Source};
-use canvas_finding::{Signature, pointer_text, shown_name, signatures_of};
+use canvas_finding::{Signature, pointer_text, shown_name};
 use canvas_report::quoted_json;
 use canvas_sig::Canvas;
 use canvas_task::{Memory, Tasks};
@@ -338,20 +338,20 @@ fn push_object(alloc: Global, text: &mut String, warning: &Warning) -> Result<()
     Ok(())
 }
 
-/// What is warned of a canvas that a source's text spells.
+/// What is warned of a canvas that a source's text spells, which has these signatures.
 pub fn warnings_of<T: Tasks>(
     alloc: Global,
     source: &Source<'_, T>,
     canvas: &Canvas,
+    signatures: &[Signature],
 ) -> Result<Warnings, Memory> {
     let foreseen = source.all_foreseen(alloc, canvas)?;
-    let signatures = signatures_of(alloc, source.text)?;
     let mut warnings = Warnings {
         alloc,
-        has_answers: !source.stubs.is_empty(),
+        has_answers: !source.setting.stubs.is_empty(),
         found: Vec::new(alloc),
         counted: BTreeMap::new(alloc),
     };
-    warnings.push_all(&signatures, &foreseen)?;
+    warnings.push_all(signatures, &foreseen)?;
     Ok(warnings)
 }

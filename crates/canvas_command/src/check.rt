@@ -3,45 +3,70 @@
 use crate::messages::messages_of;
 use canvas_answer::answer::Answer;
 use canvas_answer::figures::Figures;
-use canvas_answer::finding::refuse_found;
-use canvas_answer::plan::{canvas_of, lasting};
+use canvas_answer::plan::lasting;
+use canvas_answer::prepared::Spelled;
 use canvas_answer::refusal::Refusal;
-use canvas_answer::reporting::{Form, Manner};
+use canvas_answer::reporting::Manner;
 use canvas_answer::source::Source;
 use canvas_answer::warnings::warnings_of;
+use canvas_finding::{Reading, Signature, read};
 use canvas_rewrite::Plan;
 use canvas_sig::Canvas;
 use canvas_task::Tasks;
 use std::alloc::Global;
 
-/// The figures of a canvas.
-fn figures_of<T: Tasks>(alloc: Global, tasks: &T, canvas: Canvas) -> Result<Figures, Refusal> {
+/// The figures of a canvas, of which each name that the words say is that of a task.
+fn figures_of<T: Tasks>(
+    alloc: Global,
+    source: &Source<'_, T>,
+    canvas: Canvas,
+) -> Result<Figures, Refusal> {
     let depths = canvas.depths();
     let plan = lasting(Plan::of(alloc, canvas)?);
-    let messages = messages_of(alloc, tasks, 1, &[], &plan)?;
+    source.check_names(alloc, &plan)?;
+    let messages = messages_of(alloc, source.tasks, 1, &[], &plan)?;
     Ok(Figures::of(alloc, &plan, depths, &messages)?)
 }
 
-/// What is said of a canvas that is accepted.
+/// What is said of a canvas that is accepted and has these signatures.
 fn checked<T: Tasks>(
     alloc: Global,
     manner: Manner,
     source: &Source<'_, T>,
+    canvas: Canvas,
+    signatures: &[Signature],
 ) -> Result<Answer, Refusal> {
-    let canvas = canvas_of(alloc, source.text)?;
-    let warnings = warnings_of(alloc, source, &canvas)?;
-    let figures = figures_of(alloc, source.tasks, canvas)?;
+    let warnings = warnings_of(alloc, source, &canvas, signatures)?;
+    let figures = figures_of(alloc, source, canvas)?;
     figures.answer(alloc, manner, &warnings)
 }
 
-/// What is said of a canvas.
+/// What is said of the canvas that a text spells, or where it is refused.
+fn answer_spelled<T: Tasks>(
+    alloc: Global,
+    manner: Manner,
+    source: &Source<'_, T>,
+) -> Result<Answer, Refusal> {
+    match read(alloc, source.text)? {
+        Reading::Canvas { canvas, signatures } => {
+            checked(alloc, manner, source, canvas, &signatures)
+        }
+        Reading::Refused(finding) => Err(Refusal::Found(finding)),
+    }
+}
+
+/// What is said of a canvas. Where it is adapted first, that is of the adapted text, since it tells
+/// places in that.
 pub(crate) fn answer_check<T: Tasks>(
     alloc: Global,
     manner: Manner,
     source: &Source<'_, T>,
 ) -> Result<Answer, Refusal> {
-    if manner.form != Form::Json {
-        refuse_found(alloc, source.text)?;
-    }
-    checked(alloc, manner, source)
+    let spelled = Spelled::of(alloc, source.text, source.setting.adapts)?;
+    let source = Source {
+        text: spelled.text(source.text),
+        setting: source.setting,
+        tasks: source.tasks,
+    };
+    answer_spelled(alloc, manner, &source)
 }

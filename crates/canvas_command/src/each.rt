@@ -3,11 +3,11 @@
 use crate::runs::whole_report;
 use canvas_answer::answer::Answer;
 use canvas_answer::each::{Each, object_text};
-use canvas_answer::finding::refusal_json;
-use canvas_answer::prepared::{Plans, Prepared, Setting};
+use canvas_answer::prepared::Plans;
 use canvas_answer::printing::write_lines;
 use canvas_answer::refusal::Refusal;
 use canvas_answer::reporting::FAILED;
+use canvas_answer::setting::Setting;
 use canvas_answer::source::Source;
 use canvas_report::is_failure;
 use canvas_task::Tasks;
@@ -23,7 +23,7 @@ where
     S: Threads + Wait + RandomSource + AllocGlobal + Sync,
     T: Tasks + Sync,
 {
-    let plans = Plans::of(rt.alloc(), source)?;
+    let plans = source.plans(rt.alloc())?;
     ran_by(rt, workers, &plans, source)
 }
 
@@ -43,22 +43,6 @@ where
     Ok((object, is_failure(&plans.shown, &report)))
 }
 
-/// The same of a canvas that is made ready first.
-fn prepared_and_ran<S, T>(
-    rt: &S,
-    workers: u32,
-    text: &[u8],
-    tasks: &T,
-    setting: Setting<'_>,
-) -> Result<(String, bool), Refusal>
-where
-    S: Threads + Wait + RandomSource + AllocGlobal + Sync,
-    T: Tasks + Sync,
-{
-    let prepared = Prepared::of(rt.alloc(), text, setting)?;
-    ran(rt, workers, &prepared.source(text, tasks, setting))
-}
-
 /// The line that a canvas gives: its report or its refusal; and whether its result is a failure.
 fn line_of<S, T>(
     rt: &S,
@@ -71,7 +55,12 @@ where
     S: Threads + Wait + RandomSource + AllocGlobal + Sync,
     T: Tasks + Sync,
 {
-    match prepared_and_ran(rt, workers, text, tasks, setting) {
+    let source = Source {
+        text,
+        setting,
+        tasks,
+    };
+    match ran(rt, workers, &source) {
         Ok(line) => Ok(line),
         Err(refusal) => refused_line(rt.alloc(), text, refusal),
     }
@@ -80,7 +69,7 @@ where
 /// The line of a canvas that is refused; where it isn't the canvas, there is none.
 fn refused_line(alloc: Global, text: &[u8], refusal: Refusal) -> Result<(String, bool), Refusal> {
     match refusal {
-        Refusal::Canvas(fault) => Ok((refusal_json(alloc, text, fault)?, false)),
+        Refusal::Canvas(_) => Ok((refusal.placed(alloc, text).json(alloc)?, false)),
         other => Err(other),
     }
 }

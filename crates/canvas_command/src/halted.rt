@@ -1,6 +1,7 @@
 //! Runs that ended early.
 ghost use Rattle.std.specs.Prelude.{◌≡◌, option_map};
-ghost use Rattle.canvas_semantics.specs.Line.{tree_of};
+ghost use Rattle.canvas_answer.specs.Asking.{asking};
+ghost use Rattle.canvas_answer.specs.Plans.{run_line};
 ghost use Rattle.canvas_command.specs.Runs.{IsEarlyReport, refusal_of, rows_in};
 
 use canvas_answer::answer::Answer;
@@ -46,7 +47,8 @@ pub(crate) fn early<T>(
     source: &Source<'_, T>,
     fault: &RunFault,
 ) -> Answer
-    ensures { IsEarlyReport manner.form (tree_of plans.now.shown) fault.now result }
+    ensures { IsEarlyReport (asking source.now.setting) (run_line plans.now) plans.now.shown
+        manner.form fault.now result }
 {
     manner.early(alloc, plans, source, stored(fault), refused(fault))
 }

@@ -1,9 +1,9 @@
 //! `canvas run` and `canvas turns`.
-ghost use Rattle.std.specs.Prelude.{◌≡◌, [], IfOk, IfErr, None, false};
-ghost use Rattle.canvas_answer.specs.Plans.{IsTextPlan};
+ghost use Rattle.std.specs.Prelude.{◌≡◌, IfErr, IfOk, None, Option, ℕ};
+ghost use Rattle.canvas_answer.specs.Asking.{asking};
+ghost use Rattle.canvas_answer.specs.Plans.{ArePlansOf, run_line};
 ghost use Rattle.canvas_semantics.specs.Line.{tree_of};
 ghost use Rattle.canvas_semantics.specs.States.{states};
-ghost use Rattle.canvas_task.specs.Text.{Text};
 ghost use Rattle.canvas_by_turns.specs.Correct.{IsRunFault};
 ghost use Rattle.canvas_engine.specs.Evidence.{IsThreadFault};
 ghost use Rattle.canvas_command.specs.Runs.{IsRunOf};
@@ -70,13 +70,13 @@ pub(crate) fn answer_run<S, T>(
 where
     S: Threads + Wait + RandomSource + AllocGlobal + Sync,
     T: Tasks + Sync,
-    ensures { source.now.is_renamed ≡ false → source.now.errors.now ≡ [] → IfOk result
-        (IsRunOf (T.behaviour source.now.tasks.now) source.now.shown.now (IsThreadFault workers)
-        manner.form manner.fails) }
+    ensures { IfOk result (IsRunOf (T.behaviour source.now.tasks.now)
+        (asking source.now.setting) source.now.text.now (IsThreadFault workers) manner.form
+        manner.fails None) }
 {
-    let plans = lasting(Plans::of(rt.alloc(), source)?);
+    let plans = lasting(source.checked_plans(rt.alloc())?);
     match report_of(rt, plans.run(), source.tasks, workers) {
-        Ok(report) => manner.whole(rt.alloc(), &plans, &report, source),
+        Ok(report) => manner.whole(rt.alloc(), &plans, &report, source, None),
         Err(fault) => Ok(early(rt.alloc(), manner, &plans, source, &fault)),
     }
 }
@@ -108,15 +108,18 @@ impl ByTurns<'_> {
         plans: &Plans,
         source: &Source<'_, T>,
     ) -> Result<Answer, Refusal>
-        ensures { (bytes : Text) → IsTextPlan bytes plans.now.shown → plans.now.renamed ≡ None
-            → source.now.errors.now ≡ [] → IfOk result (IsRunOf (T.behaviour source.now.tasks.now)
-            bytes (IsRunFault self.now.workers self.now.turns.now) self.now.manner.form
-            self.now.manner.fails) }
+        ensures { ArePlansOf (asking source.now.setting) source.now.text.now plans.now.shown
+            (run_line plans.now)
+            → IfOk result (λ a. (again : Option ℕ)
+            × IsRunOf (T.behaviour source.now.tasks.now) (asking source.now.setting)
+            source.now.text.now (IsRunFault self.now.workers self.now.turns.now)
+            self.now.manner.form self.now.manner.fails again a) }
     {
         let (plan, tasks) = (plans.run(), source.tasks);
         match run_turns_again(alloc, plan, tasks, self.workers, self.turns, self.again) {
             Ok((report, repeats)) => {
-                let answer = self.manner.whole(alloc, plans, &report, source)?;
+                let again = self.counts.then_some(repeats);
+                let answer = self.manner.whole(alloc, plans, &report, source, again)?;
                 Ok(self.counted(answer, repeats))
             }
             Err(fault) => Ok(early(alloc, self.manner, plans, source, &fault)),
@@ -131,10 +134,12 @@ impl ByTurns<'_> {
         plans: &Plans,
         source: &Source<'_, T>,
     ) -> Result<Answer, Refusal>
-        ensures { (bytes : Text) → IsTextPlan bytes plans.now.shown → plans.now.renamed ≡ None
-            → source.now.errors.now ≡ [] → IfOk result (IsRunOf (T.behaviour source.now.tasks.now)
-            bytes (IsRunFault self.now.workers self.now.turns.now) self.now.manner.form
-            self.now.manner.fails) }
+        ensures { ArePlansOf (asking source.now.setting) source.now.text.now plans.now.shown
+            (run_line plans.now)
+            → IfOk result (λ a. (again : Option ℕ)
+            × IsRunOf (T.behaviour source.now.tasks.now) (asking source.now.setting)
+            source.now.text.now (IsRunFault self.now.workers self.now.turns.now)
+            self.now.manner.form self.now.manner.fails again a) }
     {
         let Some(list) = names else {
             return self.shown(alloc, plans, source);
@@ -156,12 +161,12 @@ impl ByTurns<'_> {
         names: Option<&str>,
         source: &Source<'_, T>,
     ) -> Result<Answer, Refusal>
-        ensures { source.now.is_renamed ≡ false → source.now.errors.now ≡ [] → IfOk result
-            (IsRunOf (T.behaviour source.now.tasks.now) source.now.shown.now
-            (IsRunFault self.now.workers self.now.turns.now) self.now.manner.form
-            self.now.manner.fails) }
+        ensures { IfOk result (λ a. (again : Option ℕ)
+            × IsRunOf (T.behaviour source.now.tasks.now) (asking source.now.setting)
+            source.now.text.now (IsRunFault self.now.workers self.now.turns.now)
+            self.now.manner.form self.now.manner.fails again a) }
     {
-        let plans = lasting(Plans::of(alloc, source)?);
+        let plans = lasting(source.checked_plans(alloc)?);
         self.shown_named(alloc, names, &plans, source)
     }
 }
@@ -175,9 +180,9 @@ pub(crate) fn answer_turns<T: Tasks>(
     manner: Manner,
     source: &Source<'_, T>,
 ) -> Result<Answer, Refusal>
-    ensures { source.now.is_renamed ≡ false → source.now.errors.now ≡ [] → IfOk result
-        (IsRunOf (T.behaviour source.now.tasks.now) source.now.shown.now
-        (IsRunFault workers turns.now) manner.form manner.fails) }
+    ensures { IfOk result (λ a. (again : Option ℕ)
+        × IsRunOf (T.behaviour source.now.tasks.now) (asking source.now.setting)
+        source.now.text.now (IsRunFault workers turns.now) manner.form manner.fails again a) }
 {
     let once = ByTurns {
         workers,

@@ -2,12 +2,14 @@
 
 use crate::program::ADD_THEN_MUL;
 use canvas_answer::answer::Answer;
-use canvas_answer::prepared::{Plans, Prepared, Setting};
+use canvas_answer::errors::OtherError;
 use canvas_answer::refusal::Refusal;
 use canvas_answer::reporting::{Form, Manner};
+use canvas_answer::setting::Setting;
 use canvas_answer::source::Source;
 use canvas_engine::Report;
-use canvas_task::{BuiltinTasks, ListOf, Outcome};
+use canvas_stubs::{Does, Stub};
+use canvas_task::{BuiltinTasks, Fault, Kind, ListOf, Outcome, TextOf};
 use std::alloc::{AllocError, Global};
 use std::test::Fail;
 
@@ -23,10 +25,16 @@ const EXPLAINED: &str = concat!(
     "result -\n"
 );
 
+const OUT_OF_STOCK: &str = concat!(
+    "00000000-0000-8000-8000-000000000001 tasks.add FAILURE OutOfStock\n",
+    "00000000-0000-8000-8000-000000000002 tasks.mul PENDING -\n",
+    "result -\n"
+);
+
 /// The rows of a run of which the first task alone has ended.
-fn first_alone(alloc: Global) -> Result<Report, AllocError> {
+fn first_alone(alloc: Global, outcome: Outcome) -> Result<Report, AllocError> {
     let mut rows = Vec::new(alloc);
-    rows.push(Some(Outcome::Success(8)))?;
+    rows.push(Some(outcome))?;
     rows.push(None)?;
     Ok(Report {
         rows: ListOf::of(rows),
@@ -42,37 +50,29 @@ fn prints(alloc: Global, answer: &Answer, wanted: &str) -> bool {
         && told.as_slice() == b"canvas: memory refused\n".as_slice()
 }
 
-fn tells<T>(
-    alloc: Global,
-    source: &Source<'_, T>,
-    report: &Report,
-    form: Form,
-    wanted: &str,
-) -> bool {
-    match Plans::of(alloc, source) {
-        Ok(plans) => {
-            let manner = Manner { form, fails: false };
-            let answer = manner.early(alloc, &plans, source, Some(report), Refusal::Memory);
-            prints(alloc, &answer, wanted)
-        }
-        Err(_) => false,
+/// What is asked of a canvas that isn't adapted, where these stubs answer.
+fn setting_of<'a>(stubs: &'a [Stub], errors: &'a [OtherError]) -> Setting<'a> {
+    Setting {
+        adapts: false,
+        stubs,
+        said: &[],
+        errors,
+        renames: &[],
     }
 }
 
 /// Whether an early report has these rows in this form.
-fn has_rows(alloc: Global, report: &Report, form: Form, wanted: &str) -> bool {
-    let text = ADD_THEN_MUL.as_bytes();
-    let setting = Setting {
-        adapts: false,
-        stubs: &[],
-        said: &[],
-        errors: &[],
-        renames: &[],
+fn tells(alloc: Global, setting: Setting<'_>, report: &Report, form: Form, wanted: &str) -> bool {
+    let source = Source {
+        text: ADD_THEN_MUL.as_bytes(),
+        setting,
+        tasks: &BuiltinTasks,
     };
-    match Prepared::of(alloc, text, setting) {
-        Ok(prepared) => {
-            let source = prepared.source(text, &BuiltinTasks, setting);
-            tells(alloc, &source, report, form, wanted)
+    match source.plans(alloc) {
+        Ok(plans) => {
+            let manner = Manner { form, fails: false };
+            let answer = manner.early(alloc, &plans, &source, Some(report), Refusal::Memory);
+            prints(alloc, &answer, wanted)
         }
         Err(_) => false,
     }
@@ -80,9 +80,37 @@ fn has_rows(alloc: Global, report: &Report, form: Form, wanted: &str) -> bool {
 
 #[test]
 fn an_early_report_has_what_was_stored(rt: HostRuntime) -> Result<(), Fail> {
-    let report = first_alone(rt.alloc())?;
+    let report = first_alone(rt.alloc(), Outcome::Success(8))?;
     for &(form, wanted) in &[(Form::Plain, PLAIN), (Form::Explained, EXPLAINED)] {
-        assert!(rt; has_rows(rt.alloc(), &report, form, wanted), "{wanted}");
+        let setting = setting_of(&[], &[]);
+        assert!(rt;
+            tells(rt.alloc(), setting, &report, form, wanted),
+            "{wanted}"
+        );
     }
+    Ok(())
+}
+
+/// A stub of the first task, and the class of the exception that it raises.
+fn out_of_stock(alloc: Global) -> Result<(Stub, OtherError), AllocError> {
+    let stub = Stub {
+        name: TextOf::of(String::from_str(alloc, "tasks.add")?),
+        does: Does::Raises(Kind::NotRegistered),
+    };
+    let error = OtherError {
+        name: String::from_str(alloc, "tasks.add")?,
+        class: String::from_str(alloc, "OutOfStock")?,
+    };
+    Ok((stub, error))
+}
+
+#[test]
+fn an_early_report_has_the_classes_that_stubs_raise(rt: HostRuntime) -> Result<(), Fail> {
+    let failed = Outcome::Failure(Fault::Plain(Kind::NotRegistered));
+    let report = first_alone(rt.alloc(), failed)?;
+    let (stub, error) = out_of_stock(rt.alloc())?;
+    let (stubs, errors) = ([stub], [error]);
+    let setting = setting_of(&stubs, &errors);
+    assert!(rt; tells(rt.alloc(), setting, &report, Form::Plain, OUT_OF_STOCK));
     Ok(())
 }

@@ -36,8 +36,8 @@ pub fn laws_of_turns()
 /// A run by turns ends. In rotation a round in which nobody asks for anything is the last, and of
 /// each two rounds one has a call of the queue or of the table, of which there are few: each task
 /// is published, taken, stored and its part returned at most once. So the steps are fewer than a
-/// count of 128 bits holds. It ends by any turns of which each worker has one again and again, after
-/// twelve lists of such turns for each task, eight for each redelivery, and two.
+/// count of 128 bits holds. It ends by any turns of which each worker has one again and again,
+/// after twelve lists of such turns for each task, eight for each redelivery, and two.
 pub fn ends_of_turns()
     ensures few { FewSteps }
     ensures stops { StopsSoon }

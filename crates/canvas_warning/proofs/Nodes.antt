@@ -79,7 +79,7 @@ module _ (n : Node) (i : Input) where
   pub group_out : (ns : List Node) → n ≡ Group ns → Numbers ≡ out_of (view n) i
   group_out ns is = ap (λ x. out_of x i) (sym (ap view is ∙ view-Group ns))
 
-  pub chord_out : (hs : List Node) (body : Box Node Global) (at : Node) (k : ℕ) (outer s : Stand) (r : Result Input AllocError) → n ≡ Chord hs body → at ≡ body.value
-      → outer ≡ of_body k s → IfOk r (λ k. k ≡ out_of (view at) outer.input) → IfOk r (λ k. k ≡ out_of (view n) i)
+  pub chord_out : (hs : List Node) (body : Box Node Global) (at : Node) (k : ℕ) (outer s : Stand) (r : Result Input AllocError) → n ≡ Chord hs body
+      → at ≡ body.value → outer ≡ of_body k s → IfOk r (λ k. k ≡ out_of (view at) outer.input) → IfOk r (λ k. k ≡ out_of (view n) i)
   chord_out hs body at k outer s r is here stand out =
       ok_is r _ _ ((λ j. out_of (view (here j)) (stand j).input) ∙ ap (λ x. out_of x i) (sym (ap view is ∙ view-Chord hs body))) out

@@ -3,9 +3,9 @@
 use crate::refusal::Refusal;
 use canvas_collect::{CollectFault, StoredFault};
 use canvas_task::TaskNo;
-use std::fmt;
+use std::fmt::{self, Display};
 
-/// The reason, which is printed behind `canvas: refused`.
+/// The reason, which is printed as other refusals are.
 #[derive(Clone, Copy, Drop)]
 pub enum CeleryRefusal {
     /// The run isn't 22 lower-case hexadecimal digits.
@@ -18,17 +18,30 @@ pub enum CeleryRefusal {
     Stored(TaskNo, StoredFault),
 }
 
-impl fmt::Display for CeleryRefusal {
-    fn fmt<W: fmt::Write>(&self, f: &mut fmt::Formatter<W>) -> fmt::Result {
+impl CeleryRefusal {
+    pub(crate) fn write_name<W: fmt::Write>(&self, f: &mut fmt::Formatter<W>) -> fmt::Result {
         f.write_str(match self {
             CeleryRefusal::BadRun => "BadRun",
-            CeleryRefusal::TooLarge => "TooLarge in the results",
+            CeleryRefusal::TooLarge => "TooLarge",
             CeleryRefusal::BadCount => "BadCount",
-            CeleryRefusal::Stored(task, fault) => {
-                let number = task.get();
-                return write!(f, "{fault} in the result of task {number}");
-            }
+            CeleryRefusal::Stored(_, fault) => return fault.fmt(f),
         })
+    }
+
+    /// Whether a line for people says more than the name.
+    pub(crate) fn has_note(&self) -> bool {
+        matches!(self, CeleryRefusal::TooLarge | CeleryRefusal::Stored(..))
+    }
+
+    pub(crate) fn write_note<W: fmt::Write>(&self, f: &mut fmt::Formatter<W>) -> fmt::Result {
+        match self {
+            CeleryRefusal::BadRun | CeleryRefusal::BadCount => Ok(()),
+            CeleryRefusal::TooLarge => f.write_str("in the results"),
+            CeleryRefusal::Stored(task, _) => {
+                let number = task.get();
+                write!(f, "in the result of task {number}")
+            }
+        }
     }
 }
 

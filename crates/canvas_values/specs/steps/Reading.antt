@@ -1,6 +1,6 @@
 -- Reading step by step, as the code goes: the signature that a JSON value stands for, or its first
 -- fault.
-use Rattle.std.specs.Prelude.{ℕ, zero, suc, true, false, if◌then◌else◌, List, Option, Some, None, Result, Ok, Err, codes, ℤ, length, nat_lt}
+use Rattle.std.specs.Prelude.{ℕ, zero, suc, true, false, if◌then◌else◌, List, Option, Some, None, Result, Ok, Err, codes, ℤ}
 use Rattle.std.specs.List.{list_all}
 use Rattle.serde_json.specs.Data.{Data, number, string, array}
 use Rattle.serde_json.specs.Find.{as_i64}
@@ -8,17 +8,15 @@ use Rattle.canvas_task.specs.Numbers.{in_range}
 use Rattle.canvas_task.specs.declared.arg.Arg.{Arg}
 use Rattle.canvas_task.specs.declared.arg.Arg.TheVariants as arg
 use Rattle.canvas_values.specs.declared.fault.SigFault.{SigFault}
-use Rattle.canvas_values.specs.declared.fault.SigFault.TheVariants.{BadArgs, BadNumber, TooDeep, TooLarge, NotJson}
+use Rattle.canvas_values.specs.declared.fault.SigFault.TheVariants.{BadArgs, BadNumber, TooDeep, NotJson}
 use Rattle.canvas_values.specs.declared.primitive.Primitive.{Primitive}
 use Rattle.canvas_values.specs.declared.primitive.Primitive.TheVariants as kind
 use Rattle.canvas_task.specs.Text.{Text}
 use Rattle.canvas_values.specs.Fields.{field, subtype, args, kwargs, tasks, header, body, link, link_error, items, listed, as_list, object_members, text_of, is_number, is_true}
 use Rattle.canvas_semantics.specs.Tree.{Task, task, Tree, one, chain, group, chord, Trees}
 use Rattle.canvas_values.specs.SignatureView.{tasks_of, trees_of}
-use Rattle.serde_json.specs.Read.{max_depth}
-use Rattle.canvas_values.specs.Answers.{◌>>=◌, fault_if, unless, in_turn}
+use Rattle.canvas_values.specs.Answers.{◌>>=◌, unless, in_turn}
 use Rattle.canvas_values.specs.Grammar.{arg_reading, named_reading, primitive_of, own_fault, members_in}
-use Rattle.canvas_values.specs.CanvasText.{most_bytes, json_of}
 
 abbrev pub in_range_or_refused : Option ℤ → Result ℤ SigFault
 in_range_or_refused None = Err BadNumber
@@ -92,9 +90,3 @@ tree_reading (suc n) d = tree_with (task_reading n) (tree_reading n) d
 abbrev pub json_reading : Option Data → Result Data SigFault
 json_reading None = Err NotJson
 json_reading (Some d) = Ok d
-
--- the signature that a text spells, before the checks of whole canvases
-abbrev pub signature_reading : Text → Result Tree SigFault
-signature_reading bytes =
-    unless (fault_if (nat_lt most_bytes (length bytes)) TooLarge)
-    (json_reading (json_of bytes) >>= λ d. tree_reading (suc max_depth) d)

@@ -12,8 +12,8 @@ use canvas_envelope::Letter;
 use std::sync::Wait;
 
 /// The queue of a run, which counts an envelope and then publishes it or delivers it again: another
-/// worker may take and acknowledge it at once. Workers have no other queue, and nothing else adds to
-/// the count. Its calls are the broker's.
+/// worker may take and acknowledge it at once. Workers have no other queue, and nothing else adds
+/// to the count. Its calls are the broker's.
 #[derive(Clone, Copy)]
 pub(crate) struct CountedQueue<'a> {
     broker: &'a Broker<Letter>,

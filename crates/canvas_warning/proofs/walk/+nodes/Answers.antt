@@ -90,5 +90,5 @@ push_node-returns-in_ok-push_members-in-Chord-clause-told g t c =
 
 pub push_node-returns-in_ok-push_members-in-Chord-clause-out : goal.push_node-returns-in_ok-push_members-in-Chord-clause-out
 push_node-returns-in_ok-push_members-in-Chord-clause-out g t c =
-    chord_out c.args.node.now c.args.stand.input c.in-Chord.header c.in-Chord.body c.deref-in-Chord-3.result.now c.count-members.result c.of_body.result c.args.stand
-    c.push_node.result c.in-Chord.is c.deref-in-Chord-3.ensures c.of_body.ensures c.push_node.ensures.out
+    chord_out c.args.node.now c.args.stand.input c.in-Chord.header c.in-Chord.body c.deref-in-Chord-3.result.now c.count-members.result c.of_body.result
+    c.args.stand c.push_node.result c.in-Chord.is c.deref-in-Chord-3.ensures c.of_body.ensures c.push_node.ensures.out

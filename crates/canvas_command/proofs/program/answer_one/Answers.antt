@@ -1,0 +1,30 @@
+use Rattle.std.proofs.Common.{ℕ, Option, IfOk, sym, subst}
+use Rattle.canvas_answer.specs.Asking.{asking}
+use Rattle.canvas_by_turns.specs.Correct.{IsRunFault}
+use Rattle.canvas_command.specs.Asked.{IsAnswerTo}
+use Rattle.canvas_command.specs.Runs.{IsRunOf}
+use Rattle.canvas_command.proofs.program.answer_one.Goals as goal
+
+pub returns-in-Run : goal.returns-in-Run
+returns-in-Run g c =
+    let source = c.args.source.now in
+    subst (λ v. IfOk c.answer_run.result (IsAnswerTo (g.T.Tasks.behaviour source.tasks.now) (asking source.setting) source.text.now v)) (sym c.in-Run.is)
+    c.answer_run.ensures
+
+pub returns-in-Graph : goal.returns-in-Graph
+returns-in-Graph g c =
+    let source = c.args.source.now in
+    subst (λ v. IfOk c.answer_graph.result (IsAnswerTo (g.T.Tasks.behaviour source.tasks.now) (asking source.setting) source.text.now v))
+    (sym c.in-Graph.is) c.answer_graph.ensures
+
+pub returns-in-Turns : goal.returns-in-Turns
+returns-in-Turns g c =
+    let source = c.args.source.now in
+    let behaviour = g.T.Tasks.behaviour source.tasks.now in
+    let manner = c.in-Turns.manner in
+    let run =
+    subst
+    (λ ts. IfOk c.answer_turns.result
+    (λ a. (told : Option ℕ) × IsRunOf behaviour (asking source.setting) source.text.now (IsRunFault c.in-Turns.workers ts) manner.form manner.fails told a))
+    c.deref.ensures.value c.answer_turns.ensures in
+    subst (λ v. IfOk c.answer_turns.result (IsAnswerTo behaviour (asking source.setting) source.text.now v)) (sym c.in-Turns.is) run

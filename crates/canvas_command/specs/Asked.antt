@@ -1,0 +1,59 @@
+-- What the program answers to what is asked of a canvas, by the bytes of its text and by what
+-- answers its calls.
+use Rattle.std.specs.Prelude.{ℕ, [], Option, None}
+use Rattle.canvas_task.specs.Apply.{Behaviour}
+use Rattle.canvas_task.specs.Text.{Text}
+use Rattle.canvas_by_turns.specs.Correct.{IsRunFault}
+use Rattle.canvas_engine.specs.Evidence.{IsThreadFault}
+use Rattle.canvas_semantics.specs.Line.{Line}
+use Rattle.canvas_semantics.specs.Tree.{Tree}
+use Rattle.canvas_answer.specs.Answers.{AnswersAll}
+use Rattle.canvas_answer.specs.Asking.{Asking}
+use Rattle.canvas_answer.specs.Normal.{IsNormalText}
+use Rattle.canvas_answer.specs.OnCelery.{IsOnCelery}
+use Rattle.canvas_answer.specs.Pictured.{IsPictured}
+use Rattle.canvas_answer.specs.Plans.{ArePlansOf, IsAdaptedText, IsCanvasOf, IsSpelled, IsTextPlan}
+use Rattle.canvas_answer.specs.declared.answer.Answer.{Answer}
+use Rattle.canvas_answer.specs.declared.asked.Verb.{Verb}
+use Rattle.canvas_answer.specs.declared.asked.Verb.TheVariants as verb
+use Rattle.canvas_answer.specs.declared.asked.Work.{Work}
+use Rattle.canvas_answer.specs.declared.asked.Work.TheVariants.{One, Each}
+use Rattle.canvas_answer.specs.declared.graph.States.{States}
+use Rattle.canvas_answer.specs.declared.graph.States.TheVariants as states
+use Rattle.canvas_command.specs.Messages.{AreMessages}
+use Rattle.canvas_command.specs.Runs.{IsPictureOf, IsRunOf}
+
+module _ (behaviour : Behaviour) (its : Asking) (bytes : Text) where
+  -- a picture of what Celery's workers stored is told nothing of
+  abbrev pub IsPictureAsked : States → Answer → Type 0
+  IsPictureAsked states.None a =
+      (shown : Line) × (run : Line) × ArePlansOf its bytes shown run × IsPictured [] None shown a
+  IsPictureAsked (states.Run workers) a = IsPictureOf behaviour its bytes a
+  IsPictureAsked (states.Stored stored) a = Unit {0}
+
+  -- figures and warnings are told nothing of
+  abbrev pub IsAnswerTo : Verb → Answer → Type 0
+  IsAnswerTo (verb.Run workers manner) a =
+      IsRunOf behaviour its bytes (IsThreadFault workers) manner.form manner.fails None a
+  IsAnswerTo (verb.Turns workers turns again manner) a =
+      (told : Option ℕ)
+      × IsRunOf behaviour its bytes (IsRunFault workers turns.items) manner.form manner.fails told
+      a
+  IsAnswerTo verb.Normal a =
+      (c : Tree) × IsCanvasOf its.adapts bytes c
+      × ((line : Text) × IsNormalText c line × AnswersAll line 0 a)
+  IsAnswerTo (verb.Check manner) a = Unit {0}
+  IsAnswerTo (verb.Adapt renames) a =
+      (made : Text) × IsAdaptedText bytes renames.items made × AnswersAll made 0 a
+  IsAnswerTo (verb.Graph states) a = IsPictureAsked states a
+  IsAnswerTo (verb.Messages workers turns) a =
+      (shown : Line) × (run : Line) × ArePlansOf its bytes shown run
+      × AreMessages behaviour run workers turns.items a
+  IsAnswerTo (verb.Celery run asked) a =
+      (made : Text) × IsSpelled its.adapts bytes made
+      × ((l : Line) × IsTextPlan made l × IsOnCelery run.digits asked l a)
+
+  -- of many canvases nothing is told
+  abbrev pub IsDone : Work → Answer → Type 0
+  IsDone (One v) a = IsAnswerTo v a
+  IsDone (Each each) a = Unit {0}
