@@ -90,7 +90,8 @@ def json_report(canvas, tells=True, made=same, stubs=None):
     states = [walk.rows[end - 1].state for end in walk.ends]
     results = [result_of(made(it)) for it in states]
     status = status_of(states)
-    lines.append({"result": results if ends_in_group(canvas) else results[0], "status": status})
+    lines.append({"ends": [identifier(end) for end in walk.ends],
+                  "result": results if ends_in_group(canvas) else results[0], "status": status})
     return "".join(written(it) + "\n" for it in lines), 3 if status == "FAILURE" else 0
 
 
@@ -402,7 +403,7 @@ FAILED_JSON = """\
 {"due_to":null,"name":"tasks.add","ran":true,"result":16,"status":"SUCCESS","task_id":"#3"}
 {"due_to":"#2","name":"tasks.xsum","ran":false,"result":{"exc_message":["Dependency #2 raised ZeroDivisionError"],"exc_type":"ChordError"},"status":"FAILURE","task_id":"#4"}
 {"due_to":null,"name":"tasks.log_error","ran":true,"result":4,"status":"SUCCESS","task_id":"#5"}
-{"result":{"exc_message":["Dependency #2 raised ZeroDivisionError"],"exc_type":"ChordError"},"status":"FAILURE"}
+{"ends":["#4"],"result":{"exc_message":["Dependency #2 raised ZeroDivisionError"],"exc_type":"ChordError"},"status":"FAILURE"}
 """
 
 FAILED_PICTURE = HEAD + r"""
