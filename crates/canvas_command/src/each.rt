@@ -68,9 +68,12 @@ where
 
 /// The line of a canvas that is refused; where it isn't the canvas, there is none.
 fn refused_line(alloc: Global, text: &[u8], refusal: Refusal) -> Result<(String, bool), Refusal> {
-    match refusal {
-        Refusal::Canvas(_) => Ok((refusal.placed(alloc, text).json(alloc)?, false)),
-        other => Err(other),
+    if !matches!(refusal, Refusal::Canvas(_)) {
+        return Err(refusal);
+    }
+    match refusal.placed(alloc, text) {
+        Refusal::Memory => Err(Refusal::Memory),
+        placed => Ok((placed.json(alloc)?, false)),
     }
 }
 
