@@ -2,3 +2,4 @@ mod AdaptedExamples
 mod Names
 pub mod RenamedLaws
 mod Settled
+pub mod Naming

@@ -1,8 +1,11 @@
 //! Other names for tasks, which go by their numbers in reports.
 
-ghost use Rattle.std.specs.Prelude.{◌≡◌};
+ghost use Rattle.std.specs.Prelude.{◌≡◌, ◌∷◌, ◌++◌, [], IfOk, IfSome, OnOk, map};
 ghost use Rattle.std.specs.Option.{option_map};
+ghost use Rattle.canvas_task.specs.Text.{Text};
 ghost use Rattle.canvas_adapt.specs.Renamed.{name_for};
+ghost use Rattle.canvas_adapt.specs.RenameTexts.{AreRenameTexts, IsNumberText, IsRenameText};
+ghost use Rattle.canvas_adapt.specs.declared.renames.Rename.{Rename};
 
 use crate::{BadRename, RenameFault};
 use canvas_task::{TaskNo, name_ok};
@@ -16,7 +19,10 @@ pub struct Rename {
 }
 
 /// The number that a text says, as `#3`. It has no sign.
-fn number_of(text: &str) -> Option<TaskNo> {
+fn number_of(text: &str) -> Option<TaskNo>
+    ensures { IfSome result (λ k. (digits : Text) × (text.now ≡ 35 ∷ digits)
+        × IsNumberText digits k) }
+{
     let digits = text.strip_prefix("#")?;
     if digits.starts_with('+') {
         return None;
@@ -28,7 +34,9 @@ fn number_of(text: &str) -> Option<TaskNo> {
 }
 
 /// Reads a name for a task, as `#3=shop.ship`. The number ends before the first `=`.
-pub fn read_rename(alloc: Global, text: &str) -> Result<Rename, RenameFault> {
+pub fn read_rename(alloc: Global, text: &str) -> Result<Rename, RenameFault>
+    ensures { IfOk result (IsRenameText text.now) }
+{
     let Some((number, name)) = text.split_once('=') else {
         return Err(RenameFault::NoNumber);
     };
@@ -54,7 +62,10 @@ pub(crate) fn name_of(renames: &[Rename], task: u32) -> Option<&str>
     None
 }
 
-fn add_text(alloc: Global, renames: &mut Vec<Rename>, text: &str) -> Result<(), RenameFault> {
+fn add_text(alloc: Global, renames: &mut Vec<Rename>, text: &str) -> Result<(), RenameFault>
+    ensures { OnOk result ((r : Rename) × (renames.new.items ≡ renames.old.items ++ r ∷ [])
+        × IsRenameText text.now r) }
+{
     let rename = read_rename(alloc, text)?;
     if name_of(renames, rename.task.get()).is_some() {
         return Err(RenameFault::Doubled);
@@ -64,7 +75,10 @@ fn add_text(alloc: Global, renames: &mut Vec<Rename>, text: &str) -> Result<(), 
 }
 
 /// Reads names for tasks, one a text, as `read_rename` does. A number is there once.
-pub fn read_renames(alloc: Global, texts: &[&str]) -> Result<Vec<Rename>, BadRename> {
+pub fn read_renames(alloc: Global, texts: &[&str]) -> Result<Vec<Rename>, BadRename>
+    ensures { IfOk result
+        (λ renames. AreRenameTexts (map (λ t. t.now) texts.now) renames.items) }
+{
     let mut renames = Vec::new(alloc);
     for (before, text) in texts.iter().enumerate() {
         match add_text(alloc, &mut renames, text) {

@@ -1,10 +1,11 @@
 -- No command is missing in the list of all.
-use Rattle.std.proofs.Common.{◌≡◌, ◌≢◌, ◌⊎◌, inl, inr, ℕ, ◌+◌, ◌<◌, Bool, false, List, [], ◌∷◌, get_or, drop, refl, sym, ap, ◌∙◌, subst}
+use Rattle.std.proofs.Common.{◌≡◌, ◌≢◌, ◌⊎◌, inl, inr, ℕ, ◌+◌, ◌<◌, Bool, false, Option, Some, if◌then◌else◌, List, [], ◌∷◌, get_or, drop, refl, sym, ap, ◌∙◌, subst}
 use Rattle.std.specs.Str.{bytes_eq}
 use Rattle.std.proofs.lemmas.Bool.Decides.{not_from_Decides}
 use Rattle.std.proofs.lemmas.List.{drop_more}
 use Rattle.std.proofs.lemmas.Slice.Eq.{bytes_eq-Decides}
 use Rattle.canvas_words.specs.Names.{command_name}
+use Rattle.canvas_words.specs.Options.{all, named_among}
 use Rattle.canvas_words.specs.declared.subcommand.Subcommand.{Subcommand}
 use Rattle.canvas_words.specs.declared.subcommand.Subcommand.TheVariants.{Run, Turns, Normal, Check, Adapt, Graph, Messages, Export, Keys, Collect}
 
@@ -15,9 +16,6 @@ Has c (d ∷ ds) = (c ≡ d) ⊎ Has c ds
 -- a command of this name is among these
 abbrev pub Left : List ℕ → List Subcommand → Type 0
 Left name ds = (c : Subcommand) → name ≡ command_name c → Has c ds
-
-abbrev pub all : List Subcommand
-all = Run ∷ Turns ∷ Normal ∷ Check ∷ Adapt ∷ Graph ∷ Messages ∷ Export ∷ Keys ∷ Collect ∷ []
 
 all_there : (c : Subcommand) → Has c all
 all_there Run = inl refl
@@ -45,3 +43,21 @@ still_left name told i same short left is test fails =
     let differs : told ≢ name = not_from_Decides (bytes_eq told name) (bytes_eq-Decides told name) (sym test ∙ fails) in
     let now : Left name (get_or all i Run ∷ drop (i + 1) all) = subst (λ ds. Left name ds) (drop_more all i Run short) left in
     λ c its. other name c (get_or all i Run) (drop (i + 1) all) its (λ e. differs (is ∙ e)) (now c its)
+
+-- ---- the first of a name
+
+abbrev first_or : List ℕ → Subcommand → Option Subcommand → Bool → Option Subcommand
+first_or name c rest same = if same then Some c else rest
+
+at_place : (name : List ℕ) (i : ℕ) (same : Bool) → i < 10 → same ≡ bytes_eq (command_name (get_or all i Run)) name
+    → named_among (drop i all) name ≡ first_or name (get_or all i Run) (named_among (drop (i + 1) all) name) same
+at_place name i same short test =
+    ap (λ cs. named_among cs name) (drop_more all i Run short)
+    ∙ ap (first_or name (get_or all i Run) (named_among (drop (i + 1) all) name)) (sym test)
+
+pub not_here : (name told : List ℕ) (i : ℕ) (same : Bool) → i < 10 → named_among all name ≡ named_among (drop i all) name
+    → told ≡ command_name (get_or all i Run) → same ≡ bytes_eq told name → same ≡ false
+    → named_among all name ≡ named_among (drop (i + 1) all) name
+not_here name told i same short so_far is test fails =
+    so_far ∙ at_place name i same short (test ∙ ap (λ t. bytes_eq t name) is)
+    ∙ ap (first_or name (get_or all i Run) (named_among (drop (i + 1) all) name)) fails

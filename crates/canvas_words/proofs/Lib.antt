@@ -2,3 +2,5 @@ pub mod AllCommands
 pub mod Making
 pub mod Added
 pub mod Simplicity
+pub mod Parsed
+mod Taken

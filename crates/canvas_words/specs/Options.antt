@@ -1,12 +1,13 @@
 -- The words of the program: its commands, and the options of each, as the crate `clap` reads words
 -- by them (clap_builder 4.6.7: what a word is and what a command's matches are, `subcommand_of`).
-use Rattle.std.specs.Prelude.{◌≡◌, ◌≢◌, ℕ, List, [], ◌∷◌, Option, Some, None, map, true, false, codes}
-use Rattle.clap.specs.Matches.{found_of}
+use Rattle.std.specs.Prelude.{◌≡◌, ◌≢◌, ℕ, List, [], ◌∷◌, Option, Some, None, map, true, false, codes, if◌then◌else◌}
+use Rattle.std.specs.Str.{bytes_eq}
 use Rattle.clap.specs.Simple.{App, Shape, new_rule, new_shape, subcommand_of}
-use Rattle.clap.specs.Walk.{Rule, rows_of}
+use Rattle.clap.specs.Walk.{Row, Rule}
 use Rattle.clap.specs.declared.builder.action.ArgAction.TheVariants.{Append, SetTrue}
 use Rattle.clap.specs.declared.builder.value_parser.ValueParser.TheVariants.{Unsigned}
-use Rattle.clap.specs.declared.parser.matches.ArgMatches.{ArgMatches}
+use Rattle.clap.specs.declared.error.kind.ErrorKind.{ErrorKind}
+use Rattle.clap.specs.declared.error.kind.ErrorKind.TheVariants.{DisplayHelp, DisplayVersion}
 use Rattle.canvas_words.specs.Names.{command_name}
 use Rattle.canvas_words.specs.declared.subcommand.Subcommand.{Subcommand}
 use Rattle.canvas_words.specs.declared.subcommand.Subcommand.TheVariants.{Run, Turns, Normal, Check, Adapt, Graph, Messages, Export, Keys, Collect}
@@ -36,10 +37,6 @@ number name least most = record (text name) { parser = Some (Unsigned least most
 -- where it isn't given it is this
 abbrev pub or_else : List ℕ → Rule → Rule
 or_else value r = record r { defaults = value ∷ [] }
-
--- it may be given only with another, or not with another
-abbrev pub tied : Rule → Rule
-tied r = record r { is_free = false }
 
 abbrev pub needed : Rule → Rule
 needed r = record r { required = true }
@@ -78,16 +75,17 @@ prefix = text (codes "prefix")
 abbrev pub options : Subcommand → List Rule
 options Run =
     file ∷ workers ∷ adapt ∷ task ∷ tasks ∷ json ∷ flag (codes "explain") ∷ flag (codes "each")
-    ∷ tied (flag (codes "null")) ∷ fail ∷ []
+    ∷ flag (codes "null") ∷ flag (codes "with-tasks") ∷ fail ∷ []
 options Turns =
     file ∷ workers ∷ turns ∷ text (codes "again") ∷ adapt ∷ task ∷ tasks ∷ json ∷ fail ∷ []
 options Normal = file ∷ json ∷ []
 options Check = file ∷ adapt ∷ task ∷ tasks ∷ json ∷ flag (codes "strict") ∷ []
 options Adapt = file ∷ texts (codes "rename") ∷ json ∷ []
 options Graph =
-    file ∷ flag (codes "run") ∷ workers ∷ adapt ∷ task ∷ tasks ∷ tied (text (codes "results"))
-    ∷ tied (text (codes "of")) ∷ tied (flag (codes "complete")) ∷ json ∷ []
-options Messages = file ∷ workers ∷ turns ∷ adapt ∷ task ∷ tasks ∷ json ∷ []
+    file ∷ flag (codes "run") ∷ workers ∷ adapt ∷ task ∷ tasks ∷ text (codes "results")
+    ∷ text (codes "of") ∷ flag (codes "complete") ∷ json ∷ []
+options Messages =
+    file ∷ workers ∷ turns ∷ flag (codes "calls") ∷ adapt ∷ task ∷ tasks ∷ json ∷ []
 options Export =
     file ∷ of_run ∷ adapt ∷ or_else (codes "celery") (text (codes "queue")) ∷ prefix
     ∷ or_else (codes "86400") (number (codes "expires") 1 1000000000)
@@ -115,23 +113,28 @@ program cs =
 abbrev pub all : List Subcommand
 all = Run ∷ Turns ∷ Normal ∷ Check ∷ Adapt ∷ Graph ∷ Messages ∷ Export ∷ Keys ∷ Collect ∷ []
 
--- the command of a name
-abbrev pub IsNamed : List ℕ → Option Subcommand → Type 0
-IsNamed name (Some c) = name ≡ command_name c
-IsNamed name None = (c : Subcommand) → name ≢ command_name c
+-- the first of these commands that has the name
+abbrev pub named_among : List Subcommand → List ℕ → Option Subcommand
+named_among [] name = None
+named_among (c ∷ cs) name =
+    if bytes_eq (command_name c) name then Some c else named_among cs name
+
+abbrev pub first_word : List (List ℕ) → List ℕ
+first_word [] = []
+first_word (w ∷ ws) = w
 
 -- The parser is given the command that the first word names, or all where it names none.
 abbrev pub offered : Option Subcommand → List Subcommand
 offered (Some c) = c ∷ []
 offered None = all
 
-abbrev pub first_word : List (List ℕ) → List ℕ
-first_word [] = []
-first_word (w ∷ ws) = w
+abbrev pub program_for : List (List ℕ) → App
+program_for words = program (offered (named_among all (first_word words)))
 
 -- the command that the words ask for, and what is given for its options
-abbrev pub IsAsked : List (List ℕ) → Subcommand → ArgMatches → Type 0
-IsAsked words c given =
-    (one : Option Subcommand) × IsNamed (first_word words) one
-    × (subcommand_of (program (offered one)) words
-    ≡ Some (command_name c, rows_of (found_of given)))
+abbrev pub IsAsked : List (List ℕ) → Subcommand → List Row → Type 0
+IsAsked words c given = subcommand_of (program_for words) words ≡ Some (command_name c, given)
+
+-- what the parser says that is no answer: neither help nor the version
+abbrev pub IsMistake : ErrorKind → Type 0
+IsMistake kind = (kind ≢ DisplayHelp) × (kind ≢ DisplayVersion)

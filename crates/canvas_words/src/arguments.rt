@@ -31,10 +31,6 @@ pub(crate) enum Given {
     Maybe,
     /// It is this where it isn't.
     Else(&'static str),
-    /// Only where another is, too.
-    With(&'static str),
-    /// Not where another is, and only where a third one is, too.
-    Against(&'static str, &'static str),
 }
 
 /// An argument as the commands' lists have it.
@@ -73,6 +69,13 @@ pub(crate) const TURNS: Argument = Argument {
     takes: Takes::Text("LIST"),
     given: Given::Maybe,
     help: "Which worker goes on at each turn, as 1,2,2; behind the list they take turns from 1",
+};
+
+pub(crate) const CALLS: Argument = Argument {
+    name: "calls",
+    takes: Takes::Nothing,
+    given: Given::Maybe,
+    help: "Prints each message as the call that it asks for, and what that comes behind",
 };
 
 pub(crate) const AGAIN: Argument = Argument {
@@ -141,8 +144,15 @@ pub(crate) const EACH: Argument = Argument {
 pub(crate) const NULL: Argument = Argument {
     name: "null",
     takes: Takes::Nothing,
-    given: Given::With("each"),
+    given: Given::Maybe,
     help: "Each of many canvases ends with a NUL byte, and not with its line",
+};
+
+pub(crate) const WITH_TASKS: Argument = Argument {
+    name: "with-tasks",
+    takes: Takes::Nothing,
+    given: Given::Maybe,
+    help: "Each of them has what its tasks answer before it, one NAME=WORD a line, and an empty line",
 };
 
 pub(crate) const ADAPT: Argument = Argument {
@@ -232,27 +242,21 @@ pub(crate) const COMPLETE: Argument = Argument {
 pub(crate) const RESULTS: Argument = Argument {
     name: "results",
     takes: Takes::Text("FILE"),
-    given: Given::Against("run", "of"),
+    given: Given::Maybe,
     help: "Shows the states of these results of Celery's workers, one a line; `-` is standard input",
 };
 
 pub(crate) const OF: Argument = Argument {
     name: "of",
     takes: Takes::Text("HEX22"),
-    given: Given::With("results"),
+    given: Given::Maybe,
     help: "The run whose results they are",
-};
-
-pub(crate) const COMPLETE_RESULTS: Argument = Argument {
-    given: Given::With("results"),
-    ..COMPLETE
 };
 
 impl Argument {
     fn named<'a>(&self, alloc: Global) -> Arg<'a>
         ensures rule { rule_of result ≡ named self.now.takes self.now }
         ensures local { result.global ≡ false }
-        ensures free { result.conflicts.items ≡ [] }
     {
         let argument = Arg::new(alloc, self.name).help(self.help);
         match self.takes {
@@ -270,17 +274,15 @@ impl Argument {
         }
     }
 
-    fn as_clap<'a>(&self, alloc: Global) -> Result<Arg<'a>, AllocError>
-        ensures rule { IfOk result (λ a. rule_of a ≡ rule self.now) }
-        ensures local { IfOk result (λ a. a.global ≡ false) }
+    fn as_clap<'a>(&self, alloc: Global) -> Arg<'a>
+        ensures rule { rule_of result ≡ rule self.now }
+        ensures local { result.global ≡ false }
     {
         let argument = self.named(alloc);
         match self.given {
-            Given::Always => Ok(argument.required(true)),
-            Given::Maybe => Ok(argument),
-            Given::Else(value) => Ok(argument.default_value(value)),
-            Given::With(other) => Ok(argument.requires_arg(other)?),
-            Given::Against(other, third) => argument.conflicts_with(other)?.requires_arg(third),
+            Given::Always => argument.required(true),
+            Given::Maybe => argument,
+            Given::Else(value) => argument.default_value(value),
         }
     }
 }
@@ -292,7 +294,7 @@ pub(crate) fn arguments_of<'a>(alloc: Global, list: &[Argument]) -> Result<Vec<A
 {
     let mut arguments = Vec::with_capacity(alloc, list.len())?;
     for argument in list {
-        arguments.push(argument.as_clap(alloc)?)?;
+        arguments.push(argument.as_clap(alloc))?;
     }
     Ok(arguments)
 }

@@ -1,25 +1,25 @@
 //! What help says of each command, and its arguments.
 
-ghost use Rattle.std.specs.Prelude.{◌≡◌, false, map, IfOk, Option};
+ghost use Rattle.std.specs.Prelude.{◌≡◌, false, map, IfOk};
 ghost use Rattle.std.specs.List.{All};
 ghost use Rattle.clap.specs.Simple.{shape_of};
 ghost use Rattle.clap.specs.declared.builder.command.Command.TheViews.{out-Command};
-ghost use Rattle.canvas_words.specs.Options.{command, options, offered, IsNamed};
+ghost use Rattle.canvas_words.specs.Options.{all, command, options, offered, named_among};
 ghost use Rattle.canvas_words.specs.steps.Rules.{rule};
 
 use crate::Subcommand;
 use crate::arguments::{
-    ADAPT, AGAIN, Argument, BACKEND_DATABASE, BROKER_DATABASE, COMPLETE, COMPLETE_RESULTS, EACH,
-    EXPIRES, EXPLAIN, FAIL, FIGURES_JSON, FILE, FILE_ALONE, JSON, NULL, OF, PREFIX, QUEUE,
-    REFUSAL_JSON, RENAME, RESULTS, RUN, STATES, STRICT, TASK, TASKS, TURNS, WITHOUT_SCRIPT,
-    WORKERS, arguments_of,
+    ADAPT, AGAIN, Argument, BACKEND_DATABASE, BROKER_DATABASE, CALLS, COMPLETE, EACH, EXPIRES,
+    EXPLAIN, FAIL, FIGURES_JSON, FILE, FILE_ALONE, JSON, NULL, OF, PREFIX, QUEUE, REFUSAL_JSON,
+    RENAME, RESULTS, RUN, STATES, STRICT, TASK, TASKS, TURNS, WITH_TASKS, WITHOUT_SCRIPT, WORKERS,
+    arguments_of,
 };
 use clap::Command;
 use std::alloc::{AllocError, Global};
 
 /// The arguments of `run`.
-static RUN_ARGUMENTS: [Argument; 10] = [
-    FILE, WORKERS, ADAPT, TASK, TASKS, JSON, EXPLAIN, EACH, NULL, FAIL,
+static RUN_ARGUMENTS: [Argument; 11] = [
+    FILE, WORKERS, ADAPT, TASK, TASKS, JSON, EXPLAIN, EACH, NULL, WITH_TASKS, FAIL,
 ];
 
 /// Those of `turns`.
@@ -37,12 +37,21 @@ static GRAPH: [Argument; 10] = [
     TASKS,
     RESULTS,
     OF,
-    COMPLETE_RESULTS,
+    COMPLETE,
     REFUSAL_JSON,
 ];
 
 /// Those of `messages`.
-static MESSAGES: [Argument; 7] = [FILE, WORKERS, TURNS, ADAPT, TASK, TASKS, REFUSAL_JSON];
+static MESSAGES: [Argument; 8] = [
+    FILE,
+    WORKERS,
+    TURNS,
+    CALLS,
+    ADAPT,
+    TASK,
+    TASKS,
+    REFUSAL_JSON,
+];
 
 /// Those of `export`.
 static EXPORT: [Argument; 10] = [
@@ -145,8 +154,8 @@ fn commands_in<'a>(alloc: Global, list: &[Subcommand]) -> Result<Vec<Command<'a>
 
 /// The command of a name, or all where none has it.
 pub(crate) fn commands_of<'a>(alloc: Global, name: &str) -> Result<Vec<Command<'a>>, AllocError>
-    ensures shapes { IfOk result (λ made. (one : Option Subcommand) × IsNamed name.now one
-        × (map shape_of made.items ≡ map command (offered one))) }
+    ensures shapes { IfOk result (λ made.
+        map shape_of made.items ≡ map command (offered (named_among all name.now))) }
     ensures local { IfOk result
         (λ made. All (λ c. (out-Command c).has_globals ≡ false) made.items) }
 {

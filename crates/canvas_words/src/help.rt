@@ -77,10 +77,11 @@ the same, due_to is the task whose exception it shows, or that its ChordError na
 --explain` says the same in words, with #2 for the identifier of task 2. A run that ends early
 doesn't say which tasks were called. With --json a call of a built-in task that is a TypeError
 has parameter: the one at fault, or null where there are too many arguments. `run --each` reads a
-canvas a line, and prints a JSON object a line for each, in their order: canvas (the last line of
-`run --json`) and rows (a list of the others), or what --json prints of one that is refused. With
---null a canvas ends with a NUL byte in place of its line. More than 67,108,864 bytes in all are
-refused (TooLarge).
+canvas a line, and prints a JSON object a line for each, before it reads the next: canvas (the last
+line of `run --json`) and rows (a list of the others), or what --json prints of one that is refused.
+With --null a canvas ends with a NUL byte in place of its line. With --with-tasks it then has lines
+before it, each as --task takes them, and an empty line. They are for this canvas alone, and come
+before --task and --tasks.
 
 With --json each command prints a refusal as an object on standard error: of a canvas with code,
 name, note, pointer and task (those of the first signature that has it, or null), and else, as of a
@@ -89,7 +90,10 @@ file that can't be read or of bad words, with name and note.
 `graph` prints a picture for Graphviz, as in `canvas graph FILE --run | dot -Tsvg -o canvas.svg`:
 from left to right in time, groups and chords as frames, links and error callbacks dashed.
 `messages` prints what a worker would get: the body, the headers and the properties of each
-message, as texts.
+message, as texts. `messages --calls` prints the call that each asks for as a JSON object in a line
+(after, args, header_after, kwargs, name, parent_id, task_id), and then the names of all tasks. A
+message waits for the ends of the tasks of after. If a header's completion publishes it,
+header_after has the tasks whose ends the header waits for; else it is null.
 
 `export` prints the commands that start a canvas on Celery's own workers, with Redis as broker and
 result backend, `keys` the keys under which these store its results, and `collect` its report, from

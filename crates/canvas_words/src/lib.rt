@@ -6,6 +6,7 @@ mod commands;
 mod help;
 mod program;
 mod subcommand;
+mod ties;
 
 pub use help::{NOTES, SHORT_NOTES};
 pub use program::{bad_text, read_words};

@@ -1,13 +1,19 @@
 //! The program's words: its commands, its version and its help.
 
-ghost use Rattle.std.specs.Prelude.{◌≡◌, [], false, true, codes, map, IfOk, Option, string_bytes};
+ghost use Rattle.std.specs.Prelude.{◌≡◌, [], false, true, codes, map, IfErr, IfOk, string_bytes};
+ghost use Rattle.clap.specs.Matches.{found_of};
 ghost use Rattle.clap.specs.Simple.{app_of, new_shape, subcommand_of, subcommand_rows_of};
+ghost use Rattle.clap.specs.Takes.{takes};
+ghost use Rattle.clap.specs.Values.{kind_of};
+ghost use Rattle.clap.specs.Walk.{rows_of};
+ghost use Rattle.clap.specs.declared.error.kind.ErrorKind.TheVariants.{OutOfMemory};
 ghost use Rattle.clap.specs.declared.builder.command.Command.TheViews.{out-Command};
-ghost use Rattle.canvas_words.specs.Options.{first_word, offered, program, IsAsked, IsNamed};
+ghost use Rattle.canvas_words.specs.Options.{all, first_word, named_among, offered, program, program_for, IsAsked, IsMistake};
 
 use crate::Subcommand;
 use crate::commands::commands_of;
 use crate::help::{NOTES, SHORT_NOTES};
+use crate::ties::{Tie, broken_tie};
 use clap::error::ErrorKind;
 use clap::{ArgMatches, Command, Error};
 use std::alloc::{AllocError, Global};
@@ -33,8 +39,7 @@ fn plain_program<'a>(alloc: Global) -> Result<Command<'a>, AllocError>
 
 /// The program with the command of a name, or with all where none has it.
 fn program_of<'a>(alloc: Global, name: &str) -> Result<Command<'a>, AllocError>
-    ensures { IfOk result (λ c. (one : Option Subcommand) × IsNamed name.now one
-        × (app_of c ≡ program (offered one))) }
+    ensures { IfOk result (λ c. app_of c ≡ program (offered (named_among all name.now))) }
 {
     let commands = commands_of(alloc, name)?;
     let plain = plain_program(alloc)?.subcommand_required(true);
@@ -54,35 +59,58 @@ fn first_of(words: &[String]) -> &str
 /// Parses the words behind the program's name. Where they begin with a command, the others aren't
 /// made, since none of them is asked.
 fn matches_of<'w>(alloc: Global, words: &'w [String]) -> Result<ArgMatches<'w>, Error>
-    ensures { IfOk result (λ m. (one : Option Subcommand)
-        × IsNamed (first_word (map string_bytes words.entry.now)) one
-        × (subcommand_rows_of m
-        ≡ subcommand_of (program (offered one)) (map string_bytes words.entry.now))) }
+    ensures ok { IfOk result (λ m. subcommand_rows_of m
+        ≡ subcommand_of (program_for (map string_bytes words.entry.now))
+        (map string_bytes words.entry.now)) }
+    ensures err { IfErr result (λ e. takes (program_for (map string_bytes words.entry.now))
+        (map string_bytes words.entry.now) ≡ true → IsMistake (kind_of e)) }
 {
     let program = program_of(alloc, first_of(words))?;
-    Ok(program.try_get_matches_from(words)?)
+    program.try_get_matches_from(words)
 }
 
 /// The command that the words behind the program's name ask for, with its arguments. Help, the
-/// version and a mistake are what the parser says.
+/// version and a mistake are what the parser says, and that an option is there without the one that
+/// it belongs to, or beside one that it can't be given with.
 pub fn read_words<'w>(
     alloc: Global,
     words: &'w [String],
 ) -> Result<(Subcommand, ArgMatches<'w>), Error>
-    ensures { IfOk result (λ r. IsAsked (map string_bytes words.entry.now) r.0 r.1) }
+    ensures ok { IfOk result
+        (λ r. IsAsked (map string_bytes words.entry.now) r.0 (rows_of (found_of r.1))) }
+    ensures err { IfErr result (λ e. takes (program_for (map string_bytes words.entry.now))
+        (map string_bytes words.entry.now) ≡ true → IsMistake (kind_of e)) }
 {
     let mut matches = matches_of(alloc, words)?;
     let Some((name, given)) = matches.remove_subcommand() else {
         return Err(no_command(alloc));
     };
     match Subcommand::named(name) {
-        Some(command) => Ok((command, given)),
+        Some(command) => {
+            check_ties(alloc, command, &given)?;
+            Ok((command, given))
+        }
         None => Err(no_command(alloc)),
     }
 }
 
+/// Refuses options that don't go together.
+fn check_ties(alloc: Global, command: Subcommand, given: &ArgMatches<'_>) -> Result<(), Error>
+    ensures { IfErr result (λ e. IsMistake (kind_of e)) }
+{
+    match broken_tie(command, given) {
+        Some(Tie::Lacks(message)) => {
+            Err(refused(alloc, ErrorKind::MissingRequiredArgument, message))
+        }
+        Some(Tie::Excludes(message)) => Err(refused(alloc, ErrorKind::ArgumentConflict, message)),
+        None => Ok(()),
+    }
+}
+
 /// What is said where no command is asked for, which the parser says before.
-fn no_command(alloc: Global) -> Error {
+fn no_command(alloc: Global) -> Error
+    ensures { IsMistake (kind_of result) }
+{
     refused(
         alloc,
         ErrorKind::MissingSubcommand,
@@ -99,13 +127,18 @@ pub fn bad_text(alloc: Global) -> Error {
     )
 }
 
-fn refused(alloc: Global, kind: ErrorKind, message: &str) -> Error {
+fn refused(alloc: Global, kind: ErrorKind, message: &str) -> Error
+    ensures { IsMistake kind → IsMistake (kind_of result) }
+{
     match refusal_with_usage(alloc, kind, message) {
         Ok(error) => error,
         Err(error) => error,
     }
 }
 
-fn refusal_with_usage(alloc: Global, kind: ErrorKind, message: &str) -> Result<Error, Error> {
+fn refusal_with_usage(alloc: Global, kind: ErrorKind, message: &str) -> Result<Error, Error>
+    ensures ok { IfOk result (λ e. kind_of e ≡ kind) }
+    ensures err { IfErr result (λ e. kind_of e ≡ OutOfMemory) }
+{
     Ok(program_of(alloc, "")?.error(kind, message)?)
 }

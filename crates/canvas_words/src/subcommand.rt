@@ -2,6 +2,7 @@
 
 ghost use Rattle.std.specs.Prelude.{◌≡◌, ◌≢◌, IfSome, IfNone};
 ghost use Rattle.canvas_words.specs.Names.{command_name};
+ghost use Rattle.canvas_words.specs.Options.{all, named_among};
 
 /// A command of the program.
 #[derive(Clone, Copy, Debug, PartialEq, Eq)]
@@ -53,6 +54,7 @@ impl Subcommand {
 
     /// The command of a name.
     pub fn named(name: &str) -> Option<Subcommand>
+        ensures named { result ≡ named_among all name.now }
         ensures its_name { IfSome result (λ command. name.now ≡ command_name command) }
         ensures no_name { IfNone result
             ((command : Subcommand) → name.now ≢ command_name command) }

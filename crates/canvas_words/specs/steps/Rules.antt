@@ -1,7 +1,7 @@
 -- The arguments of the code as the parser has them.
 use Rattle.clap.specs.Simple.{new_rule}
 use Rattle.clap.specs.Walk.{Rule}
-use Rattle.canvas_words.specs.Options.{flag, text, texts, number, or_else, tied, needed}
+use Rattle.canvas_words.specs.Options.{flag, text, texts, number, or_else, needed}
 use Rattle.canvas_words.specs.declared.arguments.Argument.{Argument}
 use Rattle.canvas_words.specs.declared.arguments.Takes.{Takes}
 use Rattle.canvas_words.specs.declared.arguments.Takes.TheVariants as takes
@@ -19,8 +19,6 @@ abbrev pub given_as : Given → Rule → Rule
 given_as given.Always r = needed r
 given_as given.Maybe r = r
 given_as (given.Else value) r = or_else value.now r
-given_as (given.With other) r = tied r
-given_as (given.Against other third) r = tied r
 
 abbrev pub rule : Argument → Rule
 rule a = given_as a.given (named a.takes a)

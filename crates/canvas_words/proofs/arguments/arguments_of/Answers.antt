@@ -6,8 +6,8 @@ use Rattle.canvas_words.proofs.arguments.arguments_of.Goals as goal
 
 pub loop-argument-preserved : goal.loop-argument-preserved
 loop-argument-preserved c = (
-  one_more rule_of rule c.loop-argument.arguments.items c.push.new.self.items c.in_ok-as_clap.field-0 c.args.list.now c.loop-argument.argument-index _
-      c.loop-argument-test.true c.in_ok-push.ensures.items c.in_ok-as_clap.ensures.rule c.loop-argument.invariant.0,
-  all_more (λ a. a.global ≡ false) c.loop-argument.arguments.items c.push.new.self.items c.in_ok-as_clap.field-0 c.in_ok-push.ensures.items
-      c.loop-argument.invariant.1 c.in_ok-as_clap.ensures.local,
+  one_more rule_of rule c.loop-argument.arguments.items c.push.new.self.items c.as_clap.result c.args.list.now c.loop-argument.argument-index _
+      c.loop-argument-test.true c.in_ok-push.ensures.items c.as_clap.ensures.rule c.loop-argument.invariant.0,
+  all_more (λ a. a.global ≡ false) c.loop-argument.arguments.items c.push.new.self.items c.as_clap.result c.in_ok-push.ensures.items
+      c.loop-argument.invariant.1 c.as_clap.ensures.local,
 )

@@ -1,14 +1,14 @@
-use Rattle.std.proofs.Common.{map, string_bytes, subst}
-use Rattle.clap.specs.Simple.{HasMatchesOf}
-use Rattle.canvas_words.specs.Options.{IsNamed}
-use Rattle.canvas_words.proofs.Simplicity.{simple}
+use Rattle.std.proofs.Common.{◌≡◌, ◌∙◌, ap, map, string_bytes}
+use Rattle.clap.specs.Simple.{app_of}
+use Rattle.canvas_words.specs.Options.{all, named_among, offered, program, program_for}
+use Rattle.canvas_words.proofs.Parsed.{parsed, refused}
 use Rattle.canvas_words.proofs.program.matches_of.Goals as goal
 
 pub returns : goal.returns
 returns c =
-    let built = c.in_ok-program.ensures in (
-      built.0,
-      subst (λ n. IsNamed n built.0) c.first_of.ensures built.1,
-      (subst (λ a. HasMatchesOf a (map string_bytes c.args.words.now) c.in_ok-try_get_matches_from.field-0) built.2
-          c.in_ok-try_get_matches_from.ensures.matches (simple built.0)).1,
-    )
+    let words = map string_bytes c.args.words.now in
+    let its : app_of c.in_ok-program.program ≡ program_for words =
+    c.in_ok-program.ensures ∙ ap (λ name. program (offered (named_among all name))) c.first_of.ensures in record {
+      ok = parsed (app_of c.in_ok-program.program) words c.try_get_matches_from.result its c.try_get_matches_from.ensures.matches;
+      err = refused (app_of c.in_ok-program.program) words c.try_get_matches_from.result its c.try_get_matches_from.ensures.passes;
+    }
