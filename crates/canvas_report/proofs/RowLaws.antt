@@ -30,7 +30,7 @@ use Rattle.canvas_report.specs.declared.shown.Status.TheVariants.{Pending, Succe
 use Rattle.canvas_report.specs.JsonRows.{raised_wire, blamed_wire, fault_wire, state_wire, status_name, status_of_all, Shown, shown, member_if, due_wire, ran_wire, parameter_wire, row_wire, items_wire, results_wire, identifiers_wire, count_wire, end_wire, json_lines, parameter_of, rows_wire, report_wire}
 use Rattle.canvas_report.specs.StoredRows.{row_of, row_status, Shows, AllShow}
 use Rattle.canvas_report.specs.Listing.{lines}
-use Rattle.canvas_report.specs.steps.RowTexts.{statuses, raised_text, blamed_text, fault_json, state_json, result_json, due_text, ran_text, parameter_text, row_text, row_line, listed_json, again_text, identifiers_json, end_front, end_back, end_text}
+use Rattle.canvas_report.specs.RowTexts.{statuses, raised_text, blamed_text, fault_json, state_json, result_json, due_text, ran_text, parameter_text, row_text, row_line, listed_json, again_text, identifiers_json, end_front, end_back, end_text}
 use Rattle.canvas_report.proofs.RowLines.{row_state}
 
 -- ---- results

@@ -1,6 +1,7 @@
 pub mod Failing
 pub mod Fates
 pub mod JsonRows
+pub mod RowTexts
 pub mod Listing
 pub mod StoredRows
 pub mod Wording

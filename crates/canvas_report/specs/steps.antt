@@ -1,4 +1,3 @@
 pub mod ReportRows
-pub mod RowTexts
 pub mod EdgeLists
 pub mod PieceLists

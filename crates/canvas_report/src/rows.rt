@@ -17,7 +17,7 @@ ghost use Rattle.canvas_report.specs.ReadLines.{ReadsAs, AreTyped, IsTypedCount}
 ghost use Rattle.canvas_report.specs.StoredRows.{row_of, AllShow};
 ghost use Rattle.canvas_report.specs.steps.ReportRows.{line_if};
 ghost use Rattle.canvas_report.specs.Listing.{lines};
-ghost use Rattle.canvas_report.specs.steps.RowTexts.{statuses, raised_text, blamed_text, fault_json, state_json, result_json, due_text, ran_text, parameter_json, parameter_text, front_text, shown_text, row_line, listed_json, status_text, again_text, identifiers_json, end_front, end_back, end_text, stored_lines};
+ghost use Rattle.canvas_report.specs.RowTexts.{statuses, raised_text, blamed_text, fault_json, state_json, result_json, due_text, ran_text, parameter_json, parameter_text, front_text, shown_text, row_line, listed_json, status_text, again_text, identifiers_json, end_front, end_back, end_text, stored_lines};
 
 use crate::fate::{Fate, fate_in};
 use crate::json_text::quoted_json;

@@ -1,5 +1,5 @@
 use Rattle.std.proofs.Common.{◌≡◌, ◌++◌, false, drop, string_bytes}
-use Rattle.canvas_report.specs.steps.RowTexts.{identifiers_json}
+use Rattle.canvas_report.specs.RowTexts.{identifiers_json}
 use Rattle.canvas_report.proofs.rows.push_end_tasks.Given as goal
 
 -- the text so far, and the identifiers to come

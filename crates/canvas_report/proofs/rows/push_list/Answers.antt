@@ -1,6 +1,6 @@
 use Rattle.std.proofs.Common.{◌++◌, false, string_bytes}
 use Rattle.std.specs.Prelude.{codes}
-use Rattle.canvas_report.specs.steps.RowTexts.{listed_json, status_text}
+use Rattle.canvas_report.specs.RowTexts.{listed_json, status_text}
 use Rattle.canvas_report.proofs.Pieces.{behind, last}
 use Rattle.canvas_report.proofs.rows.push_list.Goals as goal
 

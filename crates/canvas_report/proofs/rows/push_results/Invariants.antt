@@ -1,5 +1,5 @@
 use Rattle.std.proofs.Common.{◌≡◌, ◌++◌, false, drop, string_bytes}
-use Rattle.canvas_report.specs.steps.RowTexts.{listed_json}
+use Rattle.canvas_report.specs.RowTexts.{listed_json}
 use Rattle.canvas_report.proofs.rows.push_results.Given as goal
 
 -- the text so far, and the results to come

@@ -4,7 +4,7 @@ use Rattle.canvas_rewrite.proofs.NamesInOrder.{plan_names}
 use Rattle.canvas_report.specs.JsonRows.{parameter_of}
 use Rattle.canvas_report.specs.steps.ReportRows.{line_if}
 use Rattle.canvas_report.specs.Listing.{lines}
-use Rattle.canvas_report.specs.steps.RowTexts.{row_line}
+use Rattle.canvas_report.specs.RowTexts.{row_line}
 use Rattle.canvas_report.proofs.ReportLines.{names_long}
 use Rattle.canvas_report.proofs.RowLines.{one_more, all_written}
 use Rattle.canvas_report.proofs.rows.push_rows.Goals as goal

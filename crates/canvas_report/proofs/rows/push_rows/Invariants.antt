@@ -3,7 +3,7 @@ use Rattle.canvas_semantics.specs.Line.{names}
 use Rattle.canvas_semantics.specs.Report.{counted_from}
 use Rattle.canvas_report.specs.JsonRows.{parameter_of}
 use Rattle.canvas_report.specs.Listing.{lines}
-use Rattle.canvas_report.specs.steps.RowTexts.{row_line}
+use Rattle.canvas_report.specs.RowTexts.{row_line}
 use Rattle.canvas_report.proofs.rows.push_rows.Given as goal
 
 -- the text so far, and the lines still to come

@@ -1,6 +1,6 @@
 use Rattle.std.proofs.Common.{◌≡◌, drop}
 use Rattle.canvas_report.specs.JsonRows.{worse, status_of_all}
-use Rattle.canvas_report.specs.steps.RowTexts.{statuses}
+use Rattle.canvas_report.specs.RowTexts.{statuses}
 use Rattle.canvas_report.proofs.rows.status_of_all.Given as goal
 
 -- of those so far, and those to come

@@ -1,4 +1,4 @@
--- Pieces of the rows as JSON, as they are written one after the other.
+-- The rows as JSON, text by text: how each of their parts is written.
 use Rattle.std.specs.Prelude.{ℕ, Bool, true, false, String, List, [], ◌∷◌, ◌++◌, map, Option, Some, None, string_bytes, codes, decimal}
 use Rattle.std.specs.Fmt.{signed_decimal}
 use Rattle.std.specs.declared.alloc.Global.{Global}

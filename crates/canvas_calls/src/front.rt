@@ -1,0 +1,120 @@
+//! What a task comes behind.
+ghost use Rattle.std.specs.Prelude.{◌≡◌, ◌∷◌, [], IfOk};
+ghost use Rattle.canvas_calls.specs.Fronts.{at_end, behind, beyond, first_front, own_end, was_called};
+
+use canvas_report::Fate;
+use canvas_task::{ListOf, TaskNo};
+use std::alloc::{AllocError, Global};
+
+/// The tasks behind whose ends a task comes. Their messages carry its message, and so do those of
+/// the tasks that they come behind themselves.
+#[derive(Drop)]
+pub struct Front {
+    /// In the order of their numbers. None of a task that a run starts with.
+    pub after: ListOf<TaskNo>,
+    /// Where a header's completion publishes the message: those behind which its chord comes.
+    pub header_after: Option<ListOf<TaskNo>>,
+}
+
+fn copy_of(tasks: &Option<ListOf<TaskNo>>) -> Result<Option<ListOf<TaskNo>>, AllocError>
+    ensures { IfOk result (λ same. same ≡ tasks.now) }
+{
+    match tasks {
+        Some(tasks) => Ok(Some(tasks.clone()?)),
+        None => Ok(None),
+    }
+}
+
+impl Front {
+    /// That of what a run starts with.
+    pub(crate) fn first(alloc: Global) -> Front
+        ensures { result ≡ first_front }
+    {
+        Front {
+            after: ListOf::of(Vec::new(alloc)),
+            header_after: None,
+        }
+    }
+
+    pub(crate) fn copy(&self) -> Result<Front, AllocError>
+        ensures { IfOk result (λ same. same ≡ self.now) }
+    {
+        Ok(Front {
+            after: self.after.clone()?,
+            header_after: copy_of(&self.header_after)?,
+        })
+    }
+
+    /// Behind the end of a task that is called.
+    fn at_end(alloc: Global, task: TaskNo) -> Result<Front, AllocError>
+        ensures { IfOk result (λ front. front ≡ at_end task) }
+    {
+        Ok(Front {
+            after: ListOf::of(only(alloc, task)?),
+            header_after: None,
+        })
+    }
+
+    /// What comes behind a task that comes behind this.
+    pub(crate) fn behind(
+        &self,
+        alloc: Global,
+        fates: &[(TaskNo, Fate)],
+        task: TaskNo,
+    ) -> Result<Front, AllocError>
+        ensures { IfOk result (λ front. front ≡ behind fates.now task self.now) }
+    {
+        if was_called(fates, task) {
+            Front::at_end(alloc, task)
+        } else {
+            self.copy()
+        }
+    }
+
+    /// What comes behind a header that comes behind this, and ends behind these.
+    pub(crate) fn beyond(&self, ends: Vec<TaskNo>) -> Result<Front, AllocError>
+        ensures { IfOk result (λ front. front ≡ beyond ends.items self.now) }
+    {
+        if ends.is_empty() {
+            return self.copy();
+        }
+        Ok(Front {
+            after: ListOf::of(ends),
+            header_after: Some(self.after.clone()?),
+        })
+    }
+}
+
+/// Whether a task was called.
+fn was_called(fates: &[(TaskNo, Fate)], task: TaskNo) -> bool
+    ensures { result ≡ was_called fates.now task }
+{
+    match fates.get(task.get() as usize - 1) {
+        Some((_, Fate::Ran)) => true,
+        _ => false,
+    }
+}
+
+fn only(alloc: Global, task: TaskNo) -> Result<Vec<TaskNo>, AllocError>
+    ensures { IfOk result (λ tasks. tasks.items ≡ task ∷ []) }
+{
+    let mut tasks = Vec::new(alloc);
+    tasks.push(task)?;
+    Ok(tasks)
+}
+
+/// The end of a task that comes behind these ends.
+pub(crate) fn own_end(
+    alloc: Global,
+    fates: &[(TaskNo, Fate)],
+    task: TaskNo,
+    before: Vec<TaskNo>,
+) -> Result<Vec<TaskNo>, AllocError>
+    ensures { IfOk result (λ ends. ends.items ≡ own_end fates.now task before.items) }
+{
+    if was_called(fates, task) {
+        only(alloc, task)
+    } else {
+        Ok(before)
+    }
+}
