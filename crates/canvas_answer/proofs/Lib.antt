@@ -2,3 +2,8 @@ pub mod NamesLeft
 pub mod Classes
 pub mod ShownRows
 pub mod ToldRows
+pub mod Reading
+pub mod GivenNumbers
+pub mod Numbering
+pub mod Pieces
+pub mod Writes

@@ -1,11 +1,13 @@
 -- What the program answers to what it is asked: the bytes for standard output and a status; and
 -- where these are not all that was asked for, why.
 use Rattle.std.specs.Prelude.{◌≡◌, ◌⊎◌, ℕ, [], Option, None, Some, String, string_bytes}
+use Rattle.std.specs.Prelude.{if◌then◌else◌}
 use Rattle.std.specs.declared.alloc.Global.{Global}
 use Rattle.canvas_task.specs.Text.{Text}
 use Rattle.canvas_answer.specs.declared.answer.Answer.{Answer}
 use Rattle.canvas_answer.specs.declared.refusal.Refusal.{Refusal}
 use Rattle.canvas_answer.specs.declared.refusal.Refusal.TheVariants.{Memory, Stopped}
+use Rattle.canvas_answer.specs.Printing.{printed}
 
 -- these bytes are all that was asked for, and this is the status
 pub record AnswersAll (text : Text) (status : ℕ) (a : Answer) : Type 0 where
@@ -32,6 +34,10 @@ ends_with None status n = (n ≡ status) ⊎ (n ≡ 1)
 
 abbrev pub IsStatus : Answer → ℕ → Type 0
 IsStatus a n = ends_with a.refusal a.status n
+
+-- what reaches standard output: each byte, where a program reads it, else the text as it is printed
+abbrev pub printed_out : Answer → Text
+printed_out a = if a.is_raw then a.out.items else printed a.out.items
 
 -- of a text that there may not be
 abbrev pub bytes_of : Option (String Global) → Text

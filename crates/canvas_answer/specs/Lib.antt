@@ -1,5 +1,11 @@
 pub mod Answers
 pub mod Asking
+pub mod Given
+pub mod Inputs
+pub mod Requests
+pub mod Stubbing
+pub mod Wanted
+pub mod Items
 pub mod Names
 pub mod Plans
 pub mod Raised

@@ -25,7 +25,7 @@ use Rattle.canvas_export.specs.declared.target.Target.{Target}
 use Rattle.canvas_report.specs.Wording.{stored_said, explained_said}
 use Rattle.canvas_report.specs.declared.row.Row.{Row}
 use Rattle.canvas_report.specs.declared.row.Row.TheVariants.{Known}
-use Rattle.canvas_report.specs.steps.RowTexts.{stored_lines}
+use Rattle.canvas_report.specs.RowTexts.{stored_lines}
 use Rattle.canvas_answer.specs.Answers.{AnswersAll}
 use Rattle.canvas_answer.specs.Pictured.{IsPictured}
 use Rattle.canvas_answer.specs.declared.answer.Answer.{Answer}

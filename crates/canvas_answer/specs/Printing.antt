@@ -1,6 +1,6 @@
 -- How a text is printed: printable ASCII and line feeds as they are, and any other character as
 -- JSON's strings have it (RFC 8259): `\u` and four hexadecimal digits, past U+FFFF two of these.
-use Rattle.std.specs.Prelude.{ℕ, Bool, ◌+◌, ◌/◌, ◌%◌, ◌||◌, ◌==◌, nat_lt, List, ◌∷◌, [], ◌++◌}
+use Rattle.std.specs.Prelude.{ℕ, Bool, ◌+◌, ◌/◌, ◌%◌, ◌||◌, ◌==◌, nat_lt, ◌∷◌, [], ◌++◌}
 use Rattle.std.specs.Prelude.{if◌then◌else◌, chars, flat_map}
 use Rattle.std.specs.Char.{digit_char}
 use Rattle.canvas_task.specs.Text.{Text}

@@ -1,7 +1,11 @@
 //! `canvas adapt`: a canvas that can be run, from any that Celery writes.
-ghost use Rattle.std.specs.Prelude.{IfOk};
+ghost use Rattle.std.specs.Prelude.{IfOk, codes};
+ghost use Rattle.clap.specs.Matches.{found_of};
+ghost use Rattle.clap.specs.Walk.{rows_of};
+ghost use Rattle.canvas_adapt.specs.RenameTexts.{AreRenameTexts};
 ghost use Rattle.canvas_task.specs.Text.{Text};
 ghost use Rattle.canvas_answer.specs.Answers.{AnswersAll};
+ghost use Rattle.canvas_answer.specs.Given.{texts_of};
 ghost use Rattle.canvas_answer.specs.Plans.{IsAdaptedText};
 
 use crate::answer::Answer;
@@ -11,7 +15,10 @@ use clap::ArgMatches;
 use std::alloc::Global;
 
 /// The other names that the words ask for.
-pub(crate) fn asked_renames(alloc: Global, given: &ArgMatches<'_>) -> Result<Vec<Rename>, Refusal> {
+pub(crate) fn asked_renames(alloc: Global, given: &ArgMatches<'_>) -> Result<Vec<Rename>, Refusal>
+    ensures { IfOk result (λ renames. AreRenameTexts
+        (texts_of (rows_of (found_of given.now)) (codes "rename")) renames.items) }
+{
     let texts = given.get_strs("rename").unwrap_or(&[]);
     match read_renames(alloc, texts) {
         Ok(renames) => Ok(renames),

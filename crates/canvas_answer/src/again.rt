@@ -1,5 +1,10 @@
 //! `--again`: what is delivered again, by the numbers and names of tasks.
+ghost use Rattle.std.specs.Prelude.{IfOk, codes};
+ghost use Rattle.clap.specs.Matches.{found_of};
+ghost use Rattle.clap.specs.Walk.{first_of, rows_of};
+ghost use Rattle.canvas_answer.specs.Requests.{IsAgain};
 
+use crate::given::text_given;
 use crate::refusal::Refusal;
 use canvas_lists::{EntryFault, read_again};
 use canvas_rewrite::Plan;
@@ -67,8 +72,11 @@ fn has_names(list: &str) -> bool {
 }
 
 /// What the words ask for.
-pub(crate) fn asked_again<'w>(alloc: Global, given: &ArgMatches<'w>) -> Result<Again<'w>, Refusal> {
-    let Some(list) = given.get_str("again") else {
+pub(crate) fn asked_again<'w>(alloc: Global, given: &ArgMatches<'w>) -> Result<Again<'w>, Refusal>
+    ensures { IfOk result (IsAgain (rows_of (found_of given.now))
+        (first_of (codes "again") (rows_of (found_of given.now)))) }
+{
+    let Some(list) = text_given(given, "again") else {
         return Ok(Again::Nothing);
     };
     match read_again(alloc, list) {

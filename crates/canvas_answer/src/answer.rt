@@ -1,7 +1,8 @@
 //! What the program prints, and its status.
-ghost use Rattle.std.specs.Prelude.{◌≡◌, ◌⊎◌, [], None, Some};
+ghost use Rattle.std.specs.Prelude.{◌≡◌, ◌≢◌, ◌⊎◌, [], None, Some, OnOk};
+ghost use Rattle.std.specs.Io.KnownBytes.{Appends};
 ghost use Rattle.canvas_answer.specs.declared.answer.Remark.TheVariants as remark;
-ghost use Rattle.canvas_answer.specs.Answers.{AnswersAll, AnswersPart, IsKept, IsStatus, bytes_of, refusal_status};
+ghost use Rattle.canvas_answer.specs.Answers.{AnswersAll, AnswersPart, IsKept, IsStatus, bytes_of, printed_out, refusal_status};
 
 use crate::escaping::Escaping;
 use crate::printing::write_lines;
@@ -163,7 +164,9 @@ impl Answer {
     /// program was refused or can't print, 2 where it ended early, and 3 where that is asked for
     /// and the canvas's result is a failure.
     pub fn print<W: Write, E: Write>(&self, out: &mut W, err: &mut E) -> u8
-        ensures { IsStatus self.now result }
+        ensures status { IsStatus self.now result }
+        ensures out { self.now.refusal ≡ None → result ≢ 1
+            → Appends (W.contents out.old) (W.contents out.new) (printed_out self.now) }
     {
         let is_written = self.write_out(out).is_ok();
         match &self.refusal {
@@ -173,7 +176,10 @@ impl Answer {
         }
     }
 
-    fn write_out<W: Write>(&self, out: &mut W) -> io::Result<()> {
+    fn write_out<W: Write>(&self, out: &mut W) -> io::Result<()>
+        ensures { OnOk result (Appends (W.contents out.old) (W.contents out.new)
+            (printed_out self.now)) }
+    {
         if self.is_raw {
             out.write_all(&self.out)?;
         } else {

@@ -1,6 +1,6 @@
 //! The commands for a canvas on Celery's own workers: its start, the keys of its results, and the
 //! report of what these workers stored.
-ghost use Rattle.std.specs.Prelude.{true, IfOk, string_bytes};
+ghost use Rattle.std.specs.Prelude.{◌≡◌, true, IfOk, string_bytes};
 ghost use Rattle.canvas_celery.specs.Keys.{result_keys};
 ghost use Rattle.canvas_semantics.specs.Line.{Line, count_line};
 ghost use Rattle.canvas_task.specs.Text.{Text};
@@ -159,7 +159,9 @@ pub(crate) fn text_of_rows(
 }
 
 /// The run that the words name.
-pub(crate) fn run_of(text: &str) -> Result<Run, Refusal> {
+pub(crate) fn run_of(text: &str) -> Result<Run, Refusal>
+    ensures { IfOk result (λ run. run.digits ≡ text.now) }
+{
     match Run::of_text(text) {
         Some(run) => Ok(run),
         None => Err(Refusal::Celery(CeleryRefusal::BadRun)),

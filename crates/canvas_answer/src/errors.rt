@@ -1,7 +1,11 @@
 //! Exceptions of other classes than the four that the program's own tasks raise.
-ghost use Rattle.std.specs.Prelude.{◌≡◌, option_map};
+ghost use Rattle.std.specs.Prelude.{◌≡◌, ◌++◌, IfOk, OnOk, map, option_map, option_to_list};
+ghost use Rattle.std.specs.List.{filter_map};
+ghost use Rattle.canvas_stubs.specs.Raising.{other_error};
 ghost use Rattle.canvas_answer.specs.Raised.{class_named};
+ghost use Rattle.canvas_answer.specs.Stubbing.{error_said};
 
+use canvas_stubs::other_error;
 use std::alloc::{AllocError, Global};
 
 /// What the stub of a name raises: an exception of another class.
@@ -11,58 +15,15 @@ pub struct OtherError {
     pub class: String,
 }
 
-/// Whether a text is the name of a class.
-fn is_class(text: &str) -> bool {
-    if matches!(text.as_bytes(), [] | [b'0'..=b'9', ..]) {
-        return false;
-    }
-    for byte in text.as_bytes() {
-        if !byte.is_ascii_alphanumeric() && *byte != b'_' {
-            return false;
-        }
-    }
-    true
-}
-
-/// Whether the class is one of the four, or an exception by which a task doesn't fail.
-fn is_known(class: &str) -> bool {
-    matches!(
-        class,
-        "TypeError"
-            | "ZeroDivisionError"
-            | "OverflowError"
-            | "NotRegistered"
-            | "Retry"
-            | "Ignore"
-            | "Reject"
-    )
-}
-
-/// The name and the class of a stub's text, where that raises an exception of another class.
-fn other_error(text: &str) -> Option<(&str, &str)> {
-    let (name, word) = text.split_once('=')?;
-    let class = word.strip_prefix("raise:")?;
-    if is_class(class) && !is_known(class) {
-        Some((name, class))
-    } else {
-        None
-    }
-}
-
-/// A stub's text with one of the four exceptions, `stands`, for one of another class.
-pub(crate) fn plain_text(alloc: Global, text: &str, stands: &str) -> Result<String, AllocError> {
-    match other_error(text) {
-        Some((name, _class)) => format!(in alloc; "{name}=raise:{stands}"),
-        None => String::from_str(alloc, text),
-    }
-}
-
 /// Adds what a stub's text raises, where that is an exception of another class.
 pub(crate) fn push_error(
     alloc: Global,
     errors: &mut Vec<OtherError>,
     text: &str,
-) -> Result<(), AllocError> {
+) -> Result<(), AllocError>
+    ensures { OnOk result (map error_said errors.new.items
+        ≡ map error_said errors.old.items ++ option_to_list (other_error text.now)) }
+{
     let Some((name, class)) = other_error(text) else {
         return Ok(());
     };
@@ -70,6 +31,18 @@ pub(crate) fn push_error(
     let class = String::from_str(alloc, class)?;
     errors.push(OtherError { name, class })?;
     Ok(())
+}
+
+/// The exceptions of other classes that some stubs' texts raise.
+pub(crate) fn errors_of(alloc: Global, texts: &[&str]) -> Result<Vec<OtherError>, AllocError>
+    ensures { IfOk result (λ errors. map error_said errors.items
+        ≡ filter_map other_error (map (λ t. t.now) texts.now)) }
+{
+    let mut errors = Vec::new(alloc);
+    for text in texts {
+        push_error(alloc, &mut errors, text)?;
+    }
+    Ok(errors)
 }
 
 /// The class of the exception that the stub of a name raises, where it is another.

@@ -1,12 +1,14 @@
-//! Reading a canvas's text, lines with a canvas each, and the results of tasks, as far as they can
-//! be long.
-ghost use Rattle.std.specs.Prelude.{◌*◌, ◌≤◌, IfOk, IfSome, length};
+//! Reading a canvas's text and the results of tasks, as far as they can be long.
+ghost use Rattle.std.specs.Prelude.{◌≡◌, ◌≢◌, ◌++◌, ◌*◌, ◌<◌, ◌≤◌, IfOk, IfSome, OnOk, codes, length, take, true};
+ghost use Rattle.std.specs.Io.KnownBytes.{Consumes, IsAtEnd};
+ghost use Rattle.canvas_task.specs.Text.{Text};
 ghost use Rattle.canvas_values.specs.CanvasText.{most_bytes};
+ghost use Rattle.canvas_answer.specs.Inputs.{IsCanvasRead, IsRead};
 
 use crate::celery::CeleryRefusal;
 use crate::refusal::Refusal;
 use crate::unread::Unread;
-use canvas_sig::{MOST_BYTES, SigFault};
+use canvas_sig::MOST_BYTES;
 use std::alloc::{AllocError, Global};
 use std::fs;
 use std::io::{self, ErrorKind, Read};
@@ -15,9 +17,7 @@ use std::rt::Files;
 /// The most bytes of results that are taken: 64 KiB for each of 1,024 tasks.
 const MOST_RESULTS: usize = 67_108_864;
 
-/// The most bytes of lines with a canvas each: 64 of the longest.
-const MOST_LINES: usize = 67_108_864;
-
+/// How many bytes are read at a time.
 const CHUNK: usize = 4096;
 
 /// The greatest block that malloc is made to keep, in bytes.
@@ -26,25 +26,42 @@ const KEPT: usize = 4_194_304;
 /// Has malloc keep what reading a canvas gives back, so that the run is laid into pages that are
 /// there. glibc's takes each block over 128 KiB from the system and returns it as soon as it is
 /// freed, until one as large was freed (mallopt(3), `M_MMAP_THRESHOLD`): so one is, unused.
-fn keep_blocks(alloc: Global) {
+pub fn keep_blocks(alloc: Global) {
     let block: Result<Vec<u8>, AllocError> = Vec::with_capacity(alloc, KEPT);
     drop(block);
 }
 
-/// Reads at most so many bytes in at most that many reads, of which those that are interrupted are
-/// some. Where these end before the text does, that is a fault.
-fn read_at_most<R: Read>(alloc: Global, reader: &mut R, most: usize) -> io::Result<Vec<u8>> {
-    let mut text = Vec::new(alloc);
+/// Reads once, as far as there is room for more, and says whether that was the end. A read that is
+/// interrupted finds nothing.
+fn read_more<R: Read>(reader: &mut R, text: &mut Vec<u8>, most: usize) -> io::Result<bool>
+    requires { length text.old.items < most }
+    ensures read { IfOk result (λ is_end. (bytes : Text)
+        × (text.new.items ≡ text.old.items ++ bytes)
+        × Consumes (R.remaining reader.old) (R.remaining reader.new) bytes
+        × (is_end ≡ true → IsAtEnd (R.remaining reader.new))) }
+    ensures within { OnOk result (length text.new.items ≤ most) }
+{
     let mut chunk = [0u8; CHUNK];
-    for _ in 0..most {
-        let room = most.saturating_sub(text.len()).min(CHUNK);
-        match reader.read(&mut chunk[..room]) {
-            Ok(0) => return Ok(text),
-            Ok(count) => text.extend_from_slice(&chunk[..count])?,
-            Err(error) if error.kind() == ErrorKind::Interrupted => {}
-            Err(error) => return Err(error),
+    let room = (most - text.len()).min(CHUNK);
+    match reader.read(&mut chunk[..room]) {
+        Ok(count) => {
+            text.extend_from_slice(&chunk[..count])?;
+            Ok(count == 0)
         }
-        if text.len() >= most {
+        Err(error) if error.kind() == ErrorKind::Interrupted => Ok(false),
+        Err(error) => Err(error),
+    }
+}
+
+/// Reads at most so many bytes in at most that many reads, of which those that are interrupted are
+/// some. If these end before the text does, that is a fault.
+fn read_at_most<R: Read>(alloc: Global, reader: &mut R, most: usize) -> io::Result<Vec<u8>>
+    ensures { IfOk result (λ text. IfSome (R.remaining reader.old)
+        (λ bytes. text.items ≡ take most bytes)) }
+{
+    let mut text = Vec::new(alloc);
+    for _ in 0..most {
+        if read_more(reader, &mut text, most)? || text.len() == most {
             return Ok(text);
         }
     }
@@ -55,6 +72,9 @@ fn read_at_most<R: Read>(alloc: Global, reader: &mut R, most: usize) -> io::Resu
 fn bytes_of<S, R: Read>(rt: &S, file: &str, input: &mut R, most: usize) -> Result<Vec<u8>, Refusal>
 where
     S: Files + AllocGlobal,
+    ensures read { IfOk result
+        (λ bytes. IsRead most file.now (R.remaining input.old) bytes.items) }
+    ensures kept { file.now ≢ codes "-" → input.new ≡ input.old }
 {
     let bytes = if file == "-" {
         read_at_most(rt.alloc(), input, most)
@@ -90,18 +110,12 @@ where
 pub fn text_of<S, R: Read>(rt: &S, file: &str, input: &mut R) -> Result<Vec<u8>, Refusal>
 where
     S: Files + AllocGlobal,
+    ensures read { IfOk result
+        (λ text. IsCanvasRead file.now (R.remaining input.old) text.items) }
+    ensures kept { file.now ≢ codes "-" → input.new ≡ input.old }
 {
     keep_blocks(rt.alloc());
     bytes_of(rt, file, input, MOST_BYTES + 1)
-}
-
-/// Lines with a canvas each. More bytes than are taken are refused.
-pub fn lines_of<S, R: Read>(rt: &S, file: &str, input: &mut R) -> Result<Vec<u8>, Refusal>
-where
-    S: Files + AllocGlobal,
-    ensures { IfOk result (λ lines. length lines.items ≤ 64 * most_bytes) }
-{
-    bytes_within(rt, file, input, MOST_LINES)?.ok_or(Refusal::Canvas(SigFault::TooLarge))
 }
 
 /// The results that Celery's workers stored, a line each.
@@ -113,7 +127,8 @@ where
     bytes_within(rt, file, input, MOST_RESULTS)?.ok_or(Refusal::Celery(CeleryRefusal::TooLarge))
 }
 
-fn unread(alloc: Global, error: &io::Error, file: &str) -> Refusal {
+/// The refusal of a file that can't be read, which the words name so.
+pub fn unread(alloc: Global, error: &io::Error, file: &str) -> Refusal {
     match error.kind() {
         ErrorKind::OutOfMemory => Refusal::Memory,
         _ => Refusal::of_file(alloc, file, Unread::of(error)),

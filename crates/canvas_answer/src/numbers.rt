@@ -1,12 +1,20 @@
 //! `--task '#3=WORD'`: what the third task answers. It has the name `#3` while its canvas runs.
+ghost use Rattle.std.specs.Prelude.{◌≡◌, ◌∷◌, ◌++◌, [], IfOk, List, Ok, OnOk, map, option_to_list, string_bytes};
+ghost use Rattle.std.specs.List.{before_first, filter_map};
+ghost use Rattle.canvas_adapt.specs.RenameTexts.{IsRenameText};
+ghost use Rattle.canvas_adapt.specs.declared.renames.Rename.{Rename};
+ghost use Rattle.canvas_stubs.specs.Raising.{other_error, plain_text};
+ghost use Rattle.canvas_stubs.specs.StubTexts.{is_equals, stub_reading};
+ghost use Rattle.canvas_stubs.specs.declared.stub.Stub.{Stub};
+ghost use Rattle.canvas_answer.specs.Stubbing.{AreNumbered, IsNumbered, error_said, is_numbered, named, numbered};
 
-use crate::errors::{plain_text, push_error};
+use crate::errors::push_error;
 use crate::refusal::Refusal;
 use crate::stubs::Answers;
 use canvas_adapt::{Rename, RenameFault, read_rename};
-use canvas_stubs::{Stub, StubFault, read_stub};
+use canvas_stubs::{Stub, StubFault, plain_text, read_stub};
 use canvas_task::TaskNo;
-use std::alloc::Global;
+use std::alloc::{AllocError, Global};
 use std::fmt;
 
 /// Why a word of a task's number is refused.
@@ -25,20 +33,91 @@ impl fmt::Display for NumberFault {
         f.write_str(match self {
             NumberFault::NoWord => "#NUMBER=WORD is wanted",
             NumberFault::Twice => "the number is there twice",
-            NumberFault::NotTaken => "a number is taken by run, turns and graph alone",
+            NumberFault::NotTaken =>
+                "a number is taken by run, turns, graph and messages --calls alone",
         })
     }
 }
 
 /// Whether a word is one of a task's number.
-pub(crate) fn has_number(text: &str) -> bool {
-    text.starts_with('#')
+pub(crate) fn has_number(text: &str) -> bool
+    ensures { result ≡ is_numbered text.now }
+{
+    matches!(text.as_bytes(), [b'#', ..])
+}
+
+/// Adds a word of a task's number.
+fn push_numbered<'t>(found: &mut Vec<&'t str>, text: &'t str) -> Result<(), AllocError>
+    ensures { OnOk result (map (λ t. t.now) found.new.items
+        ≡ map (λ t. t.now) found.old.items ++ option_to_list (numbered text.entry.now)) }
+{
+    if has_number(text) {
+        found.push(text)?;
+    }
+    Ok(())
+}
+
+/// The words of tasks' numbers.
+pub(crate) fn with_numbers<'t>(alloc: Global, texts: &[&'t str]) -> Result<Vec<&'t str>, AllocError>
+    ensures { IfOk result (λ found. map (λ t. t.now) found.items
+        ≡ filter_map numbered (map (λ t. t.now) texts.now)) }
+{
+    let mut found = Vec::new(alloc);
+    for text in texts {
+        push_numbered(&mut found, text)?;
+    }
+    Ok(found)
+}
+
+/// Adds a word of a task's name.
+fn push_named<'t>(found: &mut Vec<&'t str>, text: &'t str) -> Result<(), AllocError>
+    ensures { OnOk result (map (λ t. t.now) found.new.items
+        ≡ map (λ t. t.now) found.old.items ++ option_to_list (named text.entry.now)) }
+{
+    if !has_number(text) {
+        found.push(text)?;
+    }
+    Ok(())
+}
+
+/// The words of tasks' names.
+pub(crate) fn with_names<'t>(alloc: Global, texts: &[&'t str]) -> Result<Vec<&'t str>, AllocError>
+    ensures { IfOk result (λ found. map (λ t. t.now) found.items
+        ≡ filter_map named (map (λ t. t.now) texts.now)) }
+{
+    let mut found = Vec::new(alloc);
+    for text in texts {
+        push_named(&mut found, text)?;
+    }
+    Ok(found)
+}
+
+/// What is before the first `=`, or the whole text.
+fn before_equals(text: &str) -> &str
+    ensures { result.now ≡ before_first is_equals text.now }
+{
+    match text.split_once('=') {
+        Some((before, _)) => before,
+        None => text,
+    }
+}
+
+/// The number, `=` and the number once more.
+fn named_by_itself(alloc: Global, number: &str) -> Result<String, AllocError>
+    ensures { IfOk result (λ t. string_bytes t ≡ number.now ++ 61 ∷ number.now) }
+{
+    let mut text = String::from_str(alloc, number)?;
+    text.push_str("=")?;
+    text.push_str(number)?;
+    Ok(text)
 }
 
 /// The name of the task of the number.
-fn rename_of(alloc: Global, text: &str) -> Result<Rename, Refusal> {
-    let (number, _word) = text.split_once('=').unwrap_or((text, ""));
-    let same = format!(in alloc; "{number}={number}")?;
+fn rename_of(alloc: Global, text: &str) -> Result<Rename, Refusal>
+    ensures { IfOk result (IsRenameText
+        (before_first is_equals text.now ++ 61 ∷ before_first is_equals text.now)) }
+{
+    let same = named_by_itself(alloc, before_equals(text))?;
     match read_rename(alloc, &same) {
         Ok(rename) => Ok(rename),
         Err(RenameFault::Memory) => Err(Refusal::Memory),
@@ -46,7 +125,9 @@ fn rename_of(alloc: Global, text: &str) -> Result<Rename, Refusal> {
     }
 }
 
-fn stub_of(alloc: Global, text: &str, stands: &str) -> Result<Stub, Refusal> {
+fn stub_of(alloc: Global, text: &str, stands: &str) -> Result<Stub, Refusal>
+    ensures { IfOk result (λ s. stub_reading (plain_text stands.now text.now) ≡ Ok s) }
+{
     let plain = plain_text(alloc, text, stands)?;
     match read_stub(alloc, &plain) {
         Ok(stub) => Ok(stub),
@@ -64,19 +145,22 @@ fn is_renamed(renames: &[Rename], task: TaskNo) -> bool {
     false
 }
 
-fn add_number(
-    alloc: Global,
-    answers: &mut Answers,
-    text: &str,
-    stands: &str,
-) -> Result<(), Refusal> {
+fn add_number(alloc: Global, answers: &mut Answers, text: &str, stands: &str) -> Result<(), Refusal>
+    ensures { OnOk result ((r : Rename) × (s : Stub) × IsNumbered stands.now text.now r s
+        × (answers.new.renames.items ≡ answers.old.renames.items ++ r ∷ [])
+        × (answers.new.stubs.items ≡ answers.old.stubs.items ++ s ∷ [])
+        × (map error_said answers.new.errors.items
+        ≡ map error_said answers.old.errors.items ++ option_to_list (other_error text.now))) }
+{
     let rename = rename_of(alloc, text)?;
     if is_renamed(&answers.renames, rename.task) {
         return Err(Refusal::of_number(alloc, text, NumberFault::Twice));
     }
+    let stub = stub_of(alloc, text, stands)?;
+    push_error(alloc, &mut answers.errors, text)?;
     answers.renames.push(rename)?;
-    answers.stubs.push(stub_of(alloc, text, stands)?)?;
-    Ok(push_error(alloc, &mut answers.errors, text)?)
+    answers.stubs.push(stub)?;
+    Ok(())
 }
 
 /// Adds what the tasks of numbers answer.
@@ -85,11 +169,16 @@ pub(crate) fn add_numbers(
     answers: &mut Answers,
     texts: &[&str],
     stands: &str,
-) -> Result<(), Refusal> {
+) -> Result<(), Refusal>
+    ensures { OnOk result ((rs : List Rename) × (ss : List Stub)
+        × AreNumbered stands.now (map (λ t. t.now) texts.now) rs ss
+        × (answers.new.renames.items ≡ answers.old.renames.items ++ rs)
+        × (answers.new.stubs.items ≡ answers.old.stubs.items ++ ss)
+        × (map error_said answers.new.errors.items ≡ map error_said answers.old.errors.items
+        ++ filter_map other_error (map (λ t. t.now) texts.now))) }
+{
     for text in texts {
-        if has_number(text) {
-            add_number(alloc, answers, text, stands)?;
-        }
+        add_number(alloc, answers, text, stands)?;
     }
     Ok(())
 }

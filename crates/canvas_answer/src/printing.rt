@@ -2,7 +2,8 @@
 ghost use Rattle.std.specs.Prelude.{◌≡◌, ◌<◌, ◌≤◌, ◌++◌, OnOk, IsTrue, MatchBool, nat_lt};
 ghost use Rattle.std.specs.List.{list_all};
 ghost use Rattle.std.specs.Char.{digit_char};
-ghost use Rattle.canvas_answer.specs.Printing.{escaped, is_line_byte, unit_text, printed_char};
+ghost use Rattle.canvas_answer.specs.Printing.{escaped, is_line_byte, unit_text, printed_char, printed};
+ghost use Rattle.std.specs.Io.KnownBytes.{Appends};
 
 use arrayvec::{ArrayVec, CapacityError};
 use std::io::{self, ErrorKind, Write};
@@ -102,7 +103,9 @@ fn put_char(kept: &mut ArrayVec<u8, ROOM>, c: char) -> Result<(), CapacityError>
 }
 
 /// Writes a text as it is printed, some thousand bytes at a time.
-fn write_escaped<W: Write>(out: &mut W, text: &str) -> io::Result<()> {
+fn write_escaped<W: Write>(out: &mut W, text: &str) -> io::Result<()>
+    ensures { OnOk result (Appends (W.contents out.old) (W.contents out.new) (printed text.now)) }
+{
     let mut kept: ArrayVec<u8, ROOM> = ArrayVec::new();
     for c in text.chars() {
         if kept.len() > ROOM - MOST_PRINTED {
@@ -135,7 +138,9 @@ fn are_lines(bytes: &[u8]) -> bool
 }
 
 /// Writes lines so that nothing but printable ASCII and line feeds reaches the reader.
-pub fn write_lines<W: Write>(out: &mut W, bytes: &[u8]) -> io::Result<()> {
+pub fn write_lines<W: Write>(out: &mut W, bytes: &[u8]) -> io::Result<()>
+    ensures { OnOk result (Appends (W.contents out.old) (W.contents out.new) (printed bytes.now)) }
+{
     if are_lines(bytes) {
         return out.write_all(bytes);
     }

@@ -102,7 +102,7 @@ impl Refusal {
 
     /// Whether its line for people is all that is said of it, also where JSON is asked for: the
     /// status says the rest.
-    pub(crate) fn is_an_end(&self) -> bool {
+    pub fn is_an_end(&self) -> bool {
         matches!(
             self,
             Refusal::Memory | Refusal::Stopped | Refusal::CannotWrite

@@ -1,0 +1,133 @@
+-- What a command asks for with what is given for its options.
+use Rattle.std.specs.Prelude.{◌≡◌, ℕ, Bool, true, false, if◌then◌else◌, List, Option, None, Some, codes, unwrap_or, not}
+use Rattle.clap.specs.Walk.{Row, first_of}
+use Rattle.canvas_adapt.specs.RenameTexts.{AreRenameTexts}
+use Rattle.canvas_celery.specs.declared.run_number.Run as run_number
+use Rattle.canvas_export.specs.declared.target.Target.{Target}
+use Rattle.canvas_lists.specs.EntryList.{IsEntryFault, IsEntryList}
+use Rattle.canvas_lists.specs.declared.entry_list.EntryFault.TheVariants.{BadAgain}
+use Rattle.canvas_lists.specs.TurnList.{IsTurnList}
+use Rattle.canvas_task.specs.Text.{Text}
+use Rattle.canvas_words.specs.declared.subcommand.Subcommand.{Subcommand}
+use Rattle.canvas_words.specs.declared.subcommand.Subcommand.TheVariants.{Run, Turns, Normal, Check, Adapt, Graph, Messages, Export, Keys, Collect}
+use Rattle.canvas_answer.specs.Given.{IsFlag, IsNumber, IsNumberOf, text_of, texts_of}
+use Rattle.canvas_answer.specs.declared.again.Again.{Again}
+use Rattle.canvas_answer.specs.declared.again.Again.TheVariants as again
+use Rattle.canvas_answer.specs.declared.asked.Request.{Request}
+use Rattle.canvas_answer.specs.declared.asked.Verb.{Verb}
+use Rattle.canvas_answer.specs.declared.asked.Verb.TheVariants as verb
+use Rattle.canvas_answer.specs.declared.asked.Work.{Work}
+use Rattle.canvas_answer.specs.declared.asked.Work.TheVariants.{One, Each}
+use Rattle.canvas_answer.specs.declared.celery.Collecting.{Collecting}
+use Rattle.canvas_answer.specs.declared.celery.OnCelery.{OnCelery}
+use Rattle.canvas_answer.specs.declared.celery.OnCelery.TheVariants as celery
+use Rattle.canvas_answer.specs.declared.each.Each as each
+use Rattle.canvas_answer.specs.declared.graph.States.{States}
+use Rattle.canvas_answer.specs.declared.graph.States.TheVariants as states
+use Rattle.canvas_answer.specs.declared.graph.Stored.{Stored}
+use Rattle.canvas_answer.specs.declared.reporting.Form.{Form}
+use Rattle.canvas_answer.specs.declared.reporting.Form.TheVariants.{Plain, Json, Explained}
+use Rattle.canvas_answer.specs.declared.reporting.Manner.{Manner}
+
+module _ (given : List Row) where
+  -- ---- parts of what is asked for
+
+  abbrev pub IsWorkers : ℕ → Type 0
+  IsWorkers n = IsNumber given (codes "workers") 1 n
+
+  -- JSON, or by the flag that asks for an explanation
+  abbrev pub IsFormWhere : (json : Bool) → Form → Type 0
+  IsFormWhere true form = form ≡ Json
+  IsFormWhere false form = (explains : Bool) × IsFlag given (codes "explain") explains
+      × (form ≡ (if explains then Explained else Plain))
+
+  abbrev pub IsForm : Form → Type 0
+  IsForm form = (json : Bool) × IsFlag given (codes "json") json × IsFormWhere json form
+
+  -- by the flag that gives a status of its own
+  abbrev pub IsManner : Text → Manner → Type 0
+  IsManner flag m = IsForm m.form × IsFlag given flag m.fails
+
+  abbrev pub AreTurns : ℕ → List ℕ → Type 0
+  AreTurns workers turns = IsTurnList workers (text_of given (codes "turns")) turns
+
+  -- what is delivered again: a list of numbers, or another text, which may have names
+  abbrev pub IsAgain : Option Text → Again → Type 0
+  IsAgain None again.Nothing = Unit {0}
+  IsAgain (Some list) (again.Entries es) = IsEntryList list es.items
+  IsAgain (Some list) (again.Named said) = (said.now ≡ list) × IsEntryFault list BadAgain
+  IsAgain list other = ⊥
+
+  abbrev pub IsRun : Text → run_number.Run → Type 0
+  IsRun option run = run.digits ≡ text_of given option
+
+  -- what a picture shows: results where their file is given, else those of a run where that is
+  abbrev pub IsShowing : Option Text → States → Type 0
+  IsShowing None states.None = IsFlag given (codes "run") false
+  IsShowing None (states.Run workers) = IsFlag given (codes "run") true × IsWorkers workers
+  IsShowing (Some file) (states.Stored stored) =
+      (stored.file.now ≡ file) × IsRun (codes "of") stored.run
+      × IsFlag given (codes "complete") stored.completes
+  IsShowing file other = ⊥
+
+  abbrev pub database_or_zero : (broker backend : Option ℕ) → Option (ℕ × ℕ)
+  database_or_zero None None = None
+  database_or_zero broker backend = Some (unwrap_or broker 0, unwrap_or backend 0)
+
+  abbrev pub AreDatabases : Option (ℕ × ℕ) → Type 0
+  AreDatabases chosen = (broker : Option ℕ) × IsNumberOf given (codes "broker-db") broker
+      × ((backend : Option ℕ) × IsNumberOf given (codes "backend-db") backend
+      × (chosen ≡ database_or_zero broker backend))
+
+  pub record IsTarget (t : Target) : Type 0 where
+    pub queue : t.queue.now ≡ text_of given (codes "queue")
+    pub prefix : t.prefix.now ≡ text_of given (codes "prefix")
+    pub expires : IsNumber given (codes "expires") 1 t.expires
+    pub databases : AreDatabases t.databases
+    pub by_script : (without : Bool) × IsFlag given (codes "without-script") without
+        × (t.by_script ≡ not without)
+
+  abbrev pub IsCollecting : Collecting → Type 0
+  IsCollecting c =
+      IsFlag given (codes "complete") c.completes × IsForm c.manner.form
+      × (c.manner.fails ≡ false)
+
+  -- ---- what is asked for
+
+  abbrev pub IsVerb : Subcommand → Verb → Type 0
+  IsVerb Run (verb.Run workers manner) = IsWorkers workers × IsManner (codes "fail") manner
+  IsVerb Turns (verb.Turns workers turns again manner) =
+      IsWorkers workers × AreTurns workers turns.items
+      × IsAgain (first_of (codes "again") given) again × IsManner (codes "fail") manner
+  IsVerb Normal verb.Normal = Unit {0}
+  IsVerb Check (verb.Check manner) = IsManner (codes "strict") manner
+  IsVerb Adapt (verb.Adapt renames) =
+      AreRenameTexts (texts_of given (codes "rename")) renames.items
+  IsVerb Graph (verb.Graph states) = IsShowing (first_of (codes "results") given) states
+  IsVerb Messages (verb.Messages workers turns calls) =
+      IsWorkers workers × AreTurns workers turns.items × IsFlag given (codes "calls") calls
+  IsVerb Export (verb.Celery run (celery.Export target)) =
+      IsRun (codes "run") run × IsTarget target
+  IsVerb Keys (verb.Celery run (celery.Keys prefix)) =
+      IsRun (codes "run") run × (prefix.now ≡ text_of given (codes "prefix"))
+  IsVerb Collect (verb.Celery run (celery.Collect collecting)) =
+      IsRun (codes "run") run × IsCollecting collecting
+  IsVerb command other = ⊥
+
+  -- of many canvases a line feed, 10, ends each, or a zero byte
+  pub record IsEach (e : each.Each) : Type 0 where
+    pub workers : IsWorkers e.workers
+    pub fails : IsFlag given (codes "fail") e.fails
+    pub end : (null : Bool) × IsFlag given (codes "null") null
+        × (e.end ≡ (if null then 0 else 10))
+    pub tasks : IsFlag given (codes "with-tasks") e.has_tasks
+
+  abbrev pub IsWork : Subcommand → Work → Type 0
+  IsWork command (One v) = IsFlag given (codes "each") false × IsVerb command v
+  IsWork command (Each e) = IsFlag given (codes "each") true × IsEach e
+
+  pub record IsRequest (command : Subcommand) (r : Request) : Type 0 where
+    pub work : IsWork command r.work
+    pub file : r.file.now ≡ text_of given (codes "FILE")
+    pub adapts : IsFlag given (codes "adapt") r.adapts
+    pub is_json : IsFlag given (codes "json") r.is_json
