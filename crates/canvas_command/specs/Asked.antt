@@ -16,11 +16,9 @@ use Rattle.canvas_answer.specs.Plans.{ArePlansOf, IsAdaptedText, IsCanvasOf, IsS
 use Rattle.canvas_answer.specs.declared.answer.Answer.{Answer}
 use Rattle.canvas_answer.specs.declared.asked.Verb.{Verb}
 use Rattle.canvas_answer.specs.declared.asked.Verb.TheVariants as verb
-use Rattle.canvas_answer.specs.declared.asked.Work.{Work}
-use Rattle.canvas_answer.specs.declared.asked.Work.TheVariants.{One, Each}
 use Rattle.canvas_answer.specs.declared.graph.States.{States}
 use Rattle.canvas_answer.specs.declared.graph.States.TheVariants as states
-use Rattle.canvas_command.specs.Messages.{AreMessages}
+use Rattle.canvas_command.specs.Messages.{ArePublished}
 use Rattle.canvas_command.specs.Runs.{IsPictureOf, IsRunOf}
 
 module _ (behaviour : Behaviour) (its : Asking) (bytes : Text) where
@@ -46,14 +44,9 @@ module _ (behaviour : Behaviour) (its : Asking) (bytes : Text) where
   IsAnswerTo (verb.Adapt renames) a =
       (made : Text) × IsAdaptedText bytes renames.items made × AnswersAll made 0 a
   IsAnswerTo (verb.Graph states) a = IsPictureAsked states a
-  IsAnswerTo (verb.Messages workers turns) a =
+  IsAnswerTo (verb.Messages workers turns calls) a =
       (shown : Line) × (run : Line) × ArePlansOf its bytes shown run
-      × AreMessages behaviour run workers turns.items a
+      × ArePublished behaviour shown run workers turns.items calls a
   IsAnswerTo (verb.Celery run asked) a =
       (made : Text) × IsSpelled its.adapts bytes made
       × ((l : Line) × IsTextPlan made l × IsOnCelery run.digits asked l a)
-
-  -- of many canvases nothing is told
-  abbrev pub IsDone : Work → Answer → Type 0
-  IsDone (One v) a = IsAnswerTo v a
-  IsDone (Each each) a = Unit {0}

@@ -1,3 +1,5 @@
 pub mod Runs
 pub mod Messages
 pub mod Asked
+pub mod Worded
+pub mod Each

@@ -1,29 +1,60 @@
-//! `canvas run --each`: a canvas a line, and a JSON object a line for each.
+//! `canvas run --each`: canvases one after the other, and a JSON object a line for each, which is
+//! printed before the next canvas is read.
+ghost use Rattle.std.specs.Prelude.{[], IfOk};
+ghost use Rattle.canvas_answer.specs.Answers.{AnswersAll};
+ghost use Rattle.canvas_answer.specs.Asking.{asking};
+ghost use Rattle.canvas_answer.specs.Plans.{run_line};
+ghost use Rattle.canvas_command.specs.Each.{IsEachDone, IsLine, IsRunLine};
 
 use crate::runs::whole_report;
 use canvas_answer::answer::Answer;
 use canvas_answer::each::{Each, object_text};
+use canvas_answer::input::unread;
+use canvas_answer::items::{item_answers, next_item, parts_of};
 use canvas_answer::prepared::Plans;
 use canvas_answer::printing::write_lines;
 use canvas_answer::refusal::Refusal;
 use canvas_answer::reporting::FAILED;
 use canvas_answer::setting::Setting;
 use canvas_answer::source::Source;
+use canvas_answer::stubs::Answers;
 use canvas_report::is_failure;
+use canvas_stubs::Stubbed;
 use canvas_task::Tasks;
 use std::alloc::Global;
-use std::io::Write;
+use std::io::{self, BufRead, Write};
 use std::random::RandomSource;
 use std::sync::Wait;
 use std::thread::Threads;
 
-/// The report of a canvas's run as an object in a line, and whether its result is a failure.
-fn ran<S, T>(rt: &S, workers: u32, source: &Source<'_, T>) -> Result<(String, bool), Refusal>
+/// What a canvas gives.
+#[derive(Drop)]
+struct Said {
+    /// Its report or its refusal, as an object in a line.
+    text: String,
+    /// Whether its result is a failure.
+    failed: bool,
+}
+
+/// What the canvases of an input have in common.
+#[derive(Drop)]
+pub(crate) struct Flow<'a, T> {
+    pub each: Each,
+    /// The input, as the words name it.
+    pub file: &'a str,
+    pub setting: Setting<'a>,
+    pub tasks: &'a Stubbed<'a, T>,
+}
+
+/// The report of a canvas's run as an object in a line.
+fn ran<S, T>(rt: &S, workers: u32, source: &Source<'_, T>) -> Result<Said, Refusal>
 where
     S: Threads + Wait + RandomSource + AllocGlobal + Sync,
     T: Tasks + Sync,
+    ensures { IfOk result (IsRunLine (T.behaviour source.now.tasks.now)
+        (asking source.now.setting) source.now.text.now) }
 {
-    let plans = source.plans(rt.alloc())?;
+    let plans = source.checked_plans(rt.alloc())?;
     ran_by(rt, workers, &plans, source)
 }
 
@@ -33,87 +64,187 @@ fn ran_by<S, T>(
     workers: u32,
     plans: &Plans,
     source: &Source<'_, T>,
-) -> Result<(String, bool), Refusal>
+) -> Result<Said, Refusal>
 where
     S: Threads + Wait + RandomSource + AllocGlobal + Sync,
     T: Tasks + Sync,
+    ensures { IfOk result (IsLine (T.behaviour source.now.tasks.now)
+        (asking source.now.setting) (run_line plans.now) plans.now.shown) }
 {
     let report = whole_report(rt, plans.run(), source.tasks, workers)?;
-    let object = object_text(rt.alloc(), plans, &report, source)?;
-    Ok((object, is_failure(&plans.shown, &report)))
+    let text = object_text(rt.alloc(), plans, &report, source)?;
+    let failed = is_failure(&plans.shown, &report);
+    Ok(Said { text, failed })
 }
 
-/// The line that a canvas gives: its report or its refusal; and whether its result is a failure.
-fn line_of<S, T>(
-    rt: &S,
-    workers: u32,
-    text: &[u8],
-    tasks: &T,
-    setting: Setting<'_>,
-) -> Result<(String, bool), Refusal>
+/// Whether a refusal is that of an item, behind which the others are answered.
+fn is_of_item(each: Each, refusal: &Refusal) -> bool {
+    match refusal {
+        Refusal::Canvas(_) => true,
+        other => each.has_tasks && !other.is_an_end(),
+    }
+}
+
+/// The line of an item that is refused; none where it isn't the item that is.
+fn refused_line(alloc: Global, each: Each, text: &[u8], refusal: Refusal) -> Result<Said, Refusal> {
+    if !is_of_item(each, &refusal) {
+        return Err(refusal);
+    }
+    let placed = refusal.placed(alloc, text);
+    if placed.is_an_end() {
+        return Err(placed);
+    }
+    let text = placed.json(alloc)?;
+    Ok(Said {
+        text,
+        failed: false,
+    })
+}
+
+/// The line of a canvas.
+fn line_of<S, T>(rt: &S, each: Each, source: &Source<'_, T>) -> Result<Said, Refusal>
 where
     S: Threads + Wait + RandomSource + AllocGlobal + Sync,
     T: Tasks + Sync,
 {
-    let source = Source {
-        text,
-        setting,
-        tasks,
-    };
-    match ran(rt, workers, &source) {
+    match ran(rt, each.workers, source) {
         Ok(line) => Ok(line),
-        Err(refusal) => refused_line(rt.alloc(), text, refusal),
+        Err(refusal) => refused_line(rt.alloc(), each, source.text, refusal),
     }
 }
 
-/// The line of a canvas that is refused; where it isn't the canvas, there is none.
-fn refused_line(alloc: Global, text: &[u8], refusal: Refusal) -> Result<(String, bool), Refusal> {
-    if !matches!(refusal, Refusal::Canvas(_)) {
-        return Err(refusal);
+impl<'a, T: Tasks> Flow<'a, T> {
+    /// The line of a canvas for which the words alone say what tasks answer.
+    fn line_of_canvas<S>(&self, rt: &S, text: &[u8]) -> Result<Said, Refusal>
+    where
+        S: Threads + Wait + RandomSource + AllocGlobal + Sync,
+        T: Sync,
+    {
+        let source = Source {
+            text,
+            setting: self.setting,
+            tasks: self.tasks,
+        };
+        line_of(rt, self.each, &source)
     }
-    match refusal.placed(alloc, text) {
-        Refusal::Memory => Err(Refusal::Memory),
-        placed => Ok((placed.json(alloc)?, false)),
+
+    /// The line of a canvas where some tasks answer so.
+    fn line_where<S>(&self, rt: &S, text: &[u8], answers: Answers) -> Result<Said, Refusal>
+    where
+        S: Threads + Wait + RandomSource + AllocGlobal + Sync,
+        T: Sync,
+    {
+        let Answers {
+            stubs,
+            said,
+            errors,
+            renames,
+        } = answers;
+        let stubbed = Stubbed {
+            stubs,
+            tasks: self.tasks.tasks,
+        };
+        let setting = Setting {
+            adapts: self.setting.adapts,
+            stubs: &stubbed.stubs,
+            said: stubbed.stubs.get(..said).unwrap_or(&[]),
+            errors: &errors,
+            renames: &renames,
+        };
+        let source = Source {
+            text,
+            setting,
+            tasks: &stubbed,
+        };
+        line_of(rt, self.each, &source)
+    }
+
+    /// The line of an item that has what its tasks answer.
+    fn line_of_both<S>(&self, rt: &S, item: &[u8]) -> Result<Said, Refusal>
+    where
+        S: Threads + Wait + RandomSource + AllocGlobal + Sync,
+        T: Sync,
+    {
+        let (lines, text) = parts_of(item);
+        match item_answers(rt.alloc(), lines, self.file, self.setting) {
+            Ok(answers) => self.line_where(rt, text, answers),
+            Err(refusal) => refused_line(rt.alloc(), self.each, text, refusal),
+        }
+    }
+
+    fn line<S>(&self, rt: &S, item: &[u8]) -> Result<Said, Refusal>
+    where
+        S: Threads + Wait + RandomSource + AllocGlobal + Sync,
+        T: Sync,
+    {
+        if self.each.has_tasks {
+            self.line_of_both(rt, item)
+        } else {
+            self.line_of_canvas(rt, item)
+        }
+    }
+
+    /// Answers the next item, and says whether its result is a failure; none where there is none.
+    fn answer_next<S, R: BufRead, W: Write>(
+        &self,
+        rt: &S,
+        reader: &mut R,
+        out: &mut W,
+    ) -> Result<Option<bool>, Refusal>
+    where
+        S: Threads + Wait + RandomSource + AllocGlobal + Sync,
+        T: Sync,
+    {
+        let item = match next_item(rt.alloc(), reader, self.each.end) {
+            Ok(Some(item)) => item,
+            Ok(None) => return Ok(None),
+            Err(error) => return Err(unread(rt.alloc(), &error, self.file)),
+        };
+        let line = self.line(rt, &item)?;
+        match print_line(out, &line.text) {
+            Ok(()) => Ok(Some(line.failed)),
+            Err(error) => Err(Refusal::of_output(&error)),
+        }
     }
 }
 
-/// A canvas without the byte that ends it.
-fn without_end(text: &[u8], end: u8) -> &[u8] {
-    match text.split_last() {
-        Some((last, rest)) if *last == end => rest,
-        _ => text,
-    }
+/// Writes a line, and has it reach the reader.
+fn print_line<W: Write>(out: &mut W, text: &str) -> io::Result<()> {
+    write_lines(out, text.as_bytes())?;
+    out.flush()
 }
 
-/// Writes a line for each canvas of a text, in its order, as it is made. If that is asked for, the
-/// status is that of a failure if a canvas's result is one. Of a call that ends early the lines
-/// before are written.
-pub(crate) fn answer_each<S, T, W: Write>(
+/// The answer once all lines are printed.
+fn ended(alloc: Global, status: u8) -> Answer
+    ensures { AnswersAll [] status result }
+{
+    Answer::whole(Vec::new(alloc)).with_status(status)
+}
+
+/// Prints a line for each canvas of an input, in its order, before the next one is read. If that is
+/// asked for, the status is that of a failure if a canvas's result is one. Lines that were made
+/// before a call ends early are printed.
+pub(crate) fn answer_each<S, T, R: BufRead, W: Write>(
     rt: &S,
-    each: Each,
-    text: &[u8],
-    tasks: &T,
-    setting: Setting<'_>,
+    flow: &Flow<'_, T>,
+    reader: &mut R,
     out: &mut W,
 ) -> Result<Answer, Refusal>
 where
     S: Threads + Wait + RandomSource + AllocGlobal + Sync,
     T: Tasks + Sync,
+    ensures { IfOk result (IsEachDone flow.now.each.fails) }
 {
-    let Each {
-        workers,
-        fails,
-        end,
-    } = each;
-    let mut status = 0;
-    for one in text.split_inclusive(|byte| *byte == end) {
-        let (said, failed) = line_of(rt, workers, without_end(one, end), tasks, setting)?;
-        if let Err(error) = write_lines(out, said.as_bytes()) {
-            return Err(Refusal::of_output(&error));
-        }
-        if fails && failed {
-            status = FAILED;
+    let mut failed = false;
+    for _ in 0..u64::MAX {
+        match flow.answer_next(rt, reader, out)? {
+            Some(is_failure) => failed |= is_failure,
+            None => break,
         }
     }
-    Ok(Answer::whole(Vec::new(rt.alloc())).with_status(status))
+    if flow.each.fails && failed {
+        Ok(ended(rt.alloc(), FAILED))
+    } else {
+        Ok(ended(rt.alloc(), 0))
+    }
 }

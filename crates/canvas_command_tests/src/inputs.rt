@@ -70,6 +70,28 @@ fn a_reader_that_is_interrupted(rt: HostRuntime) {
     assert!(rt; answers_to(&rt, "run -", &mut input, 0, REPORT, ""));
 }
 
+/// What `--each` prints of two canvases that are none.
+const NONE: &str =
+    "{\"code\":3,\"name\":\"NotSignature\",\"note\":\"found a list of 0, wanted a signature: an object that names a task\",\"pointer\":\"\",\"task\":null}
+{\"code\":3,\"name\":\"NotSignature\",\"note\":\"found a list of 0, wanted a signature: an object that names a task\",\"pointer\":\"\",\"task\":null}
+";
+
+#[test]
+fn canvases_before_a_read_that_fails(rt: HostRuntime) {
+    let mut input = Broken("[]\n[]\n{".as_bytes());
+    let err = "canvas: cannot read -\n";
+    assert!(rt; answers_to(&rt, "run - --each", &mut input, 1, NONE, err));
+}
+
+#[test]
+fn canvases_byte_by_byte(rt: HostRuntime) {
+    let mut input = Slow {
+        interrupts: 3,
+        text: "[]\n[]".as_bytes(),
+    };
+    assert!(rt; answers_to(&rt, "run - --each", &mut input, 0, NONE, ""));
+}
+
 /// There are 1,048,577 reads, the last of which has to find the end.
 #[test]
 fn reads_are_counted(rt: HostRuntime) -> Result<(), Fail> {

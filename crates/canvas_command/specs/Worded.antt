@@ -1,0 +1,60 @@
+-- What the program answers to words, where its parser takes them.
+use Rattle.std.specs.Prelude.{◌≡◌, ◌⊎◌, Bool, true, false, List, [], Option, Some}
+use Rattle.clap.specs.Walk.{Row}
+use Rattle.canvas_task.specs.Apply.{Behaviour}
+use Rattle.canvas_task.specs.Text.{Text}
+use Rattle.canvas_stubs.specs.Stubs.{stubs_behaviour}
+use Rattle.canvas_words.specs.Options.{IsAsked}
+use Rattle.canvas_words.specs.declared.subcommand.Subcommand.{Subcommand}
+use Rattle.canvas_answer.specs.Answers.{IsKept}
+use Rattle.canvas_answer.specs.Asking.{Asking, asked_of}
+use Rattle.canvas_answer.specs.Inputs.{IsCanvasRead}
+use Rattle.canvas_answer.specs.Requests.{IsRequest}
+use Rattle.canvas_answer.specs.Stubbing.{AreAnswers}
+use Rattle.canvas_answer.specs.declared.answer.Answer.{Answer}
+use Rattle.canvas_answer.specs.declared.asked.Request.{Request}
+use Rattle.canvas_answer.specs.declared.asked.Work.{Work}
+use Rattle.canvas_answer.specs.declared.asked.Work.TheVariants.{One, Each}
+use Rattle.canvas_answer.specs.declared.refusal.Refusal.{Refusal}
+use Rattle.canvas_answer.specs.declared.stubs.Answers.{Answers}
+use Rattle.canvas_command.specs.Asked.{IsAnswerTo}
+use Rattle.canvas_command.specs.Each.{IsEachDone}
+
+-- why there is nothing
+abbrev pub IsRefused : Answer → Type 0
+IsRefused a = (refusal : Refusal) × (a.refusal ≡ Some refusal) × (a.out.items ≡ [])
+
+-- the same answer, whose refusal is told in JSON where that is asked for
+abbrev pub IsToldAs : (json : Bool) → (before after : Answer) → Type 0
+IsToldAs false before after = after ≡ before
+IsToldAs true before after =
+    (after.out ≡ before.out) × (after.status ≡ before.status)
+    × IsKept before.refusal after.refusal
+
+-- Tasks that have no stub are called so; the input has these bytes, if they are known.
+module _ (behaviour : Behaviour) (input : Option Text) where
+  -- of the bytes of one text, which is the input if the file is `-`; or of many texts
+  abbrev pub IsWorkDone : Asking → (file : Text) → Work → Answer → Type 0
+  IsWorkDone its file (One verb) a =
+      (bytes : Text) × IsCanvasRead file input bytes
+      × IsAnswerTo behaviour its bytes verb a
+  IsWorkDone its file (Each each) a = IsEachDone each.fails a
+
+module _ (behaviour : Behaviour) (input : Option Text) where
+  -- where some tasks answer so
+  abbrev pub IsAnswerWith : Request → Answers → Answer → Type 0
+  IsAnswerWith request answers a =
+      IsWorkDone (stubs_behaviour answers.stubs.items behaviour) input
+      (asked_of request.adapts answers) request.file.now request.work a
+
+  -- what the words ask for is done
+  abbrev pub IsDoneFor : (words : List Text) → Answer → Type 0
+  IsDoneFor words a =
+      (command : Subcommand) × (given : List Row) × IsAsked words command given
+      × ((request : Request) × IsRequest given command request
+      × ((answers : Answers) × AreAnswers command given answers
+      × ((before : Answer) × IsAnswerWith request answers before
+      × IsToldAs request.is_json before a)))
+
+  abbrev pub IsAnswerToWords : (words : List Text) → Answer → Type 0
+  IsAnswerToWords words a = IsRefused a ⊎ IsDoneFor words a
