@@ -3,9 +3,9 @@
 from __future__ import annotations
 
 import json
-from typing import Any, Iterable, Mapping, Sequence, Union
+from typing import Any, Iterable, Iterator, Mapping, Sequence, Union
 
-from .calling import ask
+from .calling import ask, refusal_of
 from .celery_run import Judge
 from .checking import Figures, figures
 from .comparing import Question
@@ -13,7 +13,9 @@ from .errors import BadCall, CanvasError, Refused, hidden
 from .outcomes import is_exception
 from .recorded import recorded_answers
 from .reports import Failures, Picture, Report
-from .texts import Answers, Canvas, check_names, is_huge, named, text_of, values, words_of
+from .staying import item_of, told
+from .texts import (Answers, Canvas, check_names, is_huge, lines_of, named, text_of, values,
+                    words_in, words_of)
 
 __all__ = ["adapt", "check", "every_failure", "graph", "messages", "run", "what_if",
            "what_if_each"]
@@ -85,8 +87,34 @@ def _judge(canvas: Canvas, app: Any = None) -> Judge:
 def _what_if(judge: Judge, tasks: Answers = {}, workers: int = 1,
              turns: Sequence[int] | None = None, again: Again = False) -> Report:
     tasks = named(tasks)
-    report = _run(judge.text, tasks, words_of(tasks, True), workers, turns, again)
+    if type(workers) is int and workers == 1 and turns is None and again is False:
+        (report,) = _runs(judge.text, [tasks])
+    else:
+        report = _run(judge.text, tasks, words_of(tasks, True), workers, turns, again)
     return report.asked_of(Question(judge, tasks))
+
+
+def _runs(text: bytes, several: Sequence[Answers]) -> Iterator[Report]:
+    """The Report of a canvas's run by one worker with each of these answers, which the program that
+    stays is asked for; where it can't be, by a call for each."""
+    for some in (several[start:start + MOST] for start in range(0, len(several), MOST)):
+        lines = [lines_of(it, True) for it in some]
+        items = [it for it in (item_of(it, text) for it in lines) if it is not None]
+        if len(items) == len(some):
+            for said, asked, tasks in zip(told(items), lines, some):
+                yield _told(said, text, ["--adapt", *words_in(asked)], tasks)
+        else:
+            for tasks in some:
+                yield _run(text, tasks, words_of(tasks, True))
+
+
+def _told(said: dict[str, Any], text: bytes, asked: list[str], tasks: Answers) -> Report:
+    """The Report that an object of the program says. Raises what it says of a refusal."""
+    if "rows" not in said:
+        raise refusal_of(said)
+    report = Report(said["rows"], said["canvas"], (asked, text))
+    check_names(tasks, _names(report))
+    return report
 
 
 def _run(text: bytes, tasks: Answers, asked: list[str], workers: int = 1,
@@ -169,7 +197,10 @@ def every_failure(canvas: Canvas, tasks: Answers = {}, error: Any = Exception, a
     each line also says where its code does otherwise. Raises as what_if()."""
     judge, tasks = _judge(canvas, app), named(tasks)
     well = _what_if(judge, tasks)
-    found = Failures((it.number, _what_if(judge, {**tasks, it.number: error})) for it in well.rows)
+    numbers = [it.number for it in well.rows]
+    several = [{**tasks, number: error} for number in numbers]
+    found = Failures((number, report.asked_of(Question(judge, its))) for number, report, its
+                     in zip(numbers, _runs(judge.text, several), several))
     found.well = well
     return found
 

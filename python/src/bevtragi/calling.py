@@ -9,12 +9,12 @@ import os
 import shutil
 import subprocess
 from pathlib import Path
-from typing import NamedTuple
+from typing import Any, NamedTuple
 
 from . import VERSION
 from .errors import BadCall, CanvasError, Refused, hidden
 
-__all__ = ["Program", "ask", "program"]
+__all__ = ["Program", "ask", "failure", "forget_path", "path_of_program", "program", "refusal_of"]
 
 __tracebackhide__ = hidden
 
@@ -34,7 +34,7 @@ class Program(NamedTuple):
 def program() -> Program:
     """The program that is called: of $CANVAS, the wheel, the build in this checkout, or the PATH.
     Raises CanvasError where it isn't there, or isn't the right one."""
-    path = Path(_path_of_program(os.environ.get("CANVAS"), os.environ.get("PATH")))
+    path = Path(path_of_program())
     record = Path(__file__).resolve().with_name("program.json")
     try:
         digest = hashlib.sha256(path.read_bytes()).hexdigest()
@@ -46,6 +46,16 @@ def program() -> Program:
         return Program(str(path), VERSION, digest, **told)
     except (OSError, ValueError, TypeError, LookupError) as error:
         raise CanvasError(f"{path} can't be compared with its record: {error}") from error
+
+
+def path_of_program() -> str:
+    """The path of the program, which is looked for once."""
+    return _path_of_program(os.environ.get("CANVAS"), os.environ.get("PATH"))
+
+
+def forget_path() -> None:
+    """Has the program looked for anew: what was found at a path has changed."""
+    _path_of_program.cache_clear()
 
 
 @functools.lru_cache(maxsize=None)
@@ -86,15 +96,23 @@ def _ended(path: str, words: list[str], given: bytes = b"",
 
 def ask(words: list[str], given: bytes) -> tuple[str, str]:
     """What the program prints, and says on standard error. Raises Refused, BadCall, CanvasError."""
-    path = _path_of_program(os.environ.get("CANVAS"), os.environ.get("PATH"))
-    call = _ended(path, [*words, "--json"], given)
+    call = _ended(path_of_program(), [*words, "--json"], given)
     out, said = (it.decode(errors="replace") for it in (call.stdout, call.stderr))
-    line = said.partition("\n")[0]
     if call.returncode == 0 and (out or words[0] in ("export", "keys", "messages")):
         return out, said
-    if call.returncode == 1 and line.startswith("{"):
-        told = json.loads(line)
-        raise Refused(**told) if "code" in told else BadCall(f"{told['name']}: {told['note']}")
-    how = f"was killed by signal {-call.returncode}" if call.returncode < 0 else \
-        f"ended with status {call.returncode}: {line or 'it said nothing'}"
-    raise CanvasError(f"`canvas {words[0]}` {how}")
+    raise failure(words[0], call.returncode, said)
+
+
+def failure(word: str, status: int, said: str) -> CanvasError:
+    """The error of a call that ended with this status, and what it said on standard error."""
+    line = said.partition("\n")[0]
+    if status == 1 and line.startswith("{"):
+        return refusal_of(json.loads(line))
+    how = f"was killed by signal {-status}" if status < 0 else \
+        f"ended with status {status}: {line or 'it said nothing'}"
+    return CanvasError(f"`canvas {word}` {how}")
+
+
+def refusal_of(told: dict[str, Any]) -> CanvasError:
+    """The error that the program tells as an object: of the canvas, or of something else."""
+    return Refused(**told) if "code" in told else BadCall(f"{told['name']}: {told['note']}")

@@ -1,8 +1,8 @@
 """The calls of one rehearsal, one after the other, each when a worker may make it.
 
-The program lists the messages of the run with the failures so far. A message may be taken once all
-messages that carry it have ended, and after each failure the list is asked for again. So the last
-list is that of the run with these answers, and the calls are held against it. This module chooses
+The program lists the messages of the run with the failures so far, each with the tasks that it comes
+behind. It may be taken once these have ended, and after each failure the list is asked for again.
+So the last list is that of the run with these answers, and the calls are held against it. This module chooses
 the order of the calls and makes them. It decides nothing else.
 """
 
@@ -10,7 +10,7 @@ from __future__ import annotations
 
 import sys
 import traceback
-from typing import Any, Callable, Dict, FrozenSet, List, NamedTuple, Sequence, Set, Tuple
+from typing import Any, Callable, Dict, List, NamedTuple, Sequence, Set, Tuple
 
 from .errors import CanvasError, hidden
 from .outcomes import Failure
@@ -54,9 +54,8 @@ class Calls:
         #: The number of the task that was called last.
         self.now = 0
         self._ended: Set[int] = set()
-        #: The first message of a second round, or 0; and the bodies that aren't of that round.
+        #: The first message of a second round, or 0.
         self._start = 0
-        self._joined: FrozenSet[int] = frozenset()
         self._results = _Results(flow.app)
         self._first = self
 
@@ -77,12 +76,10 @@ class Calls:
         that is delivered again after its task has ended. A chord's body follows if the chord is
         started again: not if a task of its header is called again, as Redis has forgotten its size.
         """
-        again = Calls(self.flow, self._choose)
+        again, taken = Calls(self.flow, self._choose), _round_of(number, self.made)
         again._first, again._results, again._start = self, self._results, number
-        again._ended, again._joined = {*self.made[number].after}, self.made[number].joined
-        again.values = dict(self.values)
-        again.errors = {it: error for it, error in self.errors.items()
-                        if not again._is_of_round(self.made[it])}
+        again._ended, again.values = {*self.made[number].after}, dict(self.values)
+        again.errors = {it: error for it, error in self.errors.items() if it not in taken}
         again.ends = {it: self.ends[it] for it in again.errors}
         again._make()
         if any(again._listed.get(it) != message for it, message in again.made.items()):
@@ -110,19 +107,15 @@ class Calls:
 
     def _ask(self) -> None:
         self._listed = self.flow.program.messages(frozenset(self.errors))
+        self._round = _round_of(self._start, self._listed) if self._start else {*self._listed}
 
     def _ready(self) -> List[Message]:
         """The messages that may be taken from now on."""
         found = [it for it in self._listed.values() if it.number not in self._seen
-                 and it.after <= self._ended and self._is_of_round(it)]
+                 and it.after <= self._ended and it.number in self._round]
         self._seen.update(it.number for it in found)
         self.in_place.update(it.number for it in found if self._is_called_in_place(it))
         return found
-
-    def _is_of_round(self, message: Message) -> bool:
-        if self._start in (0, message.number):
-            return True
-        return self._start in message.after and message.number not in self._joined
 
     def _copies(self, message: Message, at: str) -> List[Tuple[Message, bool]]:
         return [(message, True)] * self.points.count((message.number, at))
@@ -206,6 +199,15 @@ class Calls:
             self.ends[number] = request, error, None
             self._results.store(number, None, error, None)
         return self.ends[number]
+
+
+def _round_of(start: int, messages: Dict[int, Message]) -> Set[int]:
+    """The messages that come behind a message, and itself: a body's if its chord does, too."""
+    found = {start}
+    for number, it in sorted(messages.items()):
+        if found & it.after and (it.header_after is None or found & it.header_after):
+            found.add(number)
+    return found
 
 
 def root_of(rows: List[Row], number: int) -> int:

@@ -11,8 +11,8 @@ from typing import Any, Dict, Iterable, Mapping, Union
 from .calling import ask
 from .errors import BadCall, CanvasError, hidden
 
-__all__ = ["Answers", "Canvas", "check_names", "is_huge", "named", "text_of", "tree_of", "values",
-           "words_of"]
+__all__ = ["Answers", "Canvas", "check_names", "is_huge", "lines_of", "named", "text_of", "tree_of",
+           "values", "words_in", "words_of"]
 
 __tracebackhide__ = hidden
 
@@ -69,8 +69,17 @@ def named(tasks: Any, what: str = "what tasks answer") -> dict[Any, Any]:
 
 def words_of(tasks: Answers, is_whole: bool = False) -> list[str]:
     """What tasks answer, in the program's words; and of all others, in a canvas that is adapted."""
-    tasks = named(tasks)
-    words = ["--adapt"] * is_whole
+    return ["--adapt"] * is_whole + words_in(lines_of(tasks, is_whole))
+
+
+def words_in(lines: Iterable[str]) -> list[str]:
+    """What tasks answer by these lines, in the program's words."""
+    return [word for line in lines for word in ("--task", line)]
+
+
+def lines_of(tasks: Answers, is_whole: bool = False) -> list[str]:
+    """What tasks answer, and with `is_whole` all others, a line each."""
+    tasks, lines = named(tasks), []
     others: Dict[Any, Any] = dict.fromkeys(("*", *OWN), tasks.get("*", 0)) if is_whole else {}
     for key, answer in {**others, **tasks}.items():
         kind = answer if isinstance(answer, type) else type(answer)
@@ -80,8 +89,8 @@ def words_of(tasks: Answers, is_whole: bool = False) -> list[str]:
             what = "so large a number" if is_huge(answer) else repr(answer)
             raise BadCall(f"a task can't answer {what}: that is a whole number, an exception,"
                           ' or one of "add", "div", "ident", "log_error", "mul" and "xsum"')
-        words += ["--task", f"{'#' * isinstance(key, int)}{key}={answer}"]
-    return words
+        lines.append(f"{'#' * isinstance(key, int)}{key}={answer}")
+    return lines
 
 
 def is_huge(value: Any) -> bool:
