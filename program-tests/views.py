@@ -382,6 +382,36 @@ def messages(canvas):
     return "".join(written(message(walk, task)) + "\n" for task in published(walk))
 
 
+def behind(walk, event):
+    """The tasks whose ends bring an event about: of a header those that end its members."""
+    if event[0] != "header":
+        return [*event[1:]]
+    ends = [walk.rows[end - 1].end(end) for end in walk.headers[event[1]]]
+    return [task for end in ends for task in behind(walk, end)]
+
+
+def identifiers(tasks):
+    return [identifier(task) for task in tasks]
+
+
+def call_of(walk, task):
+    """The call that the message of a task asks for."""
+    row = walk.rows[task - 1]
+    begun = walk.begun[row.event[1]] if row.event[0] == "header" else None
+    return {"after": identifiers(behind(walk, row.event)), "args": row.call[0],
+            "header_after": begun and identifiers(behind(walk, begun)), "kwargs": row.call[1],
+            "name": row.name, "parent_id": row.parent and identifier(row.parent),
+            "task_id": identifier(task)}
+
+
+def calls(canvas, stubs=None):
+    """The calls that one worker publishes, a line each, and then the names of all tasks."""
+    walk = Walk(canvas, stubs)
+    lines = [*(call_of(walk, task) for task in published(walk)),
+             {"names": [row.name for row in walk.rows]}]
+    return "".join(written(it) + "\n" for it in lines)
+
+
 def read_messages(text):
     """What `canvas messages` prints, without what goes with the calls."""
     found = [{name: json.loads(it) for name, it in json.loads(line).items()}
