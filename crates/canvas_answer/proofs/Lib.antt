@@ -1,6 +1,7 @@
 pub mod NamesLeft
 pub mod Classes
 pub mod ShownRows
+pub mod Blaming
 pub mod ToldRows
 pub mod Reading
 pub mod GivenNumbers

@@ -16,6 +16,7 @@ use Rattle.canvas_report.specs.JsonRows.{parameter_of}
 use Rattle.canvas_report.specs.declared.row.Row.{Row}
 use Rattle.canvas_report.proofs.RowLaws.{rows_written}
 use Rattle.canvas_answer.specs.Asking.{Asking}
+use Rattle.canvas_answer.specs.Blamed.{AreBlames, blames}
 use Rattle.canvas_answer.specs.OnCelery.{IsStoredText}
 use Rattle.canvas_answer.specs.Raised.{class_of, own_class, AreShown}
 use Rattle.canvas_answer.specs.Told.{IsJsonOf, IsReportText, IsTold, IsUntoldText, known_states}
@@ -36,13 +37,15 @@ plain_rows stubs errors fs l ss none =
 -- of a run with these fates and states, which are those of evaluation
 pub told_json : (its : Asking) (run shown : Line) (behaviour : Behaviour) (fs : Fates) (ss : List State) (blamed : List (ℕ × Option (String Global)))
     (again : Option ℕ) (text : Text) → fs ≡ fates behaviour run → ss ≡ states behaviour (tree_of run)
+    → AreBlames (blames its.stubs fs ss run) blamed
     → ((rows : List Row) × AreShown (class_of fs (own_class its.stubs its.errors run)) ss rows × IsJsonOf fs blamed again rows (tree_of shown) text)
     → IsTold its run shown behaviour Json again text
-told_json its run shown behaviour fs ss blamed again text f s h = (
+told_json its run shown behaviour fs ss blamed again text f s b h = (
   h.0,
   subst (λ xs. AreShown (class_of (fates behaviour run) (own_class its.stubs its.errors run)) xs h.0) s
       (subst (λ gs. AreShown (class_of gs (own_class its.stubs its.errors run)) ss h.0) f h.1),
-  (blamed, subst (λ gs. IsJsonOf gs blamed again h.0 (tree_of shown) text) f h.2),
+  (blamed, b ∙ (λ i. blames its.stubs (f i) (s i) run),
+    subst (λ gs. IsJsonOf gs blamed again h.0 (tree_of shown) text) f h.2),
 )
 
 pub told_plain : (its : Asking) (run shown : Line) (behaviour : Behaviour) (ss : List State) (again : Option ℕ) (text : Text)

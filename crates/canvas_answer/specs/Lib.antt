@@ -8,6 +8,7 @@ pub mod Wanted
 pub mod Items
 pub mod Names
 pub mod Plans
+pub mod Blamed
 pub mod Raised
 pub mod Told
 pub mod Normal

@@ -19,6 +19,7 @@ use Rattle.canvas_report.specs.declared.row.Row.{Row}
 use Rattle.canvas_report.specs.declared.row.Row.TheVariants.{Known}
 use Rattle.canvas_answer.specs.Answers.{AnswersAll}
 use Rattle.canvas_answer.specs.Asking.{Asking}
+use Rattle.canvas_answer.specs.Blamed.{AreBlames, Blames, blames}
 use Rattle.canvas_answer.specs.Raised.{AreShown, class_of, own_class}
 use Rattle.canvas_answer.specs.declared.answer.Answer.{Answer}
 use Rattle.canvas_answer.specs.declared.reporting.Form.{Form}
@@ -38,11 +39,14 @@ IsJsonOf fates blamed again rows t text =
     (at : ℕ → Shown) × AllShow rows at
     × (text ≡ json_lines (rows_wire (fate_at fates) (parameter_of blamed) again at t))
 
-abbrev pub IsToldText : Form → Fates → (again : Option ℕ) → List Row → Tree → Text → Type 0
-IsToldText Plain fates again rows t text = text ≡ stored_said rows t
-IsToldText Json fates again rows t text =
-    (blamed : List (ℕ × Option (String Global))) × IsJsonOf fates blamed again rows t text
-IsToldText Explained fates again rows t text = text ≡ explained_said fates rows t
+-- where these parameters are at fault
+abbrev pub IsToldText : Form → Fates → Blames → (again : Option ℕ) → List Row → Tree → Text
+    → Type 0
+IsToldText Plain fates blames again rows t text = text ≡ stored_said rows t
+IsToldText Json fates blames again rows t text =
+    (blamed : List (ℕ × Option (String Global))) × AreBlames blames blamed
+    × IsJsonOf fates blamed again rows t text
+IsToldText Explained fates blames again rows t text = text ≡ explained_said fates rows t
 
 -- where it isn't told which tasks were called
 abbrev pub IsUntoldText : Form → List Row → Tree → Text → Type 0
@@ -82,7 +86,8 @@ module _ (its : Asking) (run shown : Line) where
     abbrev pub IsTold : Form → (again : Option ℕ) → Text → Type 0
     IsTold form again text =
         (rows : List Row) × AreRows rows
-        × IsToldText form (fates behaviour run) again rows (tree_of shown) text
+        × IsToldText form (fates behaviour run) (blames its.stubs (fates behaviour run) ss run)
+        again rows (tree_of shown) text
 
     -- that is all that was asked for, in this form; where failures count, the status says of one
     abbrev pub IsReport : Form → (counts : Bool) → (again : Option ℕ) → Answer → Type 0

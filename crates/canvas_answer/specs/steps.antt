@@ -1,2 +1,3 @@
 pub mod Classes
 pub mod Pieces
+pub mod BlamedLists

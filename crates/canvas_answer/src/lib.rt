@@ -5,6 +5,7 @@ pub mod adapt;
 pub mod again;
 pub mod answer;
 pub mod asked;
+mod blamed;
 pub mod celery;
 pub mod each;
 pub mod errors;

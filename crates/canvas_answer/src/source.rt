@@ -1,5 +1,4 @@
-//! What a run is of: a canvas's text, and what answers its calls. It says which parameter makes a
-//! call a TypeError.
+//! What a run is of: a canvas's text, and what answers its calls.
 ghost use Rattle.std.specs.Prelude.{◌≡◌, [], IfOk, List, ℕ, map, string_bytes};
 ghost use Rattle.canvas_report.specs.declared.row.Row.{Row};
 ghost use Rattle.canvas_semantics.specs.Line.{tree_of};
@@ -11,19 +10,18 @@ ghost use Rattle.canvas_answer.specs.Raised.{AreShown, class_of, own_class};
 ghost use Rattle.canvas_answer.specs.Told.{IsJsonOf, IsTold, known_states};
 ghost use Rattle.canvas_answer.specs.declared.reporting.Form.TheVariants.{Json};
 
+use crate::blamed::{blamed_in_run, builtin_of};
 use crate::named_rows::named_rows;
 use crate::names::check_names;
 use crate::prepared::{Plans, Prepared};
 use crate::refusal::Refusal;
 use crate::setting::Setting;
-use crate::stubs::stub_named;
-use canvas_adapt::renamed;
 use canvas_ran::fates;
-use canvas_report::{Fate, Report, Row, Told, rows_text, state_in, stored_rows_text};
+use canvas_report::{Fate, Report, Row, Told, rows_text, stored_rows_text};
 use canvas_rewrite::Plan;
 use canvas_sig::Canvas;
-use canvas_stubs::{Does, Stub};
-use canvas_task::{Builtin, Fault, Kind, Memory, Outcome, TaskNo, Tasks};
+use canvas_stubs::Stub;
+use canvas_task::{Memory, TaskNo, Tasks};
 use canvas_values::TaskSig;
 use canvas_warning::{Blame, Expected, Forecast, Input, Wrong, blamed, forecasts, tasks_in};
 use std::alloc::{AllocError, Global};
@@ -58,52 +56,20 @@ fn at_fault(alloc: Global, blame: Option<Blame<'_>>) -> Result<Option<AtFault>, 
 #[derive(Drop)]
 pub(crate) struct Foreseen {
     pub forecast: Forecast,
-    is_task: bool,
-    /// Of a call that is a TypeError the parameter that is at fault, if it is one; none where no
-    /// built-in task answers it.
-    blame: Option<Option<AtFault>>,
-}
-
-impl Foreseen {
     /// The parameter that makes its call a TypeError, where that is known.
-    pub(crate) fn blame(&self) -> Option<&AtFault> {
-        match &self.blame {
-            Some(Some(blame)) => Some(blame),
-            _ => None,
-        }
-    }
+    pub blame: Option<AtFault>,
 }
 
-/// The built-in task that a stub does as.
-fn builtin_done(does: Does) -> Option<Builtin> {
-    match does {
-        Does::SameAs(task) => Some(task),
-        Does::Gives(_) | Does::Raises(_) => None,
-    }
-}
-
-/// The built-in task that answers the calls of a name: what a stub of the name does, or the task of
-/// the name, or what the stub of each other name does.
-fn builtin_of(stubs: &[Stub], name: &str) -> Option<Builtin> {
-    if let Some(does) = stub_named(stubs, name) {
-        return builtin_done(does);
-    }
-    match Builtin::named(name) {
-        Some(task) => Some(task),
-        None => builtin_done(stub_named(stubs, "*")?),
-    }
-}
-
-/// The parameter that makes a call a TypeError with this in front of its own arguments, if it is
-/// one. None where no built-in task answers the call.
+/// The parameter that makes a call a TypeError with this before its own arguments, if a built-in
+/// task answers it.
 fn blamed_in(
     alloc: Global,
     stubs: &[Stub],
     sig: &TaskSig,
     input: Input,
-) -> Result<Option<Option<AtFault>>, AllocError> {
+) -> Result<Option<AtFault>, AllocError> {
     match builtin_of(stubs, sig.name.get()) {
-        Some(task) => Ok(Some(at_fault(alloc, blamed(alloc, task, sig, input)?)?)),
+        Some(task) => at_fault(alloc, blamed(alloc, task, &sig.args, &sig.kwargs, input)?),
         None => Ok(None),
     }
 }
@@ -115,16 +81,11 @@ fn foreseen_of(
     forecast: Forecast,
     task: Option<&TaskSig>,
 ) -> Result<Foreseen, AllocError> {
-    let is_task = task.is_some();
     let blame = match (forecast.expected, task) {
         (Expected::TypeError(input), Some(sig)) => blamed_in(alloc, stubs, sig, input)?,
         _ => None,
     };
-    Ok(Foreseen {
-        forecast,
-        is_task,
-        blame,
-    })
+    Ok(Foreseen { forecast, blame })
 }
 
 /// What is foreseen of signatures that have these forecasts, where these are the tasks among them.
@@ -141,58 +102,6 @@ fn foreseen_by(
             break;
         };
         found.push(foreseen_of(alloc, stubs, *forecast, *task)?)?;
-    }
-    Ok(found)
-}
-
-/// Whether a task ran and is a TypeError.
-fn is_bad_call(report: &Report, task: TaskNo, fate: Fate) -> bool {
-    matches!(fate, Fate::Ran)
-        && matches!(
-            state_in(report.rows.get(), task),
-            Some(Outcome::Failure(Fault::Plain(Kind::BadCall)))
-        )
-}
-
-fn any_bad_call(report: &Report, fates: &[(TaskNo, Fate)]) -> bool {
-    for (task, fate) in fates {
-        if is_bad_call(report, *task, *fate) {
-            return true;
-        }
-    }
-    false
-}
-
-fn parameter_of(blame: &Option<AtFault>) -> Result<Option<String>, AllocError> {
-    match blame {
-        Some(blame) => Ok(Some(blame.parameter.clone()?)),
-        None => Ok(None),
-    }
-}
-
-/// The tasks that ran and are a TypeError, where a built-in task answers their calls, each with
-/// the parameter that is at fault, if it is one.
-fn blamed_of(
-    alloc: Global,
-    foreseen: &[Foreseen],
-    report: &Report,
-    fates: &[(TaskNo, Fate)],
-) -> Result<Vec<(TaskNo, Option<String>)>, AllocError> {
-    let mut found = Vec::new(alloc);
-    let mut left = fates.iter();
-    for it in foreseen {
-        if !it.is_task {
-            continue;
-        }
-        let Some((task, fate)) = left.next() else {
-            break;
-        };
-        if let Some(blame) = &it.blame
-            && is_bad_call(report, *task, *fate)
-        {
-            let parameter = parameter_of(blame)?;
-            found.push((*task, parameter))?;
-        }
     }
     Ok(found)
 }
@@ -256,23 +165,6 @@ impl<'a, T: Tasks> Source<'a, T> {
         }
     }
 
-    /// The tasks whose call is a TypeError, each with the parameter that is at fault, if it is one.
-    /// The canvas is read once more where there is such a task.
-    fn blamed_in_run(
-        &self,
-        alloc: Global,
-        report: &Report,
-        fates: &[(TaskNo, Fate)],
-    ) -> Result<Vec<(TaskNo, Option<String>)>, Refusal> {
-        if !any_bad_call(report, fates) {
-            return Ok(Vec::new(alloc));
-        }
-        let Prepared { canvas, .. } = Prepared::of(alloc, self.text, self.setting.adapts)?;
-        let named = renamed(alloc, &canvas, self.setting.renames)?;
-        let foreseen = self.all_foreseen(alloc, &named)?;
-        Ok(blamed_of(alloc, &foreseen, report, fates)?)
-    }
-
     /// The report of a whole run as JSON lines.
     pub(crate) fn json_of(
         &self,
@@ -287,7 +179,7 @@ impl<'a, T: Tasks> Source<'a, T> {
             (run_line plans.now) plans.now.shown behaviour Json again (string_bytes text)) }
     {
         let fates = fates(alloc, plans.run(), report)?;
-        let blamed = self.blamed_in_run(alloc, report, &fates)?;
+        let blamed = blamed_in_run(alloc, self.setting.stubs, plans.run(), report, &fates)?;
         let told = Told {
             fates: &fates,
             blamed: &blamed,

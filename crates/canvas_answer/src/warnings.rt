@@ -220,7 +220,7 @@ impl Warnings {
             Expected::Answer => Ok(()),
             Expected::Unknown => self.push_unknown(signature, foreseen.forecast),
             Expected::TypeError(input) => {
-                self.push_type_error(signature, input, foreseen.blame())
+                self.push_type_error(signature, input, foreseen.blame.as_ref())
             }
         }
     }

@@ -242,25 +242,25 @@ texts_alike kind.Number n h = refl
 texts_alike kind.Numbers n h = refl
 texts_alike kind.TaskId n h = ap is_some some_task_named ∙ sym (ap is_some h)
 
-same_behind : (t : Builtin) (call : Call) (i : Input) (x : Flow) → kind_of x ≡ Some i → NamesATask x
-    → blamed t call i ≡ at_fault t (value x ++ call.args) call.kwargs
-same_behind t call i nothing k h = let same : i ≡ Nothing = cc in ap (blamed t call) same
-same_behind t call i (num n) k h =
+same_after : (t : Builtin) (call : Call) (i : Input) (x : Flow) → kind_of x ≡ Some i → NamesATask x
+    → blamed t call.args call.kwargs i ≡ at_fault t (value x ++ call.args) call.kwargs
+same_after t call i nothing k h = let same : i ≡ Nothing = cc in ap (blamed t call.args call.kwargs) same
+same_after t call i (num n) k h =
     let same : i ≡ Number = cc in
-    ap (blamed t call) same ∙ fault_alike t call.args call.kwargs (arg.Num (pos 0)) (arg.Num n) (numbers_alike (taken t) (pos 0) n)
-same_behind t call i (list ns) k h =
+    ap (blamed t call.args call.kwargs) same ∙ fault_alike t call.args call.kwargs (arg.Num (pos 0)) (arg.Num n) (numbers_alike (taken t) (pos 0) n)
+same_after t call i (list ns) k h =
     let same : i ≡ Numbers = cc in
-    ap (blamed t call) same ∙ fault_alike t call.args call.kwargs (arg.List []) (arg.List ns) (lists_alike (taken t) [] ns)
-same_behind t call i (id n) k h =
+    ap (blamed t call.args call.kwargs) same ∙ fault_alike t call.args call.kwargs (arg.List []) (arg.List ns) (lists_alike (taken t) [] ns)
+same_after t call i (id n) k h =
     let same : i ≡ Identifier = cc in
-    ap (blamed t call) same ∙ fault_alike t call.args call.kwargs (arg.Text some_task) (arg.Text (task_text n)) (texts_alike (taken t) n h)
-same_behind t call i (skip f) k h = absurd cc
-same_behind t call i (raised f) k h = absurd cc
+    ap (blamed t call.args call.kwargs) same ∙ fault_alike t call.args call.kwargs (arg.Text some_task) (arg.Text (task_text n)) (texts_alike (taken t) n h)
+same_after t call i (skip f) k h = absurd cc
+same_after t call i (raised f) k h = absurd cc
 
 whether_immutable : (b : Bool) (t : Builtin) (call : Call) (i : Input) (x : Flow) → kind_of x ≡ Some i → NamesATask x
-    → blamed t call (if b then Nothing else i) ≡ at_fault t (if b then call.args else value x ++ call.args) call.kwargs
+    → blamed t call.args call.kwargs (if b then Nothing else i) ≡ at_fault t (if b then call.args else value x ++ call.args) call.kwargs
 whether_immutable true t call i x k h = refl
-whether_immutable false t call i x k h = same_behind t call i x k h
+whether_immutable false t call i x k h = same_after t call i x k h
 
 pub blames_the_same : BlamesTheSameWhateverComes
 blames_the_same t call i x k h = whether_immutable call.immutable t call i x k h

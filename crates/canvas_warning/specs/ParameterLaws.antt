@@ -36,4 +36,5 @@ NamesATask (raised f) = Unit {0}
 abbrev pub BlamesTheSameWhateverComes : Type 0
 BlamesTheSameWhateverComes =
     (task : Builtin) (call : Call) (i : Input) (x : Flow) → kind_of x ≡ Some i → NamesATask x
-    → blamed task call (taken call i) ≡ at_fault task (arguments call x) call.kwargs
+    → blamed task call.args call.kwargs (taken call i)
+    ≡ at_fault task (arguments call x) call.kwargs

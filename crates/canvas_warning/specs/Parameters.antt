@@ -12,7 +12,6 @@ use Rattle.canvas_task.specs.declared.arg.Arg.TheVariants as arg
 use Rattle.canvas_task.specs.declared.builtin.ArgKind.{ArgKind}
 use Rattle.canvas_task.specs.declared.builtin.ArgKind.TheVariants as kind
 use Rattle.canvas_task.specs.declared.builtin.Builtin.{Builtin}
-use Rattle.canvas_semantics.specs.Tree.{Call}
 use Rattle.canvas_warning.specs.Calls.{some_task}
 use Rattle.canvas_warning.specs.declared.parameter.Wrong.{Wrong}
 use Rattle.canvas_warning.specs.declared.parameter.Wrong.TheVariants.{NoParameter, Missing, Twice, OtherKind}
@@ -76,6 +75,6 @@ front Number = arg.Num (pos 0) ∷ []
 front Numbers = arg.List [] ∷ []
 front Identifier = arg.Text some_task ∷ []
 
--- the same of a call that takes a value of a kind in front of its own arguments
-abbrev pub blamed : Builtin → Call → Input → Option Blamed
-blamed task call i = at_fault task (front i ++ call.args) call.kwargs
+-- the same of a call that takes a value of a kind before its own arguments
+abbrev pub blamed : Builtin → List Arg → List (Text × Arg) → Input → Option Blamed
+blamed task args named i = at_fault task (front i ++ args) named

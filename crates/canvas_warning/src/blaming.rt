@@ -8,15 +8,12 @@ ghost use Rattle.canvas_task.specs.Apply.{by_name};
 ghost use Rattle.canvas_task.specs.Builtin.{parameters, taken};
 ghost use Rattle.canvas_task.specs.declared.builtin.ArgKind.TheVariants.{TaskId};
 ghost use Rattle.canvas_task.specs.Entries.{named};
-ghost use Rattle.canvas_values.specs.ComposedRefusals.{its_call};
-ghost use Rattle.canvas_values.specs.SignatureView.{task_view};
 ghost use Rattle.canvas_warning.specs.Parameters.{fits, wrong_with, first_wrong, first_unknown, at_fault, blamed};
 ghost use Rattle.canvas_warning.specs.declared.parameter.Wrong.TheVariants.{OtherKind};
 
 use crate::call::some_task;
 use crate::{Blame, Input, Wrong};
-use canvas_task::{Arg, ArgKind, Builtin, ListOf, copy_args, task_of_text};
-use canvas_values::TaskSig;
+use canvas_task::{Arg, ArgKind, Builtin, ListOf, MapOf, copy_args, task_of_text};
 use std::alloc::{AllocError, Global};
 use std::collections::BTreeMap;
 
@@ -167,38 +164,41 @@ fn at_fault<'a>(task: Builtin, args: &[Arg], kwargs: &'a BTreeMap<String, Arg>) 
     }
 }
 
-/// What a call is to blame for with one argument in front of its own.
-fn at_fault_behind<'a>(
+/// What a call is to blame for with one argument before its own.
+fn at_fault_after<'a>(
     task: Builtin,
-    sig: &'a TaskSig,
     arg: Arg,
+    args: &ListOf<Arg>,
+    kwargs: &'a MapOf<Arg>,
 ) -> Result<Option<Blame<'a>>, AllocError>
     ensures { IfOk result (λ blame. option_map (λ b. (b.parameter.now, b.wrong)) blame
-        ≡ at_fault task (arg ∷ (its_call (task_view sig.now)).args)
-        (its_call (task_view sig.now)).kwargs) }
+        ≡ at_fault task (arg ∷ args.now) kwargs.now) }
 {
-    let mut args = copy_args(&sig.args)?.into_plain();
-    args.insert(0, arg)?;
-    Ok(at_fault(task, &args, sig.kwargs.get()))
+    let mut all = copy_args(args)?.into_plain();
+    all.insert(0, arg)?;
+    Ok(at_fault(task, &all, kwargs.get()))
 }
 
-/// The parameter that makes a call of a built-in task a TypeError, where a value of this kind
-/// stands in front of its own arguments: a keyword that is no parameter, or else the first of the
+/// The parameter that makes a call of a built-in task with these arguments a TypeError, where a
+/// value of this kind comes before them: a keyword that is no parameter, or else the first of the
 /// task's parameters that has no argument, two, or one of another kind. None where there are too
 /// many positional arguments, or where the call is no TypeError.
 pub fn blamed<'a>(
     alloc: Global,
     task: Builtin,
-    sig: &'a TaskSig,
+    args: &ListOf<Arg>,
+    kwargs: &'a MapOf<Arg>,
     input: Input,
 ) -> Result<Option<Blame<'a>>, AllocError>
     ensures { IfOk result (λ blame. option_map (λ b. (b.parameter.now, b.wrong)) blame
-        ≡ blamed task (its_call (task_view sig.now)) input) }
+        ≡ blamed task args.now kwargs.now input) }
 {
     match input {
-        Input::Nothing => Ok(at_fault(task, sig.args.get(), sig.kwargs.get())),
-        Input::Number => at_fault_behind(task, sig, Arg::Num(0)),
-        Input::Numbers => at_fault_behind(task, sig, Arg::List(ListOf::of(Vec::new(alloc)))),
-        Input::Identifier => at_fault_behind(task, sig, some_task(alloc)?),
+        Input::Nothing => Ok(at_fault(task, args.get(), kwargs.get())),
+        Input::Number => at_fault_after(task, Arg::Num(0), args, kwargs),
+        Input::Numbers => {
+            at_fault_after(task, Arg::List(ListOf::of(Vec::new(alloc))), args, kwargs)
+        }
+        Input::Identifier => at_fault_after(task, some_task(alloc)?, args, kwargs),
     }
 }
