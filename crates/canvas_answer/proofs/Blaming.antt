@@ -23,13 +23,13 @@ strip_list [] = refl
 strip_list (t ∷ ts) = ap (λ us. and_task (task_in t) us) (strip_list ts)
 
 pub three : {X : Type 0} (before xs ys zs ys' zs' a b : List X) → a ≡ before ++ xs → b ≡ a ++ ys → ys ≡ ys' → zs ≡ zs'
-    → b ++ zs ≡ before ++ (xs ++ (ys' ++ zs'))
+    → b ++ zs ≡ before ++ ((xs ++ ys') ++ zs')
 three before xs ys zs ys' zs' a b ha hb hy hz =
-    (λ i. (hb ∙ ap (λ w. w ++ ys) ha ∙ ap (λ w. (before ++ xs) ++ w) hy) i ++ hz i)
-    ∙ append_assoc (before ++ xs) ys' zs' ∙ append_assoc before xs (ys' ++ zs')
+    (λ i. (hb ∙ ap (λ w. w ++ ys) ha ∙ append_assoc before xs ys ∙ ap (λ w. before ++ (xs ++ w)) hy) i ++ hz i)
+    ∙ append_assoc before (xs ++ ys') zs'
 
 -- the call of a task
-pub call_made : FrozenTask → Call
+abbrev pub call_made : FrozenTask → Call
 call_made t =
     record {
       name = (out-FrozenTask t).name;

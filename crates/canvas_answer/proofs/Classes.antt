@@ -10,7 +10,7 @@ use Rattle.canvas_report.specs.Fates.{Fates, fate_at}
 use Rattle.canvas_report.specs.declared.fate.Fate.{Fate}
 use Rattle.canvas_report.specs.declared.fate.Fate.TheVariants.{Ran, Skipped, Idle}
 use Rattle.canvas_answer.specs.Raised.{class_by, class_within, class_of}
-use Rattle.canvas_answer.specs.steps.Classes.{seen_class, class_in, class_at}
+use Rattle.canvas_answer.specs.steps.Classes.{seen_class, class_at}
 
 -- ---- lists that grow
 

@@ -1,5 +1,5 @@
 -- What is told of rows that show the states of a run and the classes of its exceptions.
-use Rattle.std.proofs.Common.{◌≡◌, ◌∙◌, ◌==◌, ℕ, true, List, [], ◌∷◌, length, Option, None, String, Global, Result, IfOk, refl, sym, subst}
+use Rattle.std.proofs.Common.{◌≡◌, ◌∙◌, ◌==◌, ℕ, true, List, [], length, Option, None, String, Global, sym, subst}
 use Rattle.std.proofs.lemmas.Bool.{eqb-true}
 use Rattle.std.proofs.lemmas.List.{nil_from_length}
 use Rattle.canvas_task.specs.Apply.{Behaviour}
@@ -44,8 +44,11 @@ told_json its run shown behaviour fs ss blamed again text f s b h = (
   h.0,
   subst (λ xs. AreShown (class_of (fates behaviour run) (own_class its.stubs its.errors run)) xs h.0) s
       (subst (λ gs. AreShown (class_of gs (own_class its.stubs its.errors run)) ss h.0) f h.1),
-  (blamed, b ∙ (λ i. blames its.stubs (f i) (s i) run),
-    subst (λ gs. IsJsonOf gs blamed again h.0 (tree_of shown) text) f h.2),
+  (
+    blamed,
+    b ∙ (λ i. blames its.stubs (f i) (s i) run),
+    subst (λ gs. IsJsonOf gs blamed again h.0 (tree_of shown) text) f h.2,
+  ),
 )
 
 pub told_plain : (its : Asking) (run shown : Line) (behaviour : Behaviour) (ss : List State) (again : Option ℕ) (text : Text)

@@ -2,6 +2,7 @@
 ghost use Rattle.std.specs.Prelude.{◌≡◌, ◌++◌, IfOk, OnOk, map, option_map, string_bytes};
 ghost use Rattle.canvas_report.specs.Fates.{fate_at};
 ghost use Rattle.canvas_rewrite.specs.FrozenView.{end_in, line_in, task_in};
+ghost use Rattle.canvas_rewrite.specs.declared.frozen.FrozenTask.{out-FrozenTask};
 ghost use Rattle.canvas_answer.specs.Blamed.{AreBlames, blame, blame_said, blames, builtin_done, builtin_of, is_bad_call, is_called, line_blames, own_blames, task_blames};
 ghost use Rattle.canvas_answer.specs.steps.BlamedLists.{call_in, callbacks_blames, chain_blames, input_after, lines_blames_of, tail_blames};
 
@@ -102,7 +103,7 @@ fn push_own(
     found: &mut Vec<(TaskNo, Option<String>)>,
 ) -> Result<(), AllocError>
     ensures { OnOk result (map blame_said found.new.items ≡ map blame_said found.old.items
-        ++ own_blames stubs.now (is_bad_call fates.now report.now.rows) task.now.no
+        ++ own_blames stubs.now (is_bad_call fates.now report.now.rows) (out-FrozenTask task.now).no
         (call_in (task_in task.now)) input) }
 {
     if !is_bad_call(report, fates, task.no) {

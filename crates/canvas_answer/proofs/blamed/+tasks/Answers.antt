@@ -1,4 +1,4 @@
-use Rattle.std.proofs.Common.{refl, ◌∙◌, ◌++◌, map, ap, sym, append_assoc}
+use Rattle.std.proofs.Common.{refl, ◌∙◌, ◌++◌, map, ap, sym}
 use Rattle.canvas_task.proofs.Turns.{put_on, put_all}
 use Rattle.canvas_rewrite.specs.FrozenView.{task_in}
 use Rattle.canvas_rewrite.specs.declared.frozen.FrozenTask.{out-FrozenTask}

@@ -9,5 +9,5 @@ invariant-loop-task l =
     (map blame_said l.found.items
     ++ chain_blames l.stubs (is_bad_call l.fates l.report.rows) (map task_in (drop l.task-index l.tasks)) l.comes
     ≡ map blame_said l.fn.found.items
-    ++ chain_blames l.stubs (is_bad_call l.fates l.report.rows) (map task_in l.tasks) l.input)
-    × (input_after (map task_in (drop l.task-index l.tasks)) l.comes ≡ input_after (map task_in l.tasks) l.input)
+    ++ chain_blames l.stubs (is_bad_call l.fates l.report.rows) (map task_in l.tasks) l.fn.input)
+    × (input_after (map task_in (drop l.task-index l.tasks)) l.comes ≡ input_after (map task_in l.tasks) l.fn.input)

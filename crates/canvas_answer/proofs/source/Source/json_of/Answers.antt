@@ -15,7 +15,7 @@ returns g c = λ behaviour rows.
     let here = rows ∙ ap (λ l. states behaviour (tree_of l)) (sym c.run.ensures) in
     let found = c.deref-2.ensures.value ∙ c.in_ok-fates.ensures.evaluated behaviour here ∙ ap (fates behaviour) c.run.ensures in
     let blamed = ap (map blame_said) c.deref-3.ensures.value ∙ c.in_ok-blamed.ensures
-    ∙ (λ i. blames c.args.self.now.setting.stubs.now (c.deref.ensures.value i) c.args.report.now.rows (c.run.ensures i)) in
+    ∙ (λ i. blames c.args.self.now.setting.stubs.now ((c.deref.ensures.value ∙ sym c.deref-2.ensures.value) i) c.args.report.now.rows (c.run-2.ensures i)) in
     let numbered = ap (map (λ f. f.0)) c.deref-2.ensures.value ∙ c.in_ok-fates.ensures.numbered in
     IfOk-weaker c.json_told.result _ _
     (λ text h. told_json (asking c.args.self.now.setting) (run_line c.args.plans.now) c.args.plans.now.shown behaviour c.deref-2.result.now
