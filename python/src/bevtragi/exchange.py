@@ -2,9 +2,10 @@
 
 from __future__ import annotations
 
+import contextlib
 import os
 import tempfile
-from typing import Any
+from typing import Any, Iterator
 
 from .calling import ask
 from .errors import BadCall, CanvasError, hidden
@@ -12,7 +13,8 @@ from .reports import Report
 from .stored import Stored
 from .texts import Canvas, is_huge, text_of, values
 
-__all__ = ["collect", "export"]
+__all__ = ["by_client", "collect", "collected", "commands_of", "export", "keys_of", "on_file",
+           "results"]
 
 __tracebackhide__ = hidden
 
@@ -27,7 +29,7 @@ def export(canvas: Canvas, client: Any, **options: Any) -> str:
     words = [f"--{name.replace('_', '-')}={value}" for name, value in options.items()]
     said = ask(["export", "-", f"--run={number}", *words], text_of(canvas))[0]
     for command in commands_of(said.encode()):  # one; none of a canvas without tasks
-        _by(client, "execute_command", *command)
+        by_client(client, "execute_command", *command)
     return number
 
 
@@ -60,7 +62,7 @@ def commands_of(text: bytes) -> list[list[bytes]]:
     return found
 
 
-def _by(client: Any, command: str, *words: Any) -> Any:
+def by_client(client: Any, command: str, *words: Any) -> Any:
     """What a client answers. Whatever it raises is a CanvasError."""
     try:
         return getattr(client, command)(*words)
@@ -68,9 +70,9 @@ def _by(client: Any, command: str, *words: Any) -> Any:
         raise CanvasError(f"Redis: {type(error).__name__}: {error}") from error
 
 
-def _results(client: Any, keys: list[str]) -> list[str | bytes | None]:
+def results(client: Any, keys: list[str]) -> list[str | bytes | None]:
     """What is stored under each key."""
-    found = _by(client, "mget", keys) if keys else []
+    found = by_client(client, "mget", keys) if keys else []
     if not isinstance(found, (list, tuple)) or len(found) != len(keys) or \
             not all(it is None or isinstance(it, (str, bytes)) for it in found):
         raise CanvasError(f"Redis: mget of {len(keys)} keys answers otherwise: {found!r:.60}")
@@ -84,17 +86,32 @@ def collect(canvas: Canvas, client: Any, run: str, complete: bool = False,
     Celery leaves them pending. A stored result that can't be read is an Unreadable. Raises
     CanvasError for the result of another task, and for what the client raises."""
     text = text_of(canvas)
-    keys = ask(["keys", "-", f"--run={run}", f"--prefix={prefix}"], text)[0].split("\n")[:-1]
-    stored = Stored(keys, _results(client, keys))
+    keys = keys_of(text, run, prefix)
+    *rows, end = collected(text, run, Stored(keys, results(client, keys)), complete)
+    return Report(rows, end)
+
+
+def keys_of(text: bytes, run: str, prefix: str) -> list[str]:
+    """The key of each task's result."""
+    return ask(["keys", "-", f"--run={run}", f"--prefix={prefix}"], text)[0].split("\n")[:-1]
+
+
+@contextlib.contextmanager
+def on_file(text: bytes) -> Iterator[str]:
+    """The path of a temporary file with a text."""
     try:
         with tempfile.NamedTemporaryFile(suffix=".json") as file:
             file.write(text)
             file.flush()
-            words = ["collect", file.name, f"--run={run}"] + ["--complete"] * complete
-            *rows, end = _collected(words, stored)
+            yield file.name
     except OSError as error:
         raise CanvasError(f"there is no place for a temporary file: {error}") from error
-    return Report(rows, end)
+
+
+def collected(text: bytes, run: str, stored: Stored, complete: bool) -> list[dict[str, Any]]:
+    """What the program tells of a run's stored results: of each task, and of the canvas."""
+    with on_file(text) as path:
+        return _collected(["collect", path, f"--run={run}"] + ["--complete"] * complete, stored)
 
 
 def _collected(words: list[str], stored: Stored) -> list[dict[str, Any]]:
