@@ -220,6 +220,15 @@ class Options(Silent):
         self.assertIn("has no task of this name", said[1])
         self.assertEqual(len(said), 2)
 
+    def test_links_that_are_never_called_are_told(self):
+        def undo(request, exc, traceback):
+            pass
+        app = App(tasks={"undo": SimpleNamespace(__header__=undo, run=undo),
+                         "a": SimpleNamespace(run=lambda: 0), "log": SimpleNamespace(run=abs)})
+        flow = task("a", link_error=[task("undo", link=[task("log")])])
+        self.assertEqual(self.warned(flow, app)[1],
+                         ["Celery calls #2 undo in place, and not its link log"])
+
     def test_a_canvas_that_is_refused_starts_nothing(self):
         client = Server().client()
         with self.assertRaises(Refused):

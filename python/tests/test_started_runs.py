@@ -201,6 +201,17 @@ class OnCelery(Runs):
         self.assertEqual([row.ran for row in report], [True, True, None, None])
         self.assertEqual({**report.silent}[3], "it follows a task of which Celery makes no message")
 
+    def test_one_that_does_not_take_the_call_is_not_called(self):
+        def with_a_default(_uuid, channel="#ops"):
+            pass
+        app = App(tasks={"x": in_place(with_a_default)})
+        run = self.started(task("a", link_error=[task("x")]), app)
+        self.fails(1, "TypeError")
+        self.assertEqual([row.ran for row in run.wait(0)], [True, None])
+        run = self.started(task("a", link_error=[{**task("x", 1), "immutable": True}]), app)
+        self.fails(1)
+        self.assertEqual([row.ran for row in run.wait(0)], [True, True])
+
     def test_a_task_whose_results_are_ignored(self):
         app = App(tasks={"shop.b": SimpleNamespace(run=print, ignore_result=True)})
         run = self.started(THREE, app)

@@ -10,7 +10,7 @@ from .errors import hidden
 from .marking import Tree, callbacks_of, kind_of
 from .outcomes import Warning
 
-__all__ = ["is_called_in_place", "misfits"]
+__all__ = ["IN_PLACE", "is_called_in_place", "misfits", "refusal"]
 
 __tracebackhide__ = hidden
 
@@ -60,7 +60,7 @@ def _of_name(sig: Any, at: str, app: Any) -> Iterator[Warning]:
 
 def _of_task(sig: Tree, at: str, given: int, app: Any) -> Iterator[Warning]:
     yield from _of_name(sig, at, app)
-    error = _refusal(sig, given, app)
+    error = refusal(sig, given, app)
     if error:
         yield Warning("WrongCall", sig["task"], at, f"its parameters don't take the call: {error}")
 
@@ -71,13 +71,13 @@ def _of_callback(sig: Tree, at: str, app: Any) -> Iterator[Warning]:
         return
     in_place = is_called_in_place(app.tasks[sig["task"]])
     given = 0 if sig.get("immutable") else IN_PLACE if in_place else 1
-    error = _refusal(sig, given, app)
+    error = refusal(sig, given, app)
     if error:
         how = "in place with request, exception and traceback" if in_place else "with an identifier"
         yield Warning("ErrorCallback", sig["task"], at, f"Celery calls it {how}: {error}")
 
 
-def _refusal(sig: Tree, given: int, app: Any) -> str:
+def refusal(sig: Tree, given: int, app: Any) -> str:
     """Why a task doesn't take its arguments after `given` others; empty if it takes them."""
     if sig.get("task") not in app.tasks:
         return ""

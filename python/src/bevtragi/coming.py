@@ -10,7 +10,7 @@ from __future__ import annotations
 
 from typing import Any, Dict, FrozenSet, Iterator, List, Mapping, NamedTuple, Set, Union
 
-from .binding import is_called_in_place
+from .binding import IN_PLACE as IN_PLACE_GIVEN, is_called_in_place, refusal
 from .errors import CanvasError, hidden
 from .marking import Tree, callbacks_of, kind_of
 from .rehearsed_program import Failed, RehearsedProgram
@@ -39,11 +39,13 @@ Dropped = Mapping[int, str]
 
 class Lines:
     """The lines of a canvas (docs/SEMANTICS.md), with the tasks' numbers. `names` are the tasks in
-    the order of their numbers, and `owners` the task of each error callback."""
+    the order of their numbers; of error callbacks `owners` are their tasks, and `signatures` what
+    is written of them."""
 
     def __init__(self, canvas: Tree) -> None:
         self.names: List[str] = []
         self.owners: Dict[int, int] = {}
+        self.signatures: Dict[int, Tree] = {}
         self.forks: List[Fork] = []
         self.top = self._line([canvas])
 
@@ -72,7 +74,7 @@ class Lines:
         self.names.append(sig["task"])
         number = len(self.names)
         if owner:
-            self.owners[number] = owner
+            self.owners[number], self.signatures[number] = owner, sig
         for it in callbacks_of(sig, "link"):
             self._task(it, 0)
         for it in callbacks_of(sig, "link_error"):
@@ -122,17 +124,28 @@ class Coming:
         self.program, self.lines, self.app = RehearsedProgram(canvas), Lines(canvas), app
         if self.lines.names != [*self.program.names.values()]:
             raise CanvasError("the tasks of this canvas aren't numbered as the program does")
-        #: The error callbacks that Celery calls in place, and the first one of each task: if that
-        #: raises, the others aren't called.
+        #: The error callbacks that Celery calls in place, with their tasks.
         self.in_place = {number: owner for number, owner in self.lines.owners.items()
                          if is_called_in_place(self._task(number))}
-        self.surely = frozenset({owner: number for number, owner
-                                 in sorted(self.in_place.items(), reverse=True)}.values())
+        #: The first one of each task that takes such a call: if one raises, others aren't called.
+        firsts = {owner: number for number, owner in sorted(self.in_place.items(), reverse=True)}
+        self.surely = frozenset(number for number in firsts.values() if self._takes(number))
 
     def _task(self, number: int) -> Any:
         """The application's task."""
         name = self.lines.names[number - 1]
         return None if self.app is None else self.app.tasks.get(name)
+
+    def _takes(self, number: int) -> bool:
+        """Whether an error callback takes the call in place."""
+        sig = self.lines.signatures[number]
+        return not refusal(sig, 0 if sig.get("immutable") else IN_PLACE_GIVEN, self.app)
+
+    def never(self) -> List[str]:
+        """Links that Celery never calls, since it calls their tasks in place, as they are told."""
+        return [f"Celery calls #{number} {self.lines.names[number - 1]} in place, and not its link"
+                f" {it['task']}" for number in sorted(self.in_place)
+                for it in callbacks_of(self.lines.signatures[number], "link")]
 
     def firsts(self) -> List[str]:
         """The names of the tasks that are called first."""

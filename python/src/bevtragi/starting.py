@@ -60,7 +60,8 @@ def start(flow: Canvas, app: Any = None, client: Any = None, *, number: Any = No
     place = place._replace(queue=queue_of(app, coming.firsts(), place, queue))
     commands, said = _commands(canvas, place, digits)
     run = Run(digits, canvas, place, coming, lines_after(said, "ignored "))
-    _warn(run.ignored, canvas, app)
+    _warn([*(f"this start doesn't heed {it}" for it in run.ignored), *coming.never(),
+           *(map(str, misfits(canvas.tree, app)) if app is not None else ())])
     for command in commands:  # one; none of a canvas without tasks
         _send(place, command, digits, is_new=number is None)
     return run
@@ -118,10 +119,7 @@ def _send(place: Place, command: List[bytes], digits: str, is_new: bool) -> None
                                 " run_of() takes it up") from error
 
 
-def _warn(ignored: List[str], canvas: Placed, app: Any) -> None:
+def _warn(sentences: List[str]) -> None:
     """Warns the caller of start()."""
-    said = [f"this start doesn't heed {it}" for it in ignored]
-    if app is not None:
-        said += map(str, misfits(canvas.tree, app))
-    for it in said:
+    for it in sentences:
         warnings.warn(it, NotHeeded, stacklevel=3)
