@@ -26,7 +26,7 @@ sys.dont_write_bytecode = True
 HERE = Path(__file__).resolve().parent
 PYTHON = os.environ.get("PYTHON") or sys.executable
 #: How long a run may take, and how long a caller waits for a result of a run that has ended.
-SECONDS, GET_SECONDS = 10, 2
+SECONDS, GET_SECONDS = 30, 2
 
 
 def ended(flow, rests):

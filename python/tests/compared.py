@@ -1,9 +1,11 @@
 """How runs on real workers compare with what each flow means: the table of docs/CELERY.md.
 
-    python3 compared.py       prints it, from flows/started-VERSION.jsonl; it needs Celery
+    python3 compared.py       prints it, from flows/started-VERSION.jsonl and
+                              flows/by-start-VERSION.jsonl; it needs Celery
 
 A run is alike if the same tasks are called as often and the caller's `get()` ends as the report
-says: with a value, or with an exception, and not never.
+says: with a value, or with an exception, and not never. Of a run that start() began, wait() has to
+end, too.
 """
 
 import json
@@ -25,10 +27,21 @@ from user_tasks import OutOfStock
 VERSIONS = ("5.2.6", "5.5.2")
 
 
-def runs(version):
-    """The runs of a version that are written down."""
-    file = HERE / "flows" / f"started-{version}.jsonl"
+#: How a flow is started: as it is, as cured() gives it, and by start().
+KINDS = ("started", "cured", "start")
+
+
+def lines(name, version):
+    file = HERE / "flows" / f"{name}-{version}.jsonl"
     return [json.loads(line) for line in file.read_text().splitlines()]
+
+
+def runs(version):
+    """The runs of a version that are written down, with each kind of start."""
+    by_start = {(it["flow"], it["fails"]): it for it in lines("by-start", version)
+                if it["of"] == "user"}
+    return [{**it, "start": by_start[it["flow"], it["fails"]]}
+            for it in lines("started", version)]
 
 
 def meant(flow, fails):
@@ -45,8 +58,8 @@ def meant(flow, fails):
 def is_alike(here, there):
     """Whether a run on workers is what is meant."""
     called, succeeds = here
-    return there["called"] == called and there["get"] != "WAITS" and \
-        (there["get"] == "SUCCESS") == succeeds
+    return there["called"] == called and not there.get("waits_for") and \
+        there["get"] != "WAITS" and (there["get"] == "SUCCESS") == succeeds
 
 
 def counts():
@@ -56,7 +69,7 @@ def counts():
         for row in runs(version):
             here = meant(row["flow"], row["fails"])
             counted = found.setdefault(row["flow"], {"runs": {}, "refused": here is None})
-            for kind in ("started", "cured"):
+            for kind in KINDS:
                 alike = counted["runs"].setdefault((kind, version), [])
                 alike.append(here is not None and is_alike(here, row[kind]))
     return found
@@ -64,20 +77,21 @@ def counts():
 
 def table():
     """The table: the flows of which a run isn't alike, and how many there are."""
-    lines = ["| Flow | Runs | 5.2.6 | 5.5.2 | `cured()`, 5.2.6 | `cured()`, 5.5.2 |",
-             "|---|---|---|---|---|---|"]
-    order = [(kind, version) for kind in ("started", "cured") for version in VERSIONS]
+    rows = ["| Flow | Runs | 5.2.6 | 5.5.2 | `cured()`, 5.2.6 | `cured()`, 5.5.2 |"
+            " `start()`, 5.2.6 | `start()`, 5.5.2 |",
+            "|---|---|---|---|---|---|---|---|"]
+    order = [(kind, version) for kind in KINDS for version in VERSIONS]
     found = counts()
     shown = {name: it for name, it in found.items()
              if it["refused"] or not all(map(all, it["runs"].values()))}
     for name, it in shown.items():
-        cells = ["refused here"] * 4 if it["refused"] else \
+        cells = ["refused here"] * len(order) if it["refused"] else \
             [str(sum(it["runs"][key])) for key in order]
-        lines.append(f"| `{name}` | {len(it['runs'][order[0]])} | {' | '.join(cells)} |")
+        rows.append(f"| `{name}` | {len(it['runs'][order[0]])} | {' | '.join(cells)} |")
     others = [it for name, it in found.items() if name not in shown]
     count = str(sum(len(it["runs"][order[0]]) for it in others))
-    lines.append(f"| {len(others)} others | {count} | {' | '.join([count] * 4)} |")
-    return "\n".join(lines)
+    rows.append(f"| {len(others)} others | {count} | {' | '.join([count] * len(order))} |")
+    return "\n".join(rows)
 
 
 if __name__ == "__main__":

@@ -16,6 +16,7 @@ class Server:
 
     def __init__(self, run_id="one"):
         self.databases, self.published, self.run_id = {}, [], run_id
+        self.listeners = []
 
     def client(self, database=0, **connection):
         return Client(self, database, {"host": "here", "port": 6379, "db": database, **connection})
@@ -54,7 +55,14 @@ class Client:
 
     def publish(self, channel, text):
         self.server.published.append((channel, text))
-        return 0
+        for it in self.server.listeners:
+            it.hear(channel, text)
+        return len(self.server.listeners)
+
+    def pubsub(self, ignore_subscribe_messages):
+        assert ignore_subscribe_messages
+        self.server.listeners.append(Listener())
+        return self.server.listeners[-1]
 
     def eval(self, _script, count, *words):
         """What the program's script does."""
@@ -73,6 +81,24 @@ class Client:
         for text in texts:
             broker.keys.setdefault(queue, []).insert(0, text)
         return len(texts)
+
+
+class Listener:
+    """Who listens to channels."""
+
+    def __init__(self):
+        self.channels, self.told = set(), []
+
+    def subscribe(self, *channels):
+        self.channels.update(channels)
+
+    def hear(self, channel, text):
+        if channel in self.channels:
+            self.told.append({"type": "message", "channel": channel.encode(),
+                              "data": text.encode()})
+
+    def get_message(self):
+        return self.told.pop(0) if self.told else None
 
 
 def messages(client, queue="celery"):

@@ -219,9 +219,11 @@ class OnCelery(Runs):
         with self.assertRaisesRegex(NotEnded, "waits for #3 shop.c"):
             run.wait(0)
         self.store(3)
-        self.assertEqual(run.wait(0).silent, {2: "its results are ignored"})
+        self.assertEqual(run.wait(0).silent, {
+            2: "its result isn't stored, and a task after it was called"})
         last = self.started(task("shop.b"), app)
-        self.assertEqual(last.wait(0)[1].ran, None)
+        self.assertEqual((last.wait(0)[1].ran, last.wait(0).silent),
+                         (None, {1: "its results are ignored"}))
 
     def test_a_task_that_no_worker_has(self):
         run = self.started(ORDER)
@@ -273,6 +275,67 @@ class OnCelery(Runs):
         run = self.started(chord([task("a"), task("b")], body))
         self.fails(1), self.store(2)
         self.assertEqual([*run.wait(0).silent], [4])
+
+
+class Told(Runs):
+    """A task that retries at once may have ended before it is stored that it retries."""
+
+    def tell(self, number, status, result):
+        key = self.run_.keys[number - 1]
+        self.server.client().publish(key, json.dumps({
+            "status": status, "result": result, "task_id": key[-36:], "traceback": ".."}))
+
+    def test_an_end_that_was_told_counts(self):
+        run = self.started(THREE)
+        self.store(1), self.store(2)
+        self.tell(3, "RETRY", None)
+        self.store(3, "RETRY", {"exc_type": "OSError", "exc_message": []})
+        self.assertEqual(run.report().due(), ["#3 shop.c (RETRY)"])
+        self.tell(3, "SUCCESS", {"tries": 2})
+        self.assertEqual(run.wait(0).result, {"tries": 2})
+        self.assertEqual(run.wait(0).result, {"tries": 2})
+        self.assertEqual(start(THREE, client=self.server.client()).report().pending,
+                         ["shop.a", "shop.b", "shop.c"])
+
+    def test_a_failure_that_was_told_counts(self):
+        run = self.started(THREE)
+        self.store(1, "RETRY", None)
+        self.tell(1, "FAILURE", {"exc_type": "Lost", "exc_message": ["A"], "exc_module": "shop"})
+        self.assertEqual(run.wait(0).failed, ["shop.a", "shop.b", "shop.c"])
+        self.assertEqual(run.settle(), ["shop.b", "shop.c"])
+
+    def test_what_is_stored_as_an_end_counts_first(self):
+        run = self.started(task("shop.a"))
+        self.tell(1, "FAILURE", {"exc_type": "Lost", "exc_message": []})
+        self.store(1, result=5)
+        self.assertEqual(run.wait(0).result, 5)
+
+    def test_a_task_has_ended_if_one_after_it_has_begun(self):
+        run = self.started(THREE)
+        self.store(1, "RETRY", None)
+        self.store(2, "STARTED", None)
+        self.assertEqual(run.report().due(), ["#2 shop.b (STARTED)"])
+        self.store(2), self.store(3)
+        report = run.wait(0)
+        self.assertEqual((report[1].ran, report.ran),
+                         (True, ["shop.a", "shop.b", "shop.c"]))
+        self.assertEqual({**report.silent}, {
+            1: "its result isn't stored, and a task after it was called"})
+
+    def test_nothing_is_heard_without_a_connection(self):
+        def none(**_):
+            raise OSError("no connection")
+        for broken in (none, lambda **_: None):
+            client = Server().client()
+            client.pubsub = broken
+            run = start(THREE, client=client)
+            self.assertEqual(run.report().due(), ["#1 shop.a"])
+
+    def test_what_is_not_celerys_is_left(self):
+        run = self.started(THREE)
+        for text in ("7", "[]", "no JSON", '{"status": []}', "null"):
+            self.server.client().publish(run.keys[0], text)
+        self.assertEqual(run.report().due(), ["#1 shop.a"])
 
 
 class Settling(Runs):

@@ -5,16 +5,16 @@ from __future__ import annotations
 import datetime
 import functools
 import json
-import re
 import time
 from typing import Any, Dict, FrozenSet, List, NamedTuple, Union
 
 from .coming import IN_PLACE, Coming
 from .errors import BadCall, CanvasError, hidden
 from .exchange import by_client, collected, keys_of, results
+from .heard import ENDS, Heard
 from .placed import Placed
 from .places_of_apps import Place
-from .rehearsed_program import identifier_of, number_of
+from .rehearsed_program import identifier_of
 from .started_reports import NotEnded, StartedReport
 from .stored import Stored
 
@@ -24,10 +24,8 @@ __tracebackhide__ = hidden
 
 #: The pauses between two looks at the results, in seconds.
 FIRST_PAUSE, LONGEST_PAUSE = 0.01, 0.5
-#: The states of tasks that have ended. REVOKED is a failure without a call.
-ENDS = ("SUCCESS", "FAILURE", "REVOKED")
-#: An identifier in what the program tells, which has no run.
-TOLD = re.compile("00000000-0000-8000-8000-0000[0-9a-f]{8}")
+#: Why the result of a task that was called isn't known.
+PASSED = "its result isn't stored, and a task after it was called"
 
 Found = Union[str, bytes, None]
 
@@ -37,6 +35,15 @@ class Told(NamedTuple):
     text: Found
     state: str
     dropped: bool
+
+
+class Seen(NamedTuple):
+    """What is stored of each task, which of them failed, and who is to come: the tasks of which no
+    result comes, and why; and those that a worker may take, with their states."""
+    told: List[Told]
+    failed: FrozenSet[int]
+    silent: Dict[int, str]
+    due: Dict[int, str]
 
 
 class Run:
@@ -53,6 +60,7 @@ class Run:
         self.number, self.ignored, self.adapted = number, ignored, placed.adapted
         self._placed, self._place, self._coming = placed, place, coming
         self.keys: List[str] = keys_of(placed.text, number, place.prefix)
+        self._heard = Heard(place.client, self.keys)
 
     def __repr__(self) -> str:
         return f"<Run {self.number} of {len(self.keys)} tasks>"
@@ -60,7 +68,7 @@ class Run:
     def report(self) -> StartedReport:
         """The report so far, which waits for nothing. Tasks that a failure reaches fail by the rule
         of the program, also where Celery leaves them pending."""
-        return self._report_of(results(self._place.client, self.keys))
+        return self._report_of(self._seen(self._found()))
 
     def wait(self, timeout: float | None = None) -> StartedReport:
         """The report, once all tasks have ended that will ever be called. Raises NotEnded, which
@@ -68,20 +76,24 @@ class Run:
         if timeout is not None and not isinstance(timeout, (int, float)):
             raise BadCall(f"timeout is a number of seconds, not {timeout!r:.60}")
         until = None if timeout is None else time.monotonic() + timeout
-        pause, last, report = FIRST_PAUSE, None, None  # type: Any, Any, Any
+        pause, last, seen = FIRST_PAUSE, None, None  # type: float, Any, Any
         while True:
-            found = results(self._place.client, self.keys)
-            if report is None or found != last:
-                pause, last, report = FIRST_PAUSE, found, self._report_of(found)
-            if report.ended:
-                return report  # type: ignore[no-any-return]
+            found = self._found()
+            if seen is None or found != last:
+                pause, last, seen = FIRST_PAUSE, found, self._seen(found)
+            if not seen.due:
+                return self._report_of(seen)
             left = LONGEST_PAUSE if until is None else until - time.monotonic()
             if left <= 0:
-                raise NotEnded(f"after {timeout} seconds run {self.number} waits for"
-                               f" {', '.join(report.due())}: does a worker take them, from the"
-                               f" queue {self._place.queue} or that of their route?", report)
+                raise self._not_ended(seen, f"after {timeout} seconds ", "does a worker take them,"
+                                      f" from the queue {self._place.queue} or that of their route?")
             time.sleep(min(pause, left))
             pause = min(2 * pause, LONGEST_PAUSE)
+
+    def _not_ended(self, seen: Seen, before: str, after: str) -> NotEnded:
+        report = self._report_of(seen)
+        return NotEnded(f"{before}run {self.number} waits for {', '.join(report.due())}: {after}",
+                        report)
 
     @functools.cached_property
     def result(self) -> Any:
@@ -98,14 +110,12 @@ class Run:
         """Stores for Celery the failure of each task that a failure reaches and Celery leaves
         pending, so that its `get()` ends, too. What is stored is never changed. It gives the names
         of these tasks. Raises NotEnded if a task still comes."""
-        found = [_told(it) for it in results(self._place.client, self.keys)]
-        report = self._report_of([it.text for it in found])
-        if not report.ended:
-            raise NotEnded(f"run {self.number} waits for {', '.join(report.due())}: wait() first",
-                           report)
-        return [row.name for row, told in zip(report.rows, found)
+        seen = self._seen(self._found())
+        if seen.due:
+            raise self._not_ended(seen, "", "wait() first")
+        return [row.name for row, told in zip(self._report_of(seen), seen.told)
                 if row.status == "FAILURE" and told.state == "PENDING"
-                and self._store(row.number, self._failure_of(row, found))]
+                and self._store(row.number, self._failure_of(row, seen.told))]
 
     def _failure_of(self, row: Any, found: List[Told]) -> Dict[str, Any]:
         """The failure of a task as Celery stores it: that of the task that it is due to, or a
@@ -136,38 +146,49 @@ class Run:
     def _identifier(self, number: int) -> str:
         return self.keys[number - 1][-36:]
 
-    def _report_of(self, found: List[Found]) -> StartedReport:
-        """The report of what is stored."""
-        told = [_told(it) for it in found]
-        numbered = {number: it for number, it in enumerate(told, 1)}
-        failed = frozenset(number for number, it in numbered.items()
-                           if it.state in ("FAILURE", "REVOKED"))
-        dropped = {number: it.state for number, it in numbered.items() if it.dropped}
-        silent = {number: why for number, why in self._coming.silent(failed, dropped).items()
-                  if numbered[number].state not in ENDS}
-        after = {number: its for number, its in self._coming.after(failed).items()
-                 if numbered[number].state not in ENDS and number not in silent}
-        due = {number: numbered[number].state for number, its in sorted(after.items())
-               if not its & after.keys()}
-        stored = Stored(self.keys, [_readable(it) for it in told])
-        *rows, end = collected(self._placed.text, self.number, stored, True)
-        ended = frozenset(number for number, it in numbered.items() if it.state in ENDS)
-        return StartedReport(self._with_calls(rows, failed, ended, silent, not due), end,
-                             self._placed.shown, due, silent)
+    def _found(self) -> List[Found]:
+        """What is stored of each task, at one moment; or its end, if that was told and another
+        state was stored afterwards."""
+        found, ends = results(self._place.client, self.keys), self._heard.ends()
+        return [ends[key] if key in ends and _told(it).state not in ENDS else it
+                for key, it in zip(self.keys, found)]
 
-    def _with_calls(self, rows: List[Dict[str, Any]], failed: FrozenSet[int],
-                    ended: FrozenSet[int], silent: Dict[int, str], is_over: bool
-                    ) -> List[Dict[str, Any]]:
-        """Rows of collect(), with those who were called and why others were not, as far as that is
-        known."""
-        for number, (row, known) in enumerate(zip(rows, self._coming.rows(failed)), 1):
-            is_skipped = row["status"] == "FAILURE" and not known.ran
-            in_place = number in self._coming.surely and silent.get(number) == IN_PLACE
-            if number not in silent and (number in ended or is_skipped) or \
-                    is_over and (number not in silent or in_place):
+    def _seen(self, found: List[Found]) -> Seen:
+        """What is to come, if this is stored."""
+        told = [_told(it) for it in found]
+        states = {number: it.state for number, it in enumerate(told, 1)}
+        failed = frozenset(number for number, state in states.items()
+                           if state in ("FAILURE", "REVOKED"))
+        dropped = {number: it.state for number, it in enumerate(told, 1) if it.dropped}
+        after = self._coming.after(failed)
+        passed = {before for number, its in after.items() for before in its
+                  if states[number] != "PENDING"}
+        silent = {number: why for number, why in {
+            **self._coming.silent(failed, dropped), **dict.fromkeys(sorted(passed), PASSED)}.items()
+                  if states[number] not in ENDS}
+        after = {number: its for number, its in after.items()
+                 if states[number] not in ENDS and number not in silent}
+        due = {number: states[number] for number, its in sorted(after.items())
+               if not its & after.keys()}
+        return Seen(told, failed, silent, due)
+
+    def _report_of(self, seen: Seen) -> StartedReport:
+        """The report of what is stored."""
+        stored = Stored(self.keys, [_readable(it) for it in seen.told])
+        *rows, end = collected(self._placed.text, self.number, stored, True)
+        for number, row in enumerate(rows, 1):
+            known = self._coming.rows(seen.failed)[number - 1]
+            if self._is_known(number, row["status"] == "FAILURE" and not known.ran, seen):
                 row["ran"] = known.ran
                 row["due_to"] = identifier_of(known.due_to) if known.due_to else None
-        return rows
+        return StartedReport(rows, end, self._placed.shown, seen.due, seen.silent)
+
+    def _is_known(self, number: int, is_skipped: bool, seen: Seen) -> bool:
+        """Whether it is known if a task was called."""
+        if number in seen.silent:
+            is_in_place = seen.silent[number] == IN_PLACE and number in self._coming.surely
+            return seen.silent[number] == PASSED or is_in_place and not seen.due
+        return is_skipped or not seen.due or seen.told[number - 1].state in ENDS
 
 
 def _told(text: Found) -> Told:

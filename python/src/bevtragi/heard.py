@@ -1,0 +1,58 @@
+"""The ends of tasks as Celery's workers tell them on the channels of Redis.
+
+A worker stores a result and publishes it. If a task retries at once, another process may store its
+end before the first one stores that it retries: the stored state is then RETRY for ever, and only
+who listened knows the end.
+"""
+
+from __future__ import annotations
+
+import json
+from typing import Any, Dict, List, Union
+
+from .errors import hidden
+
+__all__ = ["ENDS", "Heard"]
+
+__tracebackhide__ = hidden
+
+#: The states of tasks that have ended. REVOKED is a failure without a call.
+ENDS = ("SUCCESS", "FAILURE", "REVOKED")
+
+Text = Union[str, bytes]
+
+
+class Heard:
+    """What is told on some channels from now on. Without a connection nothing is heard: what is
+    stored counts, and this only adds to it."""
+
+    def __init__(self, client: Any, channels: List[str]) -> None:
+        self._ends: Dict[str, Text] = {}
+        self._listener: Any = None
+        try:
+            if channels:
+                self._listener = client.pubsub(ignore_subscribe_messages=True)
+                self._listener.subscribe(*channels)
+        except Exception:
+            self._listener = None
+
+    def ends(self) -> Dict[str, Text]:
+        """The results of tasks that ended, by channel."""
+        while self._listener is not None:
+            try:
+                told = self._listener.get_message()
+            except Exception:
+                self._listener = told = None
+            if told is None:
+                break
+            self._take(told)
+        return self._ends
+
+    def _take(self, told: Any) -> None:
+        try:
+            channel, text = told["channel"], told["data"]
+            if json.loads(text)["status"] in ENDS:
+                name = channel.decode() if isinstance(channel, bytes) else channel
+                self._ends[name] = text
+        except (LookupError, TypeError, ValueError, AttributeError):
+            pass  # it isn't Celery's
