@@ -20,7 +20,7 @@ except ImportError:
     celery = None
 
 README = (HERE.parent / "README.md").read_text()
-SECTION = README[README.index("\n## Your own tasks"):README.index("\n## What Celery does")]
+SECTION = README[README.index("\n## Your own tasks"):README.index("\n## On your workers")]
 EXAMPLE = HERE.parent / "examples" / "test_real_orders.py"
 
 
