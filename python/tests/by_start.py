@@ -1,8 +1,8 @@
-"""Starts the flows of `user_flows` and `everyday_flows` by `bevtragi.start` on real workers, with
-nothing failing and with tasks failing, and compares each run with what the canvas means.
+"""Starts the flows of `user_flows`, `alarmed_flows` and `everyday_flows` by `bevtragi.start` on real
+workers, with nothing failing and with tasks failing, and says what becomes of each run.
 
     python3 by_start.py PLACE [--write]    a Redis of its own: the path of a socket, or a port
-    python3 by_start.py PLACE --of FLOW    a JSON object for each run of one flow
+    python3 by_start.py PLACE --of "KIND FLOW"    a JSON object for each run of one flow
 
 It empties databases 1 and 2 of that Redis. It prints a line for each run that ends otherwise than
 flows/by-start-VERSION.jsonl says, and with --write it writes that file anew. The status is 1 if a
@@ -69,17 +69,27 @@ def got(result):
 
 def user_runs(name):
     """Each run of one of the `user_flows`: its calls by name."""
+    from user_flows import FLOWS
+    return named_runs(name, FLOWS)
+
+
+def alarmed_runs(name):
+    """Each run of one of the `alarmed_flows`: its calls by name."""
+    from alarmed_flows import FLOWS
+    return named_runs(name, FLOWS)
+
+
+def named_runs(name, flows):
     import started
     from places import client_of
-    from user_flows import FLOWS
 
     started.QUIET = 0.4
     store = client_of(os.environ["CANVAS_REDIS"])
-    for label, fails in started.failures(FLOWS[name]()):
+    for label, fails in started.failures(flows[name]()):
         store.flushdb()
         if fails:
             store.set("fails", json.dumps(fails))
-        end = ended(FLOWS[name](), lambda: started.rests(store))
+        end = ended(flows[name](), lambda: started.rests(store))
         called = Counter(it.decode() for it in store.lrange("called", 0, -1))
         yield {"flow": name, "fails": label, **end, "called": dict(sorted(called.items()))}
 
@@ -100,14 +110,15 @@ def everyday_runs(name):
             yield {"flow": name, "fails": known["fails"], **end, "calls": calls}
 
 
-KINDS = {"user": user_runs, "everyday": everyday_runs}
+KINDS = {"user": user_runs, "alarmed": alarmed_runs, "everyday": everyday_runs}
 
 
 def all_runs(place):
     """Each run of each flow. A process of its own starts each flow, as a user's program would."""
+    import alarmed_flows
     import user_flows
     known = (HERE / "flows" / "everyday-5.2.6.jsonl").read_text().splitlines()
-    names = {"user": [*user_flows.FLOWS],
+    names = {"user": [*user_flows.FLOWS], "alarmed": [*alarmed_flows.FLOWS],
              "everyday": [*dict.fromkeys(json.loads(it)["flow"] for it in known)]}
     for kind, found in names.items():
         for name in found:

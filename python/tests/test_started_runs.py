@@ -276,6 +276,13 @@ class OnCelery(Runs):
         self.fails(1), self.store(2)
         self.assertEqual([*run.wait(0).silent], [4])
 
+    def test_a_body_that_is_a_chord(self):
+        body = chord([task("c", link_error=[task("alarm")]), task("d")],
+                     task("e", link_error=[task("alarm")]))
+        run = self.started(chord([task("a"), task("b")], body))
+        self.fails(1), self.store(2)
+        self.assertEqual([*run.wait(0).silent], [4, 7])
+
 
 class Told(Runs):
     """A task that retries at once may have ended before it is stored that it retries."""

@@ -82,15 +82,23 @@ class Lines:
         return Step(number)
 
     def told(self, rows: List[Row], dropped: Dropped) -> Set[int]:
-        """The bodies of failed headers of which Celery's workers are told: each member of such a
-        header has to return its part."""
+        """The bodies of failed headers of which Celery's workers are told: such a header has to be
+        started, and each member has to return its part."""
         return {it.body[0].number for it in self.forks
                 if it.body and isinstance(it.body[0], Step) and _fails(it.members, rows)
+                and any(_begins(line, rows) for line in it.members)
                 and all(_returns(line, rows, dropped) for line in it.members)}
 
 
 def _fails(members: List[Line], rows: List[Row]) -> bool:
     return any(rows[it - 1].status == "FAILURE" for line in members for it in _ends(line))
+
+
+def _begins(line: Line, rows: List[Row]) -> bool:
+    """Whether a task is called that begins a line."""
+    if line and isinstance(line[0], Step):
+        return bool(rows[line[0].number - 1].ran)
+    return any(_begins(it, rows) for fork in line for it in [*fork.members, fork.body or []])
 
 
 def _ends(line: Line) -> Iterator[int]:
