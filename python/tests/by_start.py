@@ -1,10 +1,12 @@
 """Starts the flows of `user_flows`, `alarmed_flows` and `everyday_flows` by `bevtragi.start` on real
-workers, with nothing failing and with tasks failing, and says what becomes of each run.
+workers, with nothing failing and with tasks failing, and the canvases of
+examples/celery-differences as they are, and says what becomes of each run.
 
-    python3 by_start.py PLACE [--write]    a Redis of its own: the path of a socket, or a port
-    python3 by_start.py PLACE --of "KIND FLOW"    a JSON object for each run of one flow
+    python3 by_start.py PLACE [--write] [KIND..]    a Redis of its own: a socket's path, or a port
+    python3 by_start.py PLACE --of "KIND FLOW"      a JSON object for each run of one flow
 
-It empties databases 1 and 2 of that Redis. It prints a line for each run that ends otherwise than
+A KIND is user, alarmed, everyday or difference; without one it is each. It empties databases 1 to 3
+of that Redis. It prints a line for each run that ends otherwise than
 flows/by-start-VERSION.jsonl says, and with --write it writes that file anew. The status is 1 if a
 run differs. PYTHON names another Python than the one that it is run by.
 """
@@ -24,12 +26,13 @@ from pathlib import Path
 sys.dont_write_bytecode = True
 
 HERE = Path(__file__).resolve().parent
+EXAMPLES = HERE.parent.parent / "examples"
 PYTHON = os.environ.get("PYTHON") or sys.executable
 #: How long a run may take, and how long a caller waits for a result of a run that has ended.
 SECONDS, GET_SECONDS = 30, 2
 
 
-def ended(flow, rests):
+def ended(flow, rests, app=None):
     """How a started flow ends: by wait(), by the names that it says were called, by settle(), and
     by `get()`."""
     from bevtragi import NotEnded, Refused, start
@@ -37,7 +40,7 @@ def ended(flow, rests):
     with warnings.catch_warnings():
         warnings.simplefilter("ignore")
         try:
-            run = start(flow)
+            run = start(flow, app)
         except Refused as error:
             return {"refused": error.name}
     try:
@@ -47,6 +50,8 @@ def ended(flow, rests):
     rests()
     found = {"waits_for": waits, "ran": sorted(report.ran), "status": report.status,
              "silent": [f"#{number} {report[number].name}" for number in report.silent]}
+    if app is not None:
+        found["rows"] = report.text().splitlines()
     if not waits:
         found["settled"] = sorted(run.settle())
         found["same"] = run.report() == report
@@ -110,32 +115,48 @@ def everyday_runs(name):
             yield {"flow": name, "fails": known["fails"], **end, "calls": calls}
 
 
-KINDS = {"user": user_runs, "alarmed": alarmed_runs, "everyday": everyday_runs}
+def difference_runs(name):
+    """The run of a canvas that Celery treats otherwise (docs/CELERY.md)."""
+    import tasks
+    tasks.app.backend.client.flushdb()
+    end = ended(EXAMPLES / "celery-differences" / f"{name}.json", lambda: time.sleep(0.4), tasks.app)
+    yield {"flow": name, "fails": None, **end}
 
 
-def all_runs(place):
+KINDS = {"user": user_runs, "alarmed": alarmed_runs, "everyday": everyday_runs,
+         "difference": difference_runs}
+
+
+def all_runs(place, kinds):
     """Each run of each flow. A process of its own starts each flow, as a user's program would."""
     import alarmed_flows
     import user_flows
     known = (HERE / "flows" / "everyday-5.2.6.jsonl").read_text().splitlines()
     names = {"user": [*user_flows.FLOWS], "alarmed": [*alarmed_flows.FLOWS],
-             "everyday": [*dict.fromkeys(json.loads(it)["flow"] for it in known)]}
-    for kind, found in names.items():
-        for name in found:
+             "everyday": [*dict.fromkeys(json.loads(it)["flow"] for it in known)],
+             "difference": sorted(it.stem for it in EXAMPLES.glob("celery-differences/*.json"))}
+    for kind in kinds:
+        for name in names[kind]:
             words = [PYTHON, "-B", str(HERE / "by_start.py"), place, "--of", f"{kind} {name}"]
             said = subprocess.run(words, stdout=subprocess.PIPE, check=True, timeout=1200)
             yield from ({"of": kind, **json.loads(it)} for it in said.stdout.splitlines())
 
 
-def workers():
+def workers(place):
     import everyday_runs
     import started
-    return [started.start_worker(), everyday_runs.start_worker()]
+    from places import url_of
+    words = [PYTHON, "-B", "-m", "celery", "-A", "tasks", "worker", "-n", "differ@localhost", "-c",
+             "2", "--without-gossip", "--without-mingle", "--without-heartbeat"]
+    own = subprocess.Popen(words, cwd=EXAMPLES / "celery", stdout=subprocess.DEVNULL,
+                           stderr=subprocess.DEVNULL, start_new_session=True,
+                           env={**os.environ, "CANVAS_REDIS": url_of(place, 3)})
+    return [started.start_worker(), everyday_runs.start_worker(), own]
 
 
 def main():
     place, *words = sys.argv[1:]
-    sys.path[:0] = [str(HERE.parent / "src"), str(HERE)]
+    sys.path[:0] = [str(HERE.parent / "src"), str(HERE), str(EXAMPLES / "celery")]
     from places import url_of
     os.environ["CANVAS_REDIS"], os.environ["EVERYDAY_REDIS"] = url_of(place, 1), url_of(place, 2)
     import celery
@@ -143,15 +164,18 @@ def main():
     gc.disable()  # see started.py
     if words[:1] == ["--of"]:
         kind, name = words[1].split()
+        if kind == "difference":
+            os.environ["CANVAS_REDIS"] = url_of(place, 3)
         for run in KINDS[kind](name):
             print(json.dumps(run), flush=True)
         return 0
     file = HERE / "flows" / f"by-start-{celery.__version__}.jsonl"
     known = [json.loads(it) for it in file.open()] if file.exists() else []
-    started, found = workers(), []
+    kinds = [it for it in words if it in KINDS] or [*KINDS]
+    started, found = workers(place), []
     time.sleep(3)
     try:
-        for run in all_runs(place):
+        for run in all_runs(place, kinds):
             found.append(run)
             if run not in known:
                 print(f"{run['flow']}, {run['fails'] or 'nothing'} fails: {json.dumps(run)}",
@@ -164,7 +188,9 @@ def main():
     print(f"Celery {celery.__version__}: {len(found)} runs started by start(), of which"
           f" {len(found) - len(differ)} end as {file.name} says")
     if "--write" in words:
-        file.write_text("".join(json.dumps(it) + "\n" for it in found))
+        kept = {it: [run for run in (found if it in kinds else known) if run["of"] == it]
+                for it in KINDS}
+        file.write_text("".join(json.dumps(run) + "\n" for runs in kept.values() for run in runs))
     return 1 if differ else 0
 
 
