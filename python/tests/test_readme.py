@@ -19,6 +19,7 @@ else:
     from celery import chord, signature
 
 README = (HERE.parent.parent / "README.md").read_text()
+CELERY = (HERE.parent.parent / "docs" / "CELERY.md").read_text()
 
 
 def s(name, *args):
@@ -92,7 +93,19 @@ class Table(unittest.TestCase):
 
     def test_it_is_of_the_runs_that_are_written_down(self):
         import compared
-        self.assertIn(compared.table(), (HERE.parent.parent / "docs" / "CELERY.md").read_text())
+        self.assertIn(compared.table(), CELERY)
+
+    def test_how_many_runs_are_alike(self):
+        import compared
+        found = compared.counts().values()
+        for version in compared.VERSIONS:
+            alike = [sum(sum(it["runs"][kind, version]) for it in found) for kind in compared.KINDS]
+            self.assertEqual(alike, [232, 237, 267])
+            self.assertEqual(sum(len(it["runs"]["start", version]) for it in found), 279)
+        self.assertIn("Of 279 runs on each version, 232 are alike by `apply_async()`, 237 by\n"
+                      "`cured()`, and 267 by `start()`.", CELERY)
+        self.assertIn("Of 279 runs of flows on real workers of each version, 232 do what the canvas"
+                      " means if\n`apply_async()` starts them, and 267 if `start` does", README)
 
 
 if __name__ == "__main__":

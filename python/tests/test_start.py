@@ -96,6 +96,17 @@ class Values(Silent):
             with self.assertRaisesRegex(CanvasError, "can't be sent as JSON"):
                 start(task("shop.a", value), client=Server().client())
 
+    def test_what_the_program_refuses_is_a_sentence(self):
+        deep = json.loads("[" * 150 + "]" * 150)
+        for value, why in (("x" * 1_100_000, "found more than 1,048,576 bytes"),
+                           ("\ud800", "found no JSON text in UTF-8"), (deep, "of at most 128 levels")):
+            with self.assertRaisesRegex(BadCall, f"^the arguments of this canvas can't be sent: .*{why}"):
+                start(task("shop.a", value), client=Server().client())
+
+    def test_large_numbers_and_long_texts_are_as_they_were(self):
+        values = [2 ** 70, -10 ** 400, 0.1 + 0.2, -0.0, 1e300, 5e-324, "x" * 1_000_000]
+        self.assertEqual(json.dumps(self.first(task("shop.a", *values))[0]), json.dumps(values))
+
     def test_a_canvas_may_be_its_json(self):
         server = Server()
         start(json.dumps(task("shop.a", {"a": 1.5})), client=server.client())
@@ -329,7 +340,7 @@ class Places(Silent):
             start(both, app)
         start(both, app, queue="third")
         self.assertEqual(len(messages(server.client(), "third")), 2)
-        for queue in (3, b"third"):
+        for queue in (3, b"third", ""):
             with self.assertRaisesRegex(BadCall, "queue is the name of a queue"):
                 start(both, app, queue=queue)
 

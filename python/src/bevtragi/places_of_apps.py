@@ -11,7 +11,6 @@ from typing import Any, Iterator, NamedTuple, Tuple, Union
 
 from .errors import BadCall, CanvasError, hidden
 from .marking import app_of
-from .texts import is_huge
 
 __all__ = ["Place", "application", "place_of", "queue_of"]
 
@@ -144,7 +143,7 @@ def queue_of(app: Any, names: list[str], place: Place, wanted: Any) -> str:
     """The queue of the first tasks: the one that is wanted, or that of their routes. Raises BadCall
     if there are several."""
     if wanted is not None:
-        if not isinstance(wanted, str) or is_huge(wanted):
+        if not isinstance(wanted, str) or not wanted:
             raise BadCall(f"queue is the name of a queue, not {wanted!r:.60}")
         return wanted
     with _asked("the route of a task"):

@@ -98,7 +98,13 @@ def _commands(canvas: Placed, place: Place, digits: str) -> tuple[List[List[byte
     with on_file(canvas.values) as path:
         words = ["export", "-", f"--run={digits}", f"--values={path}", f"--queue={place.queue}",
                  *place.words()]
-        text, said = ask(words, canvas.text)
+        try:
+            text, said = ask(words, canvas.text)
+        except BadCall as error:
+            name, _, why = str(error).partition(f": {path}: ")
+            if name != "BadValue":
+                raise
+            raise BadCall(f"the arguments of this canvas can't be sent: {why}") from error
     commands = commands_of(text.encode())
     for command in commands:
         if command[QUEUE_AT] != place.queue.encode():
