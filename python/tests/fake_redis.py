@@ -87,7 +87,7 @@ class Listener:
     """Who listens to channels."""
 
     def __init__(self):
-        self.channels, self.told = set(), []
+        self.channels, self.told, self.is_closed = set(), [], False
 
     def subscribe(self, *channels):
         self.channels.update(channels)
@@ -96,6 +96,10 @@ class Listener:
         if channel in self.channels:
             self.told.append({"type": "message", "channel": channel.encode(),
                               "data": text.encode()})
+
+    def close(self):
+        self.is_closed = True
+        self.channels.clear()
 
     def get_message(self):
         return self.told.pop(0) if self.told else None
@@ -127,7 +131,7 @@ class Conf(dict):
 
 
 SETTINGS = {"task_serializer": "json", "result_serializer": "json", "accept_content": ["json"],
-            "task_always_eager": False, "task_default_queue": "orders",
+            "task_always_eager": False, "task_ignore_result": False, "task_default_queue": "orders",
             "broker_transport_options": {}}
 
 

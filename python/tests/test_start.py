@@ -301,6 +301,11 @@ class Places(Silent):
         for other in ({"port": 1}, {"path": "/tmp/redis"}):
             with self.assertRaisesRegex(CanvasError, "are two servers"):
                 start(THREE, App(backend=backend, broker=Server("two").client(**other)))
+        hidden = {"host": None, "port": None}  # as of Sentinel
+        one, two = (RedisBackend(Server(it).client(**hidden)) for it in ("one", "two"))
+        start(THREE, App(backend=one, broker=Server("one").client(**hidden)))
+        with self.assertRaisesRegex(CanvasError, "are two servers"):
+            start(THREE, App(backend=two, broker=Server("one").client(**hidden)))
 
     def test_other_brokers_and_backends_are_refused(self):
         for app, said in ((App(kind="amqp"), "the broker is amqp: set broker_url"),
@@ -308,6 +313,7 @@ class Places(Silent):
                           (App(task_serializer="pickle"), "task_serializer is 'pickle'"),
                           (App(result_serializer="yaml"), "result_serializer is 'yaml'"),
                           (App(accept_content=["pickle"]), "accept_content has no \"json\""),
+                          (App(task_ignore_result=True), "task_ignore_result is set"),
                           (App(task_always_eager=True), "task_always_eager is set")):
             with self.assertRaisesRegex(CanvasError, said):
                 start(THREE, app)

@@ -5,7 +5,6 @@ import contextlib
 import datetime
 import decimal
 import gc
-import json
 import os
 import shutil
 import signal
@@ -140,12 +139,14 @@ class Sockets(Working):
         flow = echo.s(*values, **keywords) | both.s({"own": None}, deep=[1.5]) | both.s("last")
         run = start(flow, self.app)
         report = run.wait(SECONDS)
-        kept = echo.apply_async(values, keywords).get(SECONDS)
-        self.assertEqual(json.dumps(report[1].result, sort_keys=True),
-                         json.dumps(kept, sort_keys=True))
+        wanted = echo.apply_async(values, keywords).get(SECONDS)
+        found = self.app.AsyncResult(run.keys[0][-36:]).get(SECONDS)
+        self.assertEqual(found, wanted)
+        self.assertEqual([*map(type, found[0])], [*map(type, wanted[0])])
         self.assertEqual(report.result[1:], [["last"], {}])
         self.assertEqual(report.result[0][1:], [[{"own": None}], {"deep": [1.5]}])
-        self.assertEqual(run.result.get(SECONDS), report.result)
+        self.assertEqual(run.result.get(SECONDS), [[wanted, [{"own": None}], {"deep": [1.5]}],
+                                                   ["last"], {}])
 
     def test_a_failure_reaches_who_waits(self):
         echo, tasks = self.tasks.echo, self.tasks

@@ -97,6 +97,12 @@ class Waiting(Runs):
         self.assertEqual(self.due(), ["#2 charge (PROGRESS)", "#3 ship (RETRY)"])
         self.assertEqual(run.report()[2].status, "PENDING")
 
+    def test_of_many_tasks_the_first_ones_are_named(self):
+        run = self.started(group(*(task("a") for _ in range(23))))
+        with self.assertRaisesRegex(NotEnded, "#19 a, #20 a and 3 more: does"):
+            run.wait(0)
+        self.assertEqual(len(run.report().due()), 23)
+
     def test_nobody_waits_for_what_a_failure_reaches(self):
         run = self.started(THREE)
         self.fails(1)
@@ -337,6 +343,21 @@ class Told(Runs):
             client.pubsub = broken
             run = start(THREE, client=client)
             self.assertEqual(run.report().due(), ["#1 shop.a"])
+
+    def test_the_connection_is_given_back(self):
+        run = self.started(THREE)
+        listener, = self.server.listeners
+        self.store(1), self.store(2)
+        self.store(3, "RETRY", None)
+        self.assertFalse(listener.is_closed)
+        self.tell(3, "SUCCESS", 7)
+        run.wait(0)
+        self.assertTrue(listener.is_closed)
+        self.assertEqual((run.wait(0).result, run.report().result), (7, 7))
+        other = start(THREE, client=self.server.client())
+        self.assertFalse(self.server.listeners[1].is_closed)
+        del other
+        self.assertTrue(self.server.listeners[1].is_closed)
 
     def test_what_is_not_celerys_is_left(self):
         run = self.started(THREE)

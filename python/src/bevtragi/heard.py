@@ -7,6 +7,7 @@ who listened knows the end.
 
 from __future__ import annotations
 
+import contextlib
 import json
 from typing import Any, Dict, List, Union
 
@@ -24,7 +25,8 @@ Text = Union[str, bytes]
 
 class Heard:
     """What is told on some channels from now on. Without a connection nothing is heard: what is
-    stored counts, and this only adds to it."""
+    stored counts, and this only adds to it. The connection is given back by close(), and at the
+    latest as soon as nobody has this object."""
 
     def __init__(self, client: Any, channels: List[str]) -> None:
         self._ends: Dict[str, Text] = {}
@@ -35,6 +37,20 @@ class Heard:
                 self._listener.subscribe(*channels)
         except Exception:
             self._listener = None
+
+    def close(self) -> None:
+        """Hears nothing from now on. What was heard stays."""
+        self.ends()
+        listener, self._listener = self._listener, None
+        with contextlib.suppress(Exception):
+            listener.close()
+
+    def __del__(self) -> None:
+        # The listener and its connection may have each other. Python would find such a pair at any
+        # moment, as while this thread takes a connection, and giving this one back would wait for
+        # that.
+        with contextlib.suppress(Exception):
+            self._listener.close()
 
     def ends(self) -> Dict[str, Text]:
         """The results of tasks that ended, by channel."""

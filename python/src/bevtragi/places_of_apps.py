@@ -93,6 +93,8 @@ def _check_settings(app: Any) -> None:
                               " it to \"json\"")
     if not {"json", "application/json"} & {*app.conf.accept_content}:
         raise CanvasError("accept_content has no \"json\", so no worker would read what is started")
+    if app.conf.task_ignore_result:
+        raise CanvasError("task_ignore_result is set, so nobody would see how a run ends")
     if app.conf.task_always_eager:
         raise CanvasError("task_always_eager is set, and a start is for workers: rehearse() calls"
                           " the tasks in this process")
@@ -131,8 +133,9 @@ def _prefix(backend: Any) -> str:
 def _databases(broker: Any, backend: Any) -> Databases:
     """The databases of two clients of one server; None if it is one database."""
     one, two = (it.connection_pool.connection_kwargs for it in (broker, backend))
-    if [one.get(it) for it in SERVER] != [two.get(it) for it in SERVER] and \
-            broker.info("server")["run_id"] != backend.info("server")["run_id"]:
+    addresses = [[it.get(name) for name in SERVER] for it in (one, two)]
+    is_one = addresses[0] == addresses[1] and any(addresses[0])  # Sentinel's have none
+    if not is_one and broker.info("server")["run_id"] != backend.info("server")["run_id"]:
         raise CanvasError("the broker and the result backend are two servers, and a start is one"
                           " script on one: let both be databases of one Redis")
     found = int(one.get("db") or 0), int(two.get("db") or 0)

@@ -14,6 +14,9 @@ __all__ = ["NotEnded", "StartedReport"]
 
 __tracebackhide__ = hidden
 
+#: The tasks that a sentence names at most.
+MOST_DUE = 20
+
 
 class StartedReport(Report):
     """A Report of tasks on Celery's workers. A row's `ran` is None as long as it isn't known.
@@ -41,9 +44,15 @@ class StartedReport(Report):
         return [f"#{number} {self[number].name}" + (f" ({state})" if state != "PENDING" else "")
                 for number, state in self.waits_for.items()]
 
+    def due_in_words(self) -> str:
+        """The first ones of these tasks, and how many more there are."""
+        names = self.due()
+        more = f" and {len(names) - MOST_DUE} more" if len(names) > MOST_DUE else ""
+        return ", ".join(names[:MOST_DUE]) + more
+
     def text(self) -> str:
         notes = [f"#{number} {self[number].name}: {why}" for number, why in self.silent.items()]
-        waits = [f"waits for {', '.join(self.due())}"] if self.waits_for else []
+        waits = [f"waits for {self.due_in_words()}"] if self.waits_for else []
         return "\n".join([super().text(), *notes, *waits])
 
     def graph(self) -> Picture:

@@ -47,7 +47,8 @@ class Seen(NamedTuple):
 
 
 class Run:
-    """A canvas that was started by start().
+    """A canvas that was started by start(). It has a connection to Redis until its wait() has ended
+    or nobody has it.
 
     number   the 22 digits of the run
     keys     the keys of its tasks' results on Redis, in the order of the tasks
@@ -82,6 +83,7 @@ class Run:
             if seen is None or found != last:
                 pause, last, seen = FIRST_PAUSE, found, self._seen(found)
             if not seen.due:
+                self._heard.close()
                 return self._report_of(seen)
             left = LONGEST_PAUSE if until is None else until - time.monotonic()
             if left <= 0:
@@ -92,7 +94,7 @@ class Run:
 
     def _not_ended(self, seen: Seen, before: str, after: str) -> NotEnded:
         report = self._report_of(seen)
-        return NotEnded(f"{before}run {self.number} waits for {', '.join(report.due())}: {after}",
+        return NotEnded(f"{before}run {self.number} waits for {report.due_in_words()}: {after}",
                         report)
 
     @functools.cached_property
