@@ -38,17 +38,18 @@ plan_message run whole plan h queue c ok bytes =
 pub plan_sound : (run : Text) → length run ≡ 22 → (plan : Line) → IsPlan plan → IsSound (naming_of run plan)
 plan_sound run whole plan h = (whole, plan_bounded run plan h)
 
--- a start of a plan, whose texts hold the messages one by one
-pub start_back : {X : Type 0} (text : X → Text) (run : Text) (plan : Line) (setting : Setting) → length run ≡ 22 → IsPlan plan → is_whole (bare plan) ≡ true
-    → (texts : List X) (messages : List Content) → map text texts ≡ map (message_text (naming_of run plan) setting.queue) messages
-    → (IsSound (naming_of run plan) → map (λ t. read_message (text t)) texts ≡ map (λ m. Some (sizeless m)) messages)
+-- a start of a plan, whose messages read back from their texts
+pub start_back : (run : Text) (plan : Line) (setting : Setting) → length run ≡ 22 → IsPlan plan → is_whole (bare plan) ≡ true
+    → (messages : List Content)
+    → (IsSound (naming_of run plan)
+    → map (λ m. read_message (message_text (naming_of run plan) setting.queue m)) messages ≡ map (λ m. Some (sizeless m)) messages)
     → (bytes : Text) → bytes ≡ resp (start run setting (starting (bare plan)) (map (message_text (naming_of run plan) setting.queue) messages))
     → length bytes < 2 ^ 64
     → read_export bytes ≡ Some (started (starting (bare plan)) (map sizeless messages))
-start_back text run plan setting whole h stands texts messages same back bytes is long =
-    let ms = map (message_text (naming_of run plan) setting.queue) messages in
-    let each : map read_message ms ≡ map Some (map sizeless messages) =
-    ap (map read_message) (sym same) ∙ (at_once read_message text texts ∙ (back (plan_sound run whole plan h) ∙ sym (at_once Some sizeless messages))) in
+start_back run plan setting whole h stands messages back bytes is long =
+    let text = message_text (naming_of run plan) setting.queue in
+    let each : map read_message (map text messages) ≡ map Some (map sizeless messages) =
+    at_once read_message text messages ∙ (back (plan_sound run whole plan h) ∙ sym (at_once Some sizeless messages)) in
     ap read_export is
-    ∙ export_back run whole setting (starting (bare plan)) (starting_named true (bare plan) (whole_ok (bare plan) stands)) ms (map sizeless messages) each
-    (subst (λ bs. length bs < 2 ^ 64) is long)
+    ∙ export_back run whole setting (starting (bare plan)) (starting_named true (bare plan) (whole_ok (bare plan) stands)) (map text messages)
+    (map sizeless messages) each (subst (λ bs. length bs < 2 ^ 64) is long)

@@ -36,11 +36,19 @@ next_word g xs i x d out new old h is written kept =
     kept written
 
 -- a whole command: its head, and then its words
-pub command_of : {E : Type 0} (r : Result (Unit {0}) E) (o n m : Text) (k : ℕ) (words : List Text) → k ≡ length words → n ≡ o ++ header_bytes (codes "*") k → OnOk r (m ≡ n ++ words_bytes words)
-    → OnOk r (m ≡ o ++ command_bytes words)
-command_of (Ok x) o n m k words count head rest =
-    rest ∙ (ap (λ y. y ++ words_bytes words) (head ∙ ap (λ j. o ++ header_bytes (codes "*") j) count) ∙ append_assoc o (header_bytes (codes "*") (length words)) (words_bytes words))
-command_of (Err x) o n m k words count head rest = tt
+pub command_of : (o n m : Text) (k : ℕ) (words : List Text) → k ≡ length words → n ≡ o ++ header_bytes (codes "*") k → m ≡ n ++ words_bytes words
+    → m ≡ o ++ command_bytes words
+command_of o n m k words count head rest =
+    rest ∙ (ap (λ y. y ++ words_bytes words) (head ∙ ap (λ j. o ++ header_bytes (codes "*") j) count)
+    ∙ append_assoc o (header_bytes (codes "*") (length words)) (words_bytes words))
+
+-- some words, texts that are to come, and a last word
+pub before_texts : (n m : Text) (us texts : List Text) (w : Text) → m ≡ n ++ words_bytes us
+    → m ++ (words_bytes texts ++ word_bytes w) ≡ n ++ words_bytes ((us ++ texts) ++ w ∷ [])
+before_texts n m us texts w h =
+    sym (append_assoc m (words_bytes texts) (word_bytes w))
+    ∙ then_word n (m ++ words_bytes texts) ((m ++ words_bytes texts) ++ word_bytes w) (us ++ texts) w
+    (then_words n m (m ++ words_bytes texts) us texts h refl) refl
 
 pub length-map : {X Y : Type 0} (g : X → Y) (xs : List X) → length (map g xs) ≡ length xs
 length-map g [] = refl
@@ -63,11 +71,6 @@ word_as n m v w e h = h ∙ ap (λ x. m ++ word_bytes x) e
 pub ok_word_as : {E : Type 0} (r : Result (Unit {0}) E) (n m v w : Text) → v ≡ w → OnOk r (n ≡ m ++ word_bytes v) → OnOk r (n ≡ m ++ word_bytes w)
 ok_word_as (Ok x) n m v w e h = word_as n m v w e h
 ok_word_as (Err x) n m v w e h = tt
-
-pub ok_command_as : {E : Type 0} (r : Result (Unit {0}) E) (o n : Text) (us vs : List Text) → us ≡ vs → OnOk r (n ≡ o ++ command_bytes us)
-    → OnOk r (n ≡ o ++ command_bytes vs)
-ok_command_as (Ok x) o n us vs e h = h ∙ ap (λ ws. o ++ command_bytes ws) e
-ok_command_as (Err x) o n us vs e h = tt
 
 pub counted_all : (a b c d e : List Text) (w : Text) (s t : ℕ) → length a ≡ 5 → length b ≡ s → length c ≡ 3 → length d ≡ s → length e ≡ t
     → s + s + t + 9 ≡ length (((((a ++ b) ++ c) ++ d) ++ e) ++ w ∷ [])

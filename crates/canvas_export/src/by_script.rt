@@ -1,17 +1,21 @@
 //! A start as one script, which Redis runs whole or not at all.
 
-ghost use Rattle.std.specs.Prelude.{ℕ, ◌≡◌, ◌+◌, ◌++◌, ◌∷◌, [], OnOk, IfOk, Some, None, map, codes, decimal, length};
+ghost use Rattle.std.specs.Prelude.{ℕ, List, ◌≡◌, ◌+◌, ◌++◌, ◌∷◌, [], OnOk, IfOk, Some, None, map, codes, decimal, length};
+ghost use Rattle.canvas_task.specs.Text.{Text};
 ghost use Rattle.canvas_export.specs.Resp.{command_bytes, word_bytes, words_bytes};
 ghost use Rattle.canvas_celery.specs.Keys.{size_key, marker_key};
 ghost use Rattle.canvas_export.specs.Script.{script, database_words, script_command};
+ghost use Rattle.canvas_export.specs.steps.Around.{Surrounds};
 ghost use Rattle.canvas_export.specs.steps.Sizes.{size_view};
 ghost use Rattle.canvas_export.specs.steps.Words.{database_word};
 ghost use Rattle.canvas_export.specs.ExportView.{setting};
 
 use crate::Target;
-use crate::resp::{begin_command, push_number, push_texts, push_word};
+use crate::around::Around;
+use crate::resp::{begin_command, push_number, push_word};
 use crate::starting::Size;
 use canvas_celery::{Run, marker_key, size_key};
+use canvas_envelope::Message;
 use std::alloc::{AllocError, Global};
 
 /// Checks that the text came whole, that the queue's key can be a list, and that the run wasn't
@@ -149,24 +153,41 @@ fn push_members(alloc: Global, out: &mut Vec<u8>, sizes: &[Size]) -> Result<(), 
     Ok(())
 }
 
-/// The command that runs the script.
-pub(crate) fn push_script(
+/// The command that runs the script, up to the texts of its messages.
+fn push_script(
     alloc: Global,
     out: &mut Vec<u8>,
     run: &Run,
     target: &Target<'_>,
     sizes: &[Size],
-    texts: &[Vec<u8>],
+    messages: &[Message],
 ) -> Result<(), AllocError>
-    ensures { OnOk result (out.new.items ≡ out.old.items ++ command_bytes
-        (script_command run.now.digits (setting target.now) (map size_view sizes.now)
-        (map (λ t. t.items) texts.now))) }
+    ensures { OnOk result ((texts : List Text) → length texts ≡ length messages.now
+        → out.new.items ++ (words_bytes texts ++ word_bytes (codes "whole"))
+        ≡ out.old.items ++ command_bytes
+        (script_command run.now.digits (setting target.now) (map size_view sizes.now) texts)) }
 {
-    begin_command(alloc, out, sizes.len() + sizes.len() + texts.len() + 9)?;
+    begin_command(alloc, out, sizes.len() + sizes.len() + messages.len() + 9)?;
     push_head(alloc, out, run, target, sizes)?;
     push_size_keys(alloc, out, run, target.prefix, sizes)?;
     push_settings(alloc, out, target)?;
-    push_members(alloc, out, sizes)?;
-    push_texts(alloc, out, texts)?;
-    push_word(alloc, out, b"whole")
+    push_members(alloc, out, sizes)
+}
+
+/// What stands around the texts of these messages in that command.
+pub(crate) fn around_in_script(
+    alloc: Global,
+    run: &Run,
+    target: &Target<'_>,
+    sizes: &[Size],
+    messages: &[Message],
+) -> Result<Around, AllocError>
+    ensures { IfOk result (λ a. Surrounds a (length messages.now) (λ texts.
+        script_command run.now.digits (setting target.now) (map size_view sizes.now) texts ∷ [])) }
+{
+    let mut front = Vec::new(alloc);
+    push_script(alloc, &mut front, run, target, sizes, messages)?;
+    let mut back = Vec::new(alloc);
+    push_word(alloc, &mut back, b"whole")?;
+    Ok(Around { front, back })
 }

@@ -1,15 +1,19 @@
 //! A start as a transaction, for a Redis that takes no scripts.
 
-ghost use Rattle.std.specs.Prelude.{◌≡◌, ◌++◌, ◌∷◌, [], OnOk, IfOk, map, string_bytes, codes};
+ghost use Rattle.std.specs.Prelude.{◌≡◌, ◌++◌, ◌∷◌, [], List, OnOk, IfOk, length, map, string_bytes, codes};
+ghost use Rattle.canvas_task.specs.Text.{Text};
 ghost use Rattle.canvas_export.specs.Resp.{command_bytes, words_bytes, resp};
 ghost use Rattle.canvas_export.specs.Transaction.{size_command, select, select_backend, select_broker, sizes_between, transaction};
+ghost use Rattle.canvas_export.specs.steps.Around.{Surrounds};
 ghost use Rattle.canvas_export.specs.steps.Sizes.{size_view};
 ghost use Rattle.canvas_export.specs.ExportView.{setting};
 
 use crate::Target;
-use crate::resp::{begin_command, decimal_of, push_command, push_texts, push_word};
+use crate::around::Around;
+use crate::resp::{begin_command, decimal_of, push_command, push_word};
 use crate::starting::Size;
 use canvas_celery::{Run, size_key};
+use canvas_envelope::Message;
 use std::alloc::{AllocError, Global};
 
 fn push_size(
@@ -38,19 +42,20 @@ fn push_size(
     )
 }
 
-fn push_messages(
+/// The command that puts messages on the queue, up to their texts.
+fn push_queue(
     alloc: Global,
     out: &mut Vec<u8>,
     queue: &str,
-    texts: &[Vec<u8>],
+    messages: &[Message],
 ) -> Result<(), AllocError>
-    ensures { OnOk result (out.new.items ≡ out.old.items ++ command_bytes
-        (codes "LPUSH" ∷ queue.now ∷ map (λ t. t.items) texts.now)) }
+    ensures { OnOk result ((texts : List Text) → length texts ≡ length messages.now
+        → out.new.items ++ words_bytes texts
+        ≡ out.old.items ++ command_bytes (codes "LPUSH" ∷ queue.now ∷ texts)) }
 {
-    begin_command(alloc, out, texts.len() + 2)?;
+    begin_command(alloc, out, messages.len() + 2)?;
     push_word(alloc, out, b"LPUSH")?;
-    push_word(alloc, out, queue.as_bytes())?;
-    push_texts(alloc, out, texts)
+    push_word(alloc, out, queue.as_bytes())
 }
 
 fn push_plain(alloc: Global, out: &mut Vec<u8>, word: &[u8]) -> Result<(), AllocError>
@@ -130,21 +135,39 @@ fn push_sizes_between(
     push_broker(alloc, out, target.databases)
 }
 
-/// The commands of the transaction.
-pub(crate) fn push_transaction(
+/// The commands of the transaction, up to the texts of its messages.
+fn push_transaction(
     alloc: Global,
     out: &mut Vec<u8>,
     run: &Run,
     target: &Target<'_>,
     sizes: &[Size],
-    texts: &[Vec<u8>],
+    messages: &[Message],
 ) -> Result<(), AllocError>
-    ensures { OnOk result (out.new.items ≡ out.old.items ++ resp
-        (transaction run.now.digits (setting target.now) (map size_view sizes.now)
-        (map (λ t. t.items) texts.now))) }
+    ensures { OnOk result ((texts : List Text) → length texts ≡ length messages.now
+        → out.new.items ++ (words_bytes texts ++ command_bytes (codes "EXEC" ∷ []))
+        ≡ out.old.items ++ resp
+        (transaction run.now.digits (setting target.now) (map size_view sizes.now) texts)) }
 {
     push_plain(alloc, out, b"MULTI")?;
     push_sizes_between(alloc, out, run, target, sizes)?;
-    push_messages(alloc, out, target.queue, texts)?;
-    push_plain(alloc, out, b"EXEC")
+    push_queue(alloc, out, target.queue, messages)
+}
+
+/// What stands around the texts of these messages in these commands.
+pub(crate) fn around_in_transaction(
+    alloc: Global,
+    run: &Run,
+    target: &Target<'_>,
+    sizes: &[Size],
+    messages: &[Message],
+) -> Result<Around, AllocError>
+    ensures { IfOk result (λ a. Surrounds a (length messages.now)
+        (transaction run.now.digits (setting target.now) (map size_view sizes.now))) }
+{
+    let mut front = Vec::new(alloc);
+    push_transaction(alloc, &mut front, run, target, sizes, messages)?;
+    let mut back = Vec::new(alloc);
+    push_plain(alloc, &mut back, b"EXEC")?;
+    Ok(Around { front, back })
 }

@@ -1,16 +1,20 @@
 //! Canvases as work for real Celery workers on Redis.
 #![tactic(auto)]
 
+mod around;
 mod by_script;
 mod by_transaction;
 mod envelope;
 mod exporting;
 mod law;
+mod parts;
 mod resp;
+mod start;
 mod starting;
 mod target;
 mod write;
 
 pub use exporting::export;
 pub use law::{law_of_commands, law_of_exports, law_of_messages};
+pub use start::Start;
 pub use target::Target;

@@ -47,21 +47,6 @@ pub(crate) fn push_number(alloc: Global, out: &mut Vec<u8>, number: u64) -> Resu
     push_word(alloc, out, digits.as_bytes())
 }
 
-/// Texts as words.
-pub(crate) fn push_texts(
-    alloc: Global,
-    out: &mut Vec<u8>,
-    texts: &[Vec<u8>],
-) -> Result<(), AllocError>
-    ensures { OnOk result
-        (out.new.items ≡ out.old.items ++ words_bytes (map (λ t. t.items) texts.now)) }
-{
-    for text in texts {
-        push_word(alloc, out, text.as_slice())?;
-    }
-    Ok(())
-}
-
 fn push_words(alloc: Global, out: &mut Vec<u8>, words: &[&[u8]]) -> Result<(), AllocError>
     ensures { OnOk result
         (out.new.items ≡ out.old.items ++ words_bytes (map (λ w. w.now) words.now)) }

@@ -1,14 +1,28 @@
-use Rattle.std.proofs.Common.{[], ◌∷◌, map, codes}
-use Rattle.canvas_export.specs.Transaction.{sizes_between}
+use Rattle.std.proofs.Common.{◌≡◌, ◌∙◌, List, [], ◌∷◌, ◌++◌, codes, length, map, sym, refl, append_assoc}
+use Rattle.canvas_task.specs.Text.{Text}
+use Rattle.canvas_export.specs.Resp.{command_bytes, words_bytes, resp}
+use Rattle.canvas_export.specs.Transaction.{sizes_between, transaction}
 use Rattle.canvas_export.specs.ExportView.{setting}
 use Rattle.canvas_export.specs.steps.Sizes.{size_view}
-use Rattle.canvas_export.proofs.Pieces.{whole_ok}
+use Rattle.canvas_export.proofs.Pieces.{ok_then, whole}
 use Rattle.canvas_export.proofs.by_transaction.push_transaction.Goals as goal
 
 pub returns : goal.returns
 returns c =
     let t = c.args.target.now in
-    whole_ok c.push_plain-2.result c.args.out.now.items c.push_plain.new.out.items c.push_sizes_between.new.out.items c.push_messages.new.out.items
-    c.push_plain-2.new.out.items (codes "MULTI" ∷ []) (codes "LPUSH" ∷ t.queue.now ∷ map (λ x. x.items) c.args.texts.now) (codes "EXEC" ∷ [])
-    (sizes_between c.args.run.now.digits (setting t) (map size_view c.args.sizes.now))
-    c.in_ok-push_plain.ensures c.in_ok-push_sizes_between.ensures c.in_ok-push_messages.ensures c.push_plain-2.ensures
+    let run = c.args.run.now.digits in
+    let sizes = map size_view c.args.sizes.now in
+    let n = length c.args.messages.now in
+    let o = c.args.out.now.items in
+    let m = c.push_queue.new.out.items in
+    let exec = command_bytes (codes "EXEC" ∷ []) in
+    let queue : List Text → List Text = λ texts. codes "LPUSH" ∷ t.queue.now ∷ texts in
+    ok_then c.push_queue.result
+    ((texts : List Text) → length texts ≡ n → m ++ words_bytes texts ≡ c.push_sizes_between.new.out.items ++ command_bytes (queue texts))
+    ((texts : List Text) → length texts ≡ n → m ++ (words_bytes texts ++ exec) ≡ o ++ resp (transaction run (setting t) sizes texts))
+    (λ written texts few.
+    sym (append_assoc m (words_bytes texts) exec)
+    ∙ whole o c.push_plain.new.out.items c.push_sizes_between.new.out.items (m ++ words_bytes texts) ((m ++ words_bytes texts) ++ exec)
+    (codes "MULTI" ∷ []) (queue texts) (codes "EXEC" ∷ []) (sizes_between run (setting t) sizes)
+    c.in_ok-push_plain.ensures c.in_ok-push_sizes_between.ensures (written texts few) refl)
+    c.push_queue.ensures
