@@ -350,6 +350,20 @@ class Places(Silent):
             with self.assertRaisesRegex(BadCall, "queue is the name of a queue"):
                 start(both, app, queue=queue)
 
+    def test_the_first_tasks_are_those_that_begin_the_canvas(self):
+        a, b, c, d = (task(it, link=[task("link")], link_error=[task("alarm")]) for it in "abcd")
+        for flow, firsts in ((a, "a"), (chain(a, b), "a"), (chain(chain(a, b), c), "a"),
+                             (group(a, chain(b, c)), "ab"), (chord([a, b], c), "ab"),
+                             (chain(group(a, b), c), "ab"), (chord([], c), "c"),
+                             (chord([], chain(c, d)), "c"), (chain(a, chord([b], c)), "a"),
+                             (chord([chord([a], b), chain(c, d)], d), "ac"), (group(), "")):
+            client, routed = Server().client(), []
+            app = App(backend=RedisBackend(client))
+            app.amqp.router.route = lambda _options, name: routed.append(name) or {"queue": "orders"}
+            start(flow, app)
+            sent = [it[0]["task"] for it in messages(client, "orders")]
+            self.assertEqual((sorted(routed), sorted(sent)), ([*firsts], [*firsts]), flow)
+
     def test_the_application_of_a_signature(self):
         class Sig(dict):
             _app = App()

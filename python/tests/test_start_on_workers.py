@@ -4,7 +4,6 @@ and the results are in another database. Left out if Celery or redis-server isn'
 import contextlib
 import datetime
 import decimal
-import gc
 import os
 import shutil
 import signal
@@ -82,6 +81,7 @@ class OnWorkers(unittest.TestCase):
         sys.modules.pop("start_tasks", None)
         import start_tasks
         cls.tasks, cls.app = start_tasks, start_tasks.app
+        cls.addClassCleanup(cls.listen_no_more)
         until(lambda: cls.app.backend.client.ping())
 
     @classmethod
@@ -95,6 +95,11 @@ class OnWorkers(unittest.TestCase):
             os.environ.pop(key) if value is None else os.environ.update({key: value})
 
     @classmethod
+    def listen_no_more(cls):
+        """Has results of Celery that are collected later not ask a server that is gone."""
+        cls.app.backend.result_consumer._pubsub = None
+
+    @classmethod
     def begin(cls, process):
         def end():
             with contextlib.suppress(ProcessLookupError):
@@ -104,10 +109,6 @@ class OnWorkers(unittest.TestCase):
 
     def setUp(self):
         self.app.backend.client.flushall()
-
-    def tearDown(self):
-        # A result of Celery that is collected asks the server, which is still there now.
-        gc.collect()
 
 
 class Working(OnWorkers):

@@ -101,7 +101,7 @@ class Run:
     def result(self) -> Any:
         """Celery's AsyncResult of the canvas's end, or its GroupResult if that is a group. Its
         `get()` may need settle() if a task failed."""
-        app, ends = self._coming.app, self._coming.program.ends()
+        app, ends = self._coming.app, self._coming.ends
         if app is None:
             raise CanvasError("a result of Celery needs your application: start(flow, app)")
         found = [app.AsyncResult(self._identifier(it))
@@ -162,16 +162,13 @@ class Run:
         failed = frozenset(number for number, state in states.items()
                            if state in ("FAILURE", "REVOKED"))
         dropped = {number: it.state for number, it in enumerate(told, 1) if it.dropped}
-        after = self._coming.after(failed)
-        passed = {before for number, its in after.items() for before in its
-                  if states[number] != "PENDING"}
-        silent = {number: why for number, why in {
-            **self._coming.silent(failed, dropped), **dict.fromkeys(sorted(passed), PASSED)}.items()
-                  if states[number] not in ENDS}
-        after = {number: its for number, its in after.items()
-                 if states[number] not in ENDS and number not in silent}
-        due = {number: states[number] for number, its in sorted(after.items())
-               if not its & after.keys()}
+        called = {row.number for row in self._coming.rows(failed) if row.ran}
+        begun = {number for number, state in states.items() if state != "PENDING"}
+        passed = dict.fromkeys(sorted(self._coming.passed(begun, called)), PASSED)
+        left = {number for number in called if states[number] not in ENDS}
+        silent = {number: why for number, why in {**self._coming.silent(failed, dropped),
+                                                  **passed}.items() if number in left}
+        due = {number: states[number] for number in self._coming.due(left - silent.keys())}
         return Seen(told, failed, silent, due)
 
     def _report_of(self, seen: Seen) -> StartedReport:

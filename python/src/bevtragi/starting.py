@@ -56,8 +56,8 @@ def start(flow: Canvas, app: Any = None, client: Any = None, *, number: Any = No
     the application don't take. Raises Refused, BadCall, StartedBefore, and CanvasError if a start
     isn't possible or Redis refuses it."""
     app, digits, canvas = application(flow, app), _digits(number), placed(flow)
-    coming, place = Coming(canvas.tree, app), place_of(app, client)
-    place = place._replace(queue=queue_of(app, coming.firsts(), place, queue))
+    coming, place = Coming(canvas.text, canvas.tree, app), place_of(app, client)
+    place = place._replace(queue=queue_of(app, coming.lines.firsts(), place, queue))
     commands, said = _commands(canvas, place, digits)
     run = Run(digits, canvas, place, coming, lines_after(said, "ignored "))
     _warn([*(f"this start doesn't heed {it}" for it in run.ignored), *coming.never(),
@@ -74,7 +74,7 @@ def run_of(number: Any, flow: Canvas, app: Any = None, client: Any = None) -> Ru
         raise BadCall("run_of() needs the number of the run")
     app, digits, canvas = application(flow, app), _digits(number), placed(flow)
     place = place_of(app, client)
-    run = Run(digits, canvas, place, Coming(canvas.tree, app), [])
+    run = Run(digits, canvas, place, Coming(canvas.text, canvas.tree, app), [])
     marker = f"{place.prefix}canvas-run-{digits}"
     if run.keys and not by_client(place.client, "exists", marker):
         raise CanvasError(f"no run {digits} was started on this Redis")
