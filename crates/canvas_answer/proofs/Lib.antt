@@ -8,3 +8,4 @@ pub mod GivenNumbers
 pub mod Numbering
 pub mod Pieces
 pub mod Writes
+pub mod Lines

@@ -1,9 +1,8 @@
 -- Rows that show the states of a run and the classes of its exceptions.
-use Rattle.std.proofs.Common.{◌≡◌, ◌∙◌, ◌<◌, ◌≤◌, ◌+◌, ◌-◌, ℕ, zero, suc, Bool, true, false, List, [], ◌∷◌, ◌++◌, map, length, Option, Some, None, String, Global, Result, Ok, Err, IfOk, string_bytes, refl, sym, ap, subst, arith}
+use Rattle.std.proofs.Common.{◌≡◌, ◌∙◌, ◌<◌, ◌≤◌, ◌+◌, ◌-◌, ℕ, zero, suc, Bool, true, false, List, [], ◌∷◌, ◌++◌, length, Option, Some, None, String, Global, string_bytes, refl, sym, ap, subst, arith}
 use Rattle.std.specs.Prelude.{nat_lt, option_map, slice_get, unwrap_or}
 use Rattle.std.specs.Borrow.{Bor}
 use Rattle.std.proofs.lemmas.List.{length_push}
-use Rattle.std.proofs.lemmas.Result.{IfOk-weaker}
 use Rattle.canvas_task.specs.Text.{Text}
 use Rattle.canvas_task.specs.declared.outcome.Fault.TheVariants.{Plain, Chord}
 use Rattle.canvas_task.specs.declared.outcome.Kind.TheVariants.{BadCall, ZeroDivision, Overflow, NotRegistered}

@@ -1,23 +1,35 @@
 -- What the program answers to what it is asked: the bytes for standard output and a status; and
 -- where these are not all that was asked for, why.
-use Rattle.std.specs.Prelude.{◌≡◌, ◌⊎◌, ℕ, [], Option, None, Some, String, string_bytes}
-use Rattle.std.specs.Prelude.{if◌then◌else◌}
+use Rattle.std.specs.Prelude.{◌≡◌, ◌⊎◌, ◌==◌, ◌||◌, ℕ, Bool, true, false, [], Option, None, Some}
+use Rattle.std.specs.Prelude.{String, string_bytes, if◌then◌else◌}
 use Rattle.std.specs.declared.alloc.Global.{Global}
+use Rattle.std.specs.declared.io.ErrorKind.{ErrorKind}
+use Rattle.std.specs.declared.io.ErrorKind.TheVariants.{OutOfMemory}
 use Rattle.canvas_task.specs.Text.{Text}
 use Rattle.canvas_answer.specs.declared.answer.Answer.{Answer}
+use Rattle.canvas_answer.specs.declared.output.Output.{Output}
+use Rattle.canvas_answer.specs.declared.output.Output.TheVariants.{Lines, Bytes, Letters, Start}
 use Rattle.canvas_answer.specs.declared.refusal.Refusal.{Refusal}
-use Rattle.canvas_answer.specs.declared.refusal.Refusal.TheVariants.{Memory, Stopped}
+use Rattle.canvas_answer.specs.declared.refusal.Refusal.TheVariants.{CannotWrite, Memory, Stopped}
+use Rattle.canvas_answer.specs.Letters.{message_lines}
 use Rattle.canvas_answer.specs.Printing.{printed}
+
+-- what an output is of: bytes, a line for each message, or the bytes of a start
+abbrev pub bytes_in : Output → Text
+bytes_in (Lines bytes) = bytes.items
+bytes_in (Bytes bytes) = bytes.items
+bytes_in (Letters letters) = message_lines letters.items
+bytes_in (Start bytes) = bytes
 
 -- these bytes are all that was asked for, and this is the status
 pub record AnswersAll (text : Text) (status : ℕ) (a : Answer) : Type 0 where
-  pub out : a.out.items ≡ text
+  pub out : bytes_in a.out ≡ text
   pub unrefused : a.refusal ≡ None
   pub ends : a.status ≡ status
 
 -- these bytes are what there is
 pub record AnswersPart (text : Text) (refusal : Refusal) (a : Answer) : Type 0 where
-  pub out : a.out.items ≡ text
+  pub out : bytes_in a.out ≡ text
   pub refused : a.refusal ≡ Some refusal
 
 -- 2 where the program ended early, and 1 where it was refused
@@ -26,18 +38,40 @@ refusal_status Memory = 2
 refusal_status Stopped = 2
 refusal_status refusal = 1
 
--- The status that the program ends with: that of the refusal; else that of the answer, or 1 where
--- it can't be printed.
-abbrev pub ends_with : Option Refusal → (status n : ℕ) → Type 0
-ends_with (Some refusal) status n = n ≡ refusal_status refusal
-ends_with None status n = (n ≡ status) ⊎ (n ≡ 1)
+-- why an output that a text is made for isn't printed: memory was refused, or it can't be written
+abbrev pub output_refusal : ErrorKind → Refusal
+output_refusal OutOfMemory = Memory
+output_refusal kind = CannotWrite
+
+-- Whether a status says that not all of an output was printed: 1 where it can't be written, and 2
+-- where memory was refused for a text that is made as it is printed.
+abbrev pub is_cut : Output → (status : ℕ) → Bool
+is_cut (Lines bytes) n = n == 1
+is_cut (Bytes bytes) n = n == 1
+is_cut (Letters letters) n = n == 1 || n == 2
+is_cut (Start bytes) n = n == 1 || n == 2
+
+-- the status that the program ends with: that of the refusal; else that of the answer, or one which
+-- says that not all was printed
+abbrev pub ends_with : Option Refusal → Output → (status n : ℕ) → Type 0
+ends_with (Some refusal) out status n = n ≡ refusal_status refusal
+ends_with None out status n = (n ≡ status) ⊎ (is_cut out n ≡ true)
 
 abbrev pub IsStatus : Answer → ℕ → Type 0
-IsStatus a n = ends_with a.refusal a.status n
+IsStatus a n = ends_with a.refusal a.out a.status n
 
 -- what reaches standard output: each byte, where a program reads it, else the text as it is printed
+abbrev pub is_raw : Output → Bool
+is_raw (Lines bytes) = false
+is_raw (Bytes bytes) = true
+is_raw (Letters letters) = false
+is_raw (Start bytes) = true
+
+abbrev pub printed_of : Output → Text
+printed_of out = if is_raw out then bytes_in out else printed (bytes_in out)
+
 abbrev pub printed_out : Answer → Text
-printed_out a = if a.is_raw then a.out.items else printed a.out.items
+printed_out a = printed_of a.out
 
 -- of a text that there may not be
 abbrev pub bytes_of : Option (String Global) → Text

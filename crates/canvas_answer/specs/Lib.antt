@@ -6,6 +6,7 @@ pub mod Requests
 pub mod Stubbing
 pub mod Wanted
 pub mod Items
+pub mod Letters
 pub mod Names
 pub mod Plans
 pub mod Blamed

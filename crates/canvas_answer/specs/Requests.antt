@@ -19,12 +19,10 @@ use Rattle.canvas_answer.specs.declared.asked.Verb.TheVariants as verb
 use Rattle.canvas_answer.specs.declared.asked.Work.{Work}
 use Rattle.canvas_answer.specs.declared.asked.Work.TheVariants.{One, Each}
 use Rattle.canvas_answer.specs.declared.celery.Collecting.{Collecting}
-use Rattle.canvas_answer.specs.declared.celery.OnCelery.{OnCelery}
 use Rattle.canvas_answer.specs.declared.celery.OnCelery.TheVariants as celery
 use Rattle.canvas_answer.specs.declared.each.Each as each
 use Rattle.canvas_answer.specs.declared.graph.States.{States}
 use Rattle.canvas_answer.specs.declared.graph.States.TheVariants as states
-use Rattle.canvas_answer.specs.declared.graph.Stored.{Stored}
 use Rattle.canvas_answer.specs.declared.reporting.Form.{Form}
 use Rattle.canvas_answer.specs.declared.reporting.Form.TheVariants.{Plain, Json, Explained}
 use Rattle.canvas_answer.specs.declared.reporting.Manner.{Manner}

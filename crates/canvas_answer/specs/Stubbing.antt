@@ -2,7 +2,7 @@
 -- which may raise an exception of any class; or, if it begins with `#`, one of a task's number. For
 -- a run the class `stands` is put in place of a class that isn't one of the four of built-in tasks,
 -- and a task with a number has the name of that, as `#3`.
-use Rattle.std.specs.Prelude.{◌≡◌, ◌==◌, ◌++◌, ℕ, Bool, false, not, if◌then◌else◌, List, [], ◌∷◌, Option, Some, None, Ok, map, option_and_then, string_bytes, codes}
+use Rattle.std.specs.Prelude.{◌≡◌, ◌==◌, ◌++◌, Bool, false, if◌then◌else◌, List, [], ◌∷◌, Option, Some, None, Ok, map, string_bytes, codes}
 use Rattle.std.specs.List.{before_first, filter_map}
 use Rattle.clap.specs.Walk.{Row, first_of}
 use Rattle.canvas_task.specs.Text.{Text}

@@ -58,5 +58,5 @@ pub fn answer_adapt(alloc: Global, renames: &[Rename], text: &[u8]) -> Result<An
         tasks,
     } = adapted_text(alloc, text, renames)?;
     check_numbers(renames, tasks)?;
-    Ok(Answer::whole(text).as_bytes().with_changes(changes))
+    Ok(Answer::raw(text).with_changes(changes))
 }

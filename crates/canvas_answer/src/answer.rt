@@ -1,13 +1,18 @@
 //! What the program prints, and its status.
-ghost use Rattle.std.specs.Prelude.{◌≡◌, ◌≢◌, ◌⊎◌, [], None, Some, OnOk};
+ghost use Rattle.std.specs.Prelude.{◌≡◌, ◌⊎◌, [], false, true, None, Some, OnOk};
 ghost use Rattle.std.specs.Io.KnownBytes.{Appends};
 ghost use Rattle.canvas_answer.specs.declared.answer.Remark.TheVariants as remark;
-ghost use Rattle.canvas_answer.specs.Answers.{AnswersAll, AnswersPart, IsKept, IsStatus, bytes_of, printed_out, refusal_status};
+ghost use Rattle.canvas_answer.specs.declared.output.Output.TheVariants as output;
+ghost use Rattle.canvas_answer.specs.Answers.{AnswersAll, AnswersPart, IsKept, IsStatus, bytes_in, bytes_of, is_cut, printed_out, refusal_status};
+ghost use Rattle.canvas_answer.specs.Letters.{message_lines};
 
 use crate::escaping::Escaping;
+use crate::output::Output;
 use crate::printing::write_lines;
 use crate::refusal::Refusal;
 use canvas_adapt::Changes;
+use canvas_envelope::Letter;
+use canvas_export::Start;
 use std::alloc::Global;
 use std::fmt::{self, Display};
 use std::io::{self, Write};
@@ -38,9 +43,7 @@ impl Display for Remark {
 #[derive(Drop)]
 pub struct Answer {
     /// What goes to standard output.
-    out: Vec<u8>,
-    /// Whether a program reads that, which is given each byte as it is.
-    is_raw: bool,
+    out: Output,
     /// What standard error says beside it.
     remark: Option<Remark>,
     /// Why that isn't all that was asked for.
@@ -53,17 +56,44 @@ pub struct Answer {
 
 impl Answer {
     /// All that was asked for.
-    pub fn whole(out: Vec<u8>) -> Answer
-        ensures { AnswersAll out.items 0 result }
+    fn of(out: Output) -> Answer
+        ensures { AnswersAll (bytes_in out) 0 result }
     {
         Answer {
             out,
-            is_raw: false,
             remark: None,
             refusal: None,
             told: None,
             status: 0,
         }
+    }
+
+    /// Lines for a reader, which are all that was asked for.
+    pub fn whole(lines: Vec<u8>) -> Answer
+        ensures { AnswersAll lines.items 0 result }
+    {
+        Answer::of(Output::Lines(lines))
+    }
+
+    /// The same for a program, of which each byte is printed as it is.
+    pub(crate) fn raw(bytes: Vec<u8>) -> Answer
+        ensures { AnswersAll bytes.items 0 result }
+    {
+        Answer::of(Output::Bytes(bytes))
+    }
+
+    /// Messages, a line each, which are made one by one as they are printed.
+    pub fn letters(letters: Vec<Letter>) -> Answer
+        ensures { AnswersAll (message_lines letters.items) 0 result }
+    {
+        Answer::of(Output::Letters(letters))
+    }
+
+    /// A start, whose messages' texts are made one by one as they are printed.
+    pub(crate) fn start(start: Start) -> Answer
+        ensures { AnswersAll start 0 result }
+    {
+        Answer::of(Output::Start(start))
     }
 
     /// Nothing, and why.
@@ -82,23 +112,11 @@ impl Answer {
             None => Vec::new(alloc),
         };
         Answer {
-            out,
-            is_raw: false,
+            out: Output::Lines(out),
             remark: None,
             refusal: Some(refusal),
             told: None,
             status: 0,
-        }
-    }
-
-    /// The same, of which each byte is printed as it is.
-    pub(crate) fn as_bytes(self) -> Answer
-        ensures { (result.out ≡ self.out) × (result.remark ≡ self.remark)
-            × (result.refusal ≡ self.refusal) × (result.status ≡ self.status) }
-    {
-        Answer {
-            is_raw: true,
-            ..self
         }
     }
 
@@ -111,7 +129,10 @@ impl Answer {
         if lines.is_empty() {
             return self;
         }
-        Answer { out: lines, ..self }
+        Answer {
+            out: Output::Lines(lines),
+            ..self
+        }
     }
 
     /// The same with this status, where it isn't refused.
@@ -162,34 +183,31 @@ impl Answer {
 
     /// Prints the answer to both outputs, and gives the status: 0 where all went well, 1 where the
     /// program was refused or can't print, 2 where it ended early, and 3 where that is asked for
-    /// and the canvas's result is a failure.
-    pub fn print<W: Write, E: Write>(&self, out: &mut W, err: &mut E) -> u8
+    /// and the canvas's result is a failure. It ends early, too, where memory for a message is
+    /// refused, of which the ones before it are printed then.
+    pub fn print<W: Write, E: Write>(&self, alloc: Global, out: &mut W, err: &mut E) -> u8
         ensures status { IsStatus self.now result }
-        ensures out { self.now.refusal ≡ None → result ≢ 1
+        ensures out { self.now.refusal ≡ None → is_cut self.now.out result ≡ false
             → Appends (W.contents out.old) (W.contents out.new) (printed_out self.now) }
     {
-        let is_written = self.write_out(out).is_ok();
-        match &self.refusal {
-            Some(refusal) => refusal.print(self.told.as_ref(), err),
-            None if is_written => self.print_remark(err),
-            None => Refusal::CannotWrite.print(None, err),
+        let written = self.write_out(alloc, out);
+        match (&self.refusal, &written) {
+            (Some(refusal), _) => refusal.print(self.told.as_ref(), err),
+            (None, Ok(())) => self.print_remark(err),
+            (None, Err(error)) => self.out.refusal(error).print(None, err),
         }
     }
 
-    fn write_out<W: Write>(&self, out: &mut W) -> io::Result<()>
+    fn write_out<W: Write>(&self, alloc: Global, out: &mut W) -> io::Result<()>
         ensures { OnOk result (Appends (W.contents out.old) (W.contents out.new)
             (printed_out self.now)) }
     {
-        if self.is_raw {
-            out.write_all(&self.out)?;
-        } else {
-            write_lines(out, &self.out)?;
-        }
+        self.out.write(alloc, out)?;
         out.flush()
     }
 
     fn print_remark<E: Write>(&self, err: &mut E) -> u8
-        ensures { (result ≡ self.now.status) ⊎ (result ≡ 1) }
+        ensures { (result ≡ self.now.status) ⊎ (is_cut self.now.out result ≡ true) }
     {
         if let Some(remark) = &self.remark
             && write_and_flush(err, remark).is_err()

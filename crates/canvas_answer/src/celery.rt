@@ -18,7 +18,7 @@ use crate::refusal::Refusal;
 use crate::reporting::{Form, Manner};
 use canvas_celery::{Run, keys};
 use canvas_collect::{collect, complete};
-use canvas_export::{Target, export};
+use canvas_export::{Start, Target};
 use canvas_report::{Row, Told, explained_text, stored_rows_text, stored_text};
 use canvas_rewrite::Plan;
 use canvas_task::Memory;
@@ -88,10 +88,9 @@ fn answer_export(
         × AnswersAll (commands_of run.now.digits target.now l) 0 a) }
 {
     let (plan, signatures) = signed_plan(alloc, text)?;
-    let plan = lasting(plan);
-    let start = export(alloc, &plan, run, target)?;
+    let start = Start::of(alloc, plan, run, target)?;
     let remark = export_remark(alloc, signatures, texts)?;
-    Ok(Answer::whole(start).as_bytes().with_remark(remark))
+    Ok(Answer::start(start).with_remark(remark))
 }
 
 /// The keys of a canvas's results, a line each.
@@ -99,7 +98,7 @@ fn answer_keys(alloc: Global, plan: &Plan, run: &Run, prefix: &str) -> Result<An
     ensures { IfOk result
         (AnswersAll (result_keys run.now.digits prefix.now (count_line plan.now)) 0) }
 {
-    Ok(Answer::whole(keys(alloc, plan, run, prefix)?).as_bytes())
+    Ok(Answer::raw(keys(alloc, plan, run, prefix)?))
 }
 
 /// The report of a canvas from the results that the input gives.

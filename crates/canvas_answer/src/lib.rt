@@ -21,6 +21,7 @@ mod named_rows;
 mod names;
 pub mod normal;
 pub mod numbers;
+mod output;
 pub mod plan;
 pub mod prepared;
 pub mod printing;

@@ -43,7 +43,7 @@ pub fn answer_normal(alloc: Global, canvas: &Canvas) -> Result<Answer, Refusal>
         × AnswersAll line 0 a) }
 {
     match line_text(alloc, canvas) {
-        Ok(line) => Ok(Answer::whole(line.into_bytes()).as_bytes()),
+        Ok(line) => Ok(Answer::raw(line.into_bytes())),
         Err(Memory) => Err(Refusal::Memory),
     }
 }

@@ -6,7 +6,7 @@ use Rattle.canvas_task.specs.Text.{Text}
 use Rattle.clap.specs.Walk.{Row}
 use Rattle.canvas_stubs.specs.Stubs.{stubs_behaviour}
 use Rattle.canvas_words.specs.declared.subcommand.Subcommand.{Subcommand}
-use Rattle.canvas_answer.specs.Answers.{AnswersPart, IsKept}
+use Rattle.canvas_answer.specs.Answers.{AnswersPart, IsKept, bytes_in}
 use Rattle.canvas_answer.specs.Asking.{Asking, asked_of}
 use Rattle.canvas_answer.specs.Inputs.{IsCanvasRead}
 use Rattle.canvas_answer.specs.Stubbing.{AreAnswers, added_by, standing}
@@ -22,14 +22,14 @@ use Rattle.canvas_answer.specs.declared.stubs.Answers.{Answers}
 use Rattle.canvas_answer.specs.declared.stubs.AskedStubs.{AskedStubs}
 use Rattle.canvas_command.specs.Worded.{IsAnswerToWords, IsAnswerWith, IsRefused, IsToldAs, IsWorkDone}
 
-still : (after : Answer) (refusal : Refusal) → IsKept (Some refusal) after.refusal → after.out.items ≡ [] → IsRefused after
+still : (after : Answer) (refusal : Refusal) → IsKept (Some refusal) after.refusal → bytes_in after.out ≡ [] → IsRefused after
 still after refusal (inl same) out = (refusal, same, out)
 still after refusal (inr memory) out = (Memory, memory, out)
 
 pub refused_still : (json : Bool) (before after : Answer) → IsRefused before → IsToldAs json before after → IsRefused after
 refused_still false before after refused is = subst IsRefused (sym is) refused
 refused_still true before after (refusal, refused, out) (same, status, kept) =
-    still after refusal (subst (λ r. IsKept r after.refusal) refused kept) (ap (λ o. o.items) same ∙ out)
+    still after refusal (subst (λ r. IsKept r after.refusal) refused kept) (ap bytes_in same ∙ out)
 
 pub answers_asked : (command : Subcommand) (given : List Row) (stubs : AskedStubs) (answers : Answers) → AreAsked given command stubs
     → AreAnswersOf stubs answers → AreAnswers command given answers

@@ -6,7 +6,7 @@ use Rattle.canvas_task.specs.Text.{Text}
 use Rattle.canvas_stubs.specs.Stubs.{stubs_behaviour}
 use Rattle.canvas_words.specs.Options.{IsAsked}
 use Rattle.canvas_words.specs.declared.subcommand.Subcommand.{Subcommand}
-use Rattle.canvas_answer.specs.Answers.{IsKept}
+use Rattle.canvas_answer.specs.Answers.{IsKept, bytes_in}
 use Rattle.canvas_answer.specs.Asking.{Asking, asked_of}
 use Rattle.canvas_answer.specs.Inputs.{IsCanvasRead}
 use Rattle.canvas_answer.specs.Requests.{IsRequest}
@@ -22,7 +22,7 @@ use Rattle.canvas_command.specs.Each.{IsEachDone}
 
 -- why there is nothing
 abbrev pub IsRefused : Answer → Type 0
-IsRefused a = (refusal : Refusal) × (a.refusal ≡ Some refusal) × (a.out.items ≡ [])
+IsRefused a = (refusal : Refusal) × (a.refusal ≡ Some refusal) × (bytes_in a.out ≡ [])
 
 -- the same answer, whose refusal is told in JSON where that is asked for
 abbrev pub IsToldAs : (json : Bool) → (before after : Answer) → Type 0

@@ -45,7 +45,7 @@ fn first_alone(alloc: Global, outcome: Outcome) -> Result<Report, AllocError> {
 fn prints(alloc: Global, answer: &Answer, wanted: &str) -> bool {
     let mut written: Vec<u8> = Vec::new(alloc);
     let mut told: Vec<u8> = Vec::new(alloc);
-    answer.print(&mut written, &mut told) == 2
+    answer.print(alloc, &mut written, &mut told) == 2
         && written.as_slice() == wanted.as_bytes()
         && told.as_slice() == b"canvas: memory refused\n".as_slice()
 }

@@ -36,7 +36,7 @@ fn words_without_memory(rt: HostRuntime) -> Result<(), Fail> {
     let mut told: Vec<u8> = Vec::new(rt.alloc());
     let mut written: Vec<u8> = Vec::new(rt.alloc());
     let answer = refuse_words(rt.alloc(), &io::Error::from(ErrorKind::OutOfMemory));
-    let status = answer.print(&mut written, &mut told);
+    let status = answer.print(rt.alloc(), &mut written, &mut told);
     assert!(rt; status == 2 && written.is_empty());
     assert!(rt; told.as_slice() == b"canvas: memory refused\n".as_slice());
     Ok(())

@@ -1,7 +1,6 @@
-use Rattle.std.proofs.Common.{◌≡◌, ◌∙◌, ap, map, inr, [], ◌∷◌, string_bytes}
+use Rattle.std.proofs.Common.{◌∙◌, ap, map, inr, [], ◌∷◌}
 use Rattle.std.proofs.lemmas.List.{map-append}
 use Rattle.std.proofs.lemmas.Result.{IfOk-weaker}
-use Rattle.canvas_answer.specs.Items.{IsObject}
 use Rattle.canvas_answer.proofs.each.object_of.Goals as goal
 
 pub returns-in-Some : goal.returns-in-Some

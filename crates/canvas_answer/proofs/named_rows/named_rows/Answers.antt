@@ -1,4 +1,4 @@
-use Rattle.std.proofs.Common.{◌≡◌, ◌∙◌, ℕ, Option, sym, subst}
+use Rattle.std.proofs.Common.{◌∙◌, ℕ, Option, sym, subst}
 use Rattle.std.proofs.lemmas.Result.{IfOk-weaker}
 use Rattle.canvas_task.specs.Text.{Text}
 use Rattle.canvas_answer.specs.Raised.{AreShown, class_of, own_class}

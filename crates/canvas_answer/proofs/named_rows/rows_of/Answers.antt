@@ -1,4 +1,4 @@
-use Rattle.std.proofs.Common.{◌≡◌, ◌∙◌, ◌+◌, ℕ, Option, suc, sym, ap, subst, arith}
+use Rattle.std.proofs.Common.{◌≡◌, ◌∙◌, ◌+◌, ℕ, Option, suc, sym, subst, arith}
 use Rattle.canvas_task.specs.Text.{Text}
 use Rattle.canvas_answer.specs.Raised.{IsShown, AreShown}
 use Rattle.canvas_answer.specs.steps.Classes.{class_at}
