@@ -18,6 +18,7 @@ use Rattle.canvas_collect.specs.Looks.{looks}
 use Rattle.canvas_collect.specs.Pieces.{lines_in}
 use Rattle.canvas_export.specs.Envelope.{message_text}
 use Rattle.canvas_export.specs.ExportView.{setting, naming_of}
+use Rattle.canvas_export.specs.Filled.{IsFilledStart}
 use Rattle.canvas_export.specs.Resp.{resp}
 use Rattle.canvas_export.specs.Start.{start}
 use Rattle.canvas_export.specs.Starting.{starting}
@@ -79,8 +80,15 @@ abbrev pub IsStoredPicture : (run : Text) → (completes : Bool) → (results : 
 IsStoredPicture run completes results l a =
     (rows : List Row) × AreReported run completes results l rows × IsPictured [] (Some rows) l a
 
+-- the commands that start a plan's line with the values of some file
+abbrev pub IsFilledAnswer : (run : Text) → Target → Line → Answer → Type 0
+IsFilledAnswer run target l a =
+    (values : Text) × (bytes : Text) × IsFilledStart values run (setting target) l bytes
+    × AnswersAll bytes 0 a
+
 -- Of a report it is said of the results that the input gave.
 abbrev pub IsOnCelery : (run : Text) → OnCelery → Line → Answer → Type 0
-IsOnCelery run (Export target) l a = AnswersAll (commands_of run target l) 0 a
+IsOnCelery run (Export target None) l a = AnswersAll (commands_of run target l) 0 a
+IsOnCelery run (Export target (Some file)) l a = IsFilledAnswer run target l a
 IsOnCelery run (Keys prefix) l a = AnswersAll (result_keys run prefix.now (count_line l)) 0 a
 IsOnCelery run (Collect collecting) l a = (results : Text) × IsCollected run collecting results l a

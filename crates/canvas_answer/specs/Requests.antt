@@ -1,5 +1,5 @@
 -- What a command asks for with what is given for its options.
-use Rattle.std.specs.Prelude.{◌≡◌, ℕ, Bool, true, false, if◌then◌else◌, List, Option, None, Some, codes, unwrap_or, not}
+use Rattle.std.specs.Prelude.{◌≡◌, ℕ, Bool, true, false, if◌then◌else◌, List, Option, None, Some, codes, option_map, unwrap_or, not}
 use Rattle.clap.specs.Walk.{Row, first_of}
 use Rattle.canvas_adapt.specs.RenameTexts.{AreRenameTexts}
 use Rattle.canvas_celery.specs.declared.run_number.Run as run_number
@@ -104,8 +104,9 @@ module _ (given : List Row) where
   IsVerb Graph (verb.Graph states) = IsShowing (first_of (codes "results") given) states
   IsVerb Messages (verb.Messages workers turns calls) =
       IsWorkers workers × AreTurns workers turns.items × IsFlag given (codes "calls") calls
-  IsVerb Export (verb.Celery run (celery.Export target)) =
+  IsVerb Export (verb.Celery run (celery.Export target values)) =
       IsRun (codes "run") run × IsTarget target
+      × (option_map (λ f. f.now) values ≡ first_of (codes "values") given)
   IsVerb Keys (verb.Celery run (celery.Keys prefix)) =
       IsRun (codes "run") run × (prefix.now ≡ text_of given (codes "prefix"))
   IsVerb Collect (verb.Celery run (celery.Collect collecting)) =

@@ -8,6 +8,7 @@ ghost use Rattle.canvas_answer.specs.Answers.{AnswersAll};
 ghost use Rattle.canvas_answer.specs.OnCelery.{IsOnCelery, IsCollected, IsStoredText, AreCompleted, AreReported, commands_of};
 ghost use Rattle.canvas_answer.specs.Plans.{IsTextPlan};
 
+mod filled;
 mod refusal;
 
 use crate::answer::Answer;
@@ -22,6 +23,8 @@ use canvas_export::{Start, Target};
 use canvas_report::{Row, Told, explained_text, stored_rows_text, stored_text};
 use canvas_rewrite::Plan;
 use canvas_task::Memory;
+use filled::answer_filled;
+pub use filled::{PlaceFault, ValueFault};
 pub use refusal::CeleryRefusal;
 use std::alloc::Global;
 use std::io::Read;
@@ -31,9 +34,15 @@ use std::rt::Files;
 #[derive(Clone, Copy, Drop)]
 pub enum OnCelery<'w> {
     /// Its start, as commands for Redis.
-    Export(Target<'w>),
+    Export {
+        target: Target<'w>,
+        /// The file with the values of its places, if it has them; `-` is standard input.
+        values: Option<&'w str>,
+    },
     /// The keys of its results on Redis.
-    Keys { prefix: &'w str },
+    Keys {
+        prefix: &'w str,
+    },
     /// The report of the results that Celery's workers stored.
     Collect(Collecting),
 }
@@ -64,7 +73,14 @@ where
 {
     let alloc = rt.alloc();
     match asked {
-        OnCelery::Export(target) => answer_export(alloc, run, &target, text, texts),
+        OnCelery::Export {
+            target,
+            values: Some(file),
+        } => answer_filled(rt, run, &target, file, text, texts, input),
+        OnCelery::Export {
+            target,
+            values: None,
+        } => answer_export(alloc, run, &target, text, texts),
         OnCelery::Keys { prefix } => {
             let plan = lasting(plan_of(alloc, text)?);
             answer_keys(alloc, &plan, run, prefix)

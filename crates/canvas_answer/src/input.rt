@@ -5,7 +5,7 @@ ghost use Rattle.canvas_task.specs.Text.{Text};
 ghost use Rattle.canvas_values.specs.CanvasText.{most_bytes};
 ghost use Rattle.canvas_answer.specs.Inputs.{IsCanvasRead, IsRead};
 
-use crate::celery::CeleryRefusal;
+use crate::celery::{CeleryRefusal, ValueFault};
 use crate::refusal::Refusal;
 use crate::unread::Unread;
 use canvas_sig::MOST_BYTES;
@@ -125,6 +125,18 @@ where
     ensures { IfOk result (λ results. length results.items ≤ 64 * most_bytes) }
 {
     bytes_within(rt, file, input, MOST_RESULTS)?.ok_or(Refusal::Celery(CeleryRefusal::TooLarge))
+}
+
+/// The text with the values of places.
+pub(crate) fn values_of<S, R: Read>(rt: &S, file: &str, input: &mut R) -> Result<Vec<u8>, Refusal>
+where
+    S: Files + AllocGlobal,
+    ensures { IfOk result (λ values. length values.items ≤ most_bytes) }
+{
+    match bytes_within(rt, file, input, MOST_BYTES)? {
+        Some(values) => Ok(values),
+        None => Err(Refusal::of_values(rt.alloc(), file, ValueFault::TooLong)),
+    }
 }
 
 /// The refusal of a file that can't be read, which the words name so.

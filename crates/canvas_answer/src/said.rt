@@ -28,6 +28,8 @@ impl fmt::Display for Name<'_> {
             | Refusal::BadNumber { .. }
             | Refusal::NoTaskToAnswer(_)
             | Refusal::NoTaskNamed { .. } => "BadTask",
+            Refusal::BadValue { .. } => "BadValue",
+            Refusal::BadPlace { .. } => "BadPlace",
             Refusal::Memory => "Memory",
             Refusal::Stopped => "Stopped",
             Refusal::CannotWrite => "CannotWrite",
@@ -156,6 +158,8 @@ impl fmt::Display for Note<'_> {
             Refusal::BadTaskLine { file, line, fault } => self.write_line(f, *line, file, fault),
             Refusal::BadRename { text, fault } => self.write_word(f, text, fault),
             Refusal::BadNumber { text, fault } => self.write_word(f, text, fault),
+            Refusal::BadValue { file, fault } => self.write_word(f, file, fault),
+            Refusal::BadPlace { text, fault } => self.write_word(f, text, fault),
             Refusal::NoTask(task) | Refusal::NoTaskToAnswer(task) => write_number(f, *task),
             Refusal::NoTaskNamed { name, near } => self.write_name(f, name, near),
             Refusal::CannotRead { file, why } => self.write_word(f, file, why),

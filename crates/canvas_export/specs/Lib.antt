@@ -11,4 +11,7 @@ pub mod Sizeless
 pub mod MessageReading
 pub mod ExportReading
 pub mod ExportView
+pub mod Places
+pub mod Values
+pub mod Filled
 pub mod steps

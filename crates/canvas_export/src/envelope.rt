@@ -1,7 +1,10 @@
 //! kombu's envelope: a message as it lies in a list of Redis.
 
 ghost use Rattle.std.specs.Prelude.{◌≡◌, IfOk, OnOk, Some, codes, true};
+ghost use Rattle.base64.specs.Engines.{standard};
+ghost use Rattle.base64.specs.GeneralPurpose.{decoded_of, encode_of};
 ghost use Rattle.serde_json.specs.Data.{string};
+ghost use Rattle.serde_json.specs.Written.{compact_text};
 ghost use Rattle.canvas_wire.specs.steps.Tokens.{Appends, data_tokens};
 ghost use Rattle.canvas_envelope.specs.Fits.{fits};
 ghost use Rattle.canvas_writing.specs.steps.Tokens.{named_tokens};
@@ -70,6 +73,26 @@ fn write_envelope(
     out.end_object()
 }
 
+/// The text of a message with this body.
+pub(crate) fn envelope_around(
+    alloc: Global,
+    names: &Names<'_>,
+    queue: &str,
+    message: &Message,
+    body: &[u8],
+) -> Result<Vec<u8>, AllocError>
+    ensures text { IfOk result (λ text. text.items ≡ compact_text (envelope_wire (naming names.now)
+        queue.now (string (encode_of standard body.now)) message.now)) }
+    ensures kept { OnOk result
+        (decoded_of standard (encode_of standard body.now) ≡ Some body.now) }
+    ensures checked { OnOk result (fits message.now ≡ true) }
+{
+    let encoded = STANDARD.encode(alloc, body)?;
+    let mut out = Writer::new(Vec::new(alloc));
+    write_envelope(&mut out, names, queue, message, &encoded)?;
+    Ok(out.into_inner())
+}
+
 /// The text of a message, which reads back as what the message says, but for the sizes of chords.
 pub(crate) fn envelope_text(
     alloc: Global,
@@ -83,8 +106,5 @@ pub(crate) fn envelope_text(
         → read_message text.items ≡ Some (sizeless message.now)) }
 {
     let body = body_of(alloc, names, message)?;
-    let encoded = STANDARD.encode(alloc, &body)?;
-    let mut out = Writer::new(Vec::new(alloc));
-    write_envelope(&mut out, names, queue, message, &encoded)?;
-    Ok(out.into_inner())
+    envelope_around(alloc, names, queue, message, &body)
 }

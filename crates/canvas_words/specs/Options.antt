@@ -87,7 +87,8 @@ options Graph =
 options Messages =
     file ∷ workers ∷ turns ∷ flag (codes "calls") ∷ adapt ∷ task ∷ tasks ∷ json ∷ []
 options Export =
-    file ∷ of_run ∷ adapt ∷ or_else (codes "celery") (text (codes "queue")) ∷ prefix
+    file ∷ of_run ∷ adapt ∷ text (codes "values")
+    ∷ or_else (codes "celery") (text (codes "queue")) ∷ prefix
     ∷ or_else (codes "86400") (number (codes "expires") 1 1000000000)
     ∷ number (codes "broker-db") 0 1000000 ∷ number (codes "backend-db") 0 1000000
     ∷ flag (codes "without-script") ∷ json ∷ []

@@ -190,6 +190,13 @@ pub(crate) const RUN: Argument = Argument {
     help: "The run: 22 lower-case hexadecimal digits that no other run on this Redis has",
 };
 
+pub(crate) const VALUES: Argument = Argument {
+    name: "values",
+    takes: Takes::Text("VALUES"),
+    given: Given::Maybe,
+    help: "A JSON array: its items are the arguments ~0, ~1 and so on; `-` is standard input",
+};
+
 pub(crate) const QUEUE: Argument = Argument {
     name: "queue",
     takes: Takes::Text("NAME"),

@@ -11,8 +11,8 @@ use crate::Subcommand;
 use crate::arguments::{
     ADAPT, AGAIN, Argument, BACKEND_DATABASE, BROKER_DATABASE, CALLS, COMPLETE, EACH, EXPIRES,
     EXPLAIN, FAIL, FIGURES_JSON, FILE, FILE_ALONE, JSON, NULL, OF, PREFIX, QUEUE, REFUSAL_JSON,
-    RENAME, RESULTS, RUN, STATES, STRICT, TASK, TASKS, TURNS, WITH_TASKS, WITHOUT_SCRIPT, WORKERS,
-    arguments_of,
+    RENAME, RESULTS, RUN, STATES, STRICT, TASK, TASKS, TURNS, VALUES, WITH_TASKS, WITHOUT_SCRIPT,
+    WORKERS, arguments_of,
 };
 use clap::Command;
 use std::alloc::{AllocError, Global};
@@ -54,10 +54,11 @@ static MESSAGES: [Argument; 8] = [
 ];
 
 /// Those of `export`.
-static EXPORT: [Argument; 10] = [
+static EXPORT: [Argument; 11] = [
     FILE,
     RUN,
     ADAPT,
+    VALUES,
     QUEUE,
     PREFIX,
     EXPIRES,

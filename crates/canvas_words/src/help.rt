@@ -104,7 +104,11 @@ A run's number is used once (another is refused as BadRun). `collect --complete`
 failure reaches their state, where Celery leaves them pending. A result that is no whole number is
 shown as JSON, and an exception of another name by that. `graph FILE --results FILE --of HEX22`
 draws results from a file. Of a canvas with options that are ignored, as queue and countdown,
-`export` says on standard error how many signatures have each. Results are refused by a name:
+`export` says on standard error how many signatures have each. With `export --values VALUES` each
+argument that is a place, the text ~0, ~1 and so on, goes to the workers as the item of that number
+of the JSON array in VALUES, whatever it is. There a text that begins with ~ and is no place of an
+item, also as a task's name, is refused as BadPlace, and what is no such array, or more than
+1,048,576 bytes, as BadValue. Results are refused by a name:
 BadCount (fewer or more than tasks), TooLarge (more than 67,108,864 bytes), and of a task's result
 NotJson, OtherTask, UnknownState, UnknownException (a failure that names none).
 

@@ -1,0 +1,139 @@
+//! The start of a plan some of whose arguments are places, which have values.
+
+ghost use Rattle.std.specs.Prelude.{◌≡◌, IfOk, List, OnOk, Some, None, map};
+ghost use Rattle.json.specs.Json.{Json};
+ghost use Rattle.json.specs.Value.{value_view};
+ghost use Rattle.canvas_effects.specs.Effects.{first_messages};
+ghost use Rattle.canvas_semantics.specs.Line.{names};
+ghost use Rattle.canvas_export.specs.Envelope.{body_wire};
+ghost use Rattle.canvas_export.specs.ExportView.{setting, naming, naming_of};
+ghost use Rattle.canvas_export.specs.Filled.{AreUnmarked, IsFilledStart, filled_message, filled_text};
+ghost use Rattle.canvas_export.specs.Values.{AreValues};
+ghost use Rattle.canvas_export.specs.steps.Filling.{HaveNumbers};
+
+use crate::envelope::envelope_around;
+use crate::exporting::{sizes_of, start_of};
+use crate::filling::{filled_text, is_marked};
+use crate::values::values_of;
+use crate::write::{Names, body_of};
+use crate::{FillFault, Target};
+use canvas_celery::Run;
+use canvas_effects::first_messages;
+use canvas_envelope::Message;
+use canvas_rewrite::Plan;
+use json::{Scratch, Value};
+use std::alloc::Global;
+
+/// The body of a message, with a value in each place.
+fn filled_body(
+    alloc: Global,
+    names: &Names<'_>,
+    message: &Message,
+    values: &[Value<'_>],
+) -> Result<Vec<u8>, FillFault>
+    requires { HaveNumbers (map value_view values.now) }
+    ensures { IfOk result (λ text. filled_text (map value_view values.now)
+        (body_wire (naming names.now) message.now) ≡ Some text.items) }
+{
+    let body = body_of(alloc, names, message)?;
+    filled_text(alloc, str::from_utf8(&body).unwrap(), values)
+}
+
+/// The text of a message with such a body.
+fn filled_envelope(
+    alloc: Global,
+    names: &Names<'_>,
+    queue: &str,
+    message: &Message,
+    values: &[Value<'_>],
+) -> Result<Vec<u8>, FillFault>
+    requires { HaveNumbers (map value_view values.now) }
+    ensures { IfOk result (λ text. filled_message (map value_view values.now) (naming names.now)
+        queue.now message.now ≡ Some text.items) }
+{
+    let body = filled_body(alloc, names, message, values)?;
+    Ok(envelope_around(alloc, names, queue, message, &body)?)
+}
+
+/// The texts of messages, in their order.
+fn encode_filled(
+    alloc: Global,
+    names: &Names<'_>,
+    queue: &str,
+    messages: &[Message],
+    values: &[Value<'_>],
+) -> Result<Vec<Vec<u8>>, FillFault>
+    requires { HaveNumbers (map value_view values.now) }
+    ensures { IfOk result (λ texts. map (λ t. Some t.items) texts.items
+        ≡ map (filled_message (map value_view values.now) (naming names.now) queue.now)
+        messages.now) }
+{
+    let mut texts = Vec::new(alloc);
+    for message in messages {
+        texts.push(filled_envelope(alloc, names, queue, message, values)?)?;
+    }
+    Ok(texts)
+}
+
+/// The texts of the messages that a plan starts with, with the values of a text in their places.
+fn filled_texts(
+    alloc: Global,
+    plan: &Plan,
+    run: &Run,
+    queue: &str,
+    values: &[u8],
+) -> Result<Vec<Vec<u8>>, FillFault>
+    ensures { IfOk result (λ texts. (list : List Json) × AreValues values.now list
+        × (map (λ t. Some t.items) texts.items
+        ≡ map (filled_message list (naming_of run.now.digits plan.now) queue.now)
+        (first_messages plan.now))) }
+{
+    let mut scratch = Scratch::new(alloc);
+    let values = values_of(alloc, values, &mut scratch)?;
+    let messages = first_messages(alloc, plan)?;
+    let names = Names { run, plan };
+    encode_filled(alloc, &names, queue, &messages, &values)
+}
+
+/// The first of the tasks' names that begins with `~`.
+fn marked_name(plan: &Plan) -> Option<&str>
+    ensures { result ≡ None → AreUnmarked (names plan.now) }
+{
+    for index in 0..plan.tasks() {
+        if let Some(name) = plan.name(plan.task_at(index))
+            && is_marked(name)
+        {
+            return Some(name);
+        }
+    }
+    None
+}
+
+/// Refuses a task's name that begins with `~`, since it could be taken for a place.
+fn check_names(alloc: Global, plan: &Plan) -> Result<(), FillFault>
+    ensures { OnOk result (AreUnmarked (names plan.now)) }
+{
+    match marked_name(plan) {
+        Some(name) => Err(FillFault::of_name(alloc, name)),
+        None => Ok(()),
+    }
+}
+
+/// As `export`, of a plan some of whose arguments are places: the texts `~0`, `~1` and so on, which
+/// have the values of a JSON array in their order. In the messages each place is its value. A value
+/// may be in several places, and some in none.
+pub fn export_with(
+    alloc: Global,
+    plan: &Plan,
+    run: &Run,
+    target: &Target<'_>,
+    values: &[u8],
+) -> Result<Vec<u8>, FillFault>
+    ensures { IfOk result (λ bytes. IsFilledStart values.now run.now.digits (setting target.now)
+        plan.now bytes.items) }
+{
+    check_names(alloc, plan)?;
+    let texts = filled_texts(alloc, plan, run, target.queue, values)?;
+    let sizes = sizes_of(alloc, plan)?;
+    Ok(start_of(alloc, run, target, &sizes, &texts)?)
+}
