@@ -1,6 +1,9 @@
 -- Tokens that were written, said otherwise.
-use Rattle.std.proofs.Common.{◌≡◌, ◌∙◌, ℕ, append_assoc, List, [], ◌∷◌, ◌++◌, Option, Some, None, refl, sym, ap, codes}
+use Rattle.std.proofs.Common.{◌≡◌, ◌∙◌, ℕ, append_assoc, List, [], ◌∷◌, ◌++◌, Option, Some, None, refl, sym, ap, subst, codes}
 use Rattle.std.specs.Prelude.{Result, Ok, Err}
+use Rattle.std.specs.Str.{IsUtf8}
+use Rattle.json.specs.Lex.{tokens}
+use Rattle.json.specs.Print.{print}
 use Rattle.json.specs.Written.{Written}
 use Rattle.json.specs.Token.{Token, begin_object, end_object, key, string}
 use Rattle.serde_json.specs.Data.{Data, object, member, no_members}
@@ -9,6 +12,7 @@ use Rattle.canvas_semantics.specs.PlacedLine.{PPlace, p_nowhere, p_group, p_chor
 use Rattle.canvas_rewrite.specs.declared.frozen.Carried.{Carried}
 use Rattle.canvas_rewrite.specs.declared.frozen.Place.{Place, out-Place}
 use Rattle.canvas_wire.specs.steps.Tokens.{Appends, data_tokens}
+use Rattle.canvas_wire.proofs.Writers.{Stands}
 use Rattle.canvas_envelope.specs.MessageView.{place_view}
 use Rattle.canvas_writing.specs.steps.Tokens.{named_tokens}
 use Rattle.canvas_envelope.proofs.Seen.{group_place, chord_place}
@@ -91,3 +95,17 @@ envelope_written body headers properties =
     ap (λ x. begin_object ∷ (named_tokens (codes "body") (json.string body) ++ (named_tokens (codes "content-encoding") (json.string (codes "utf-8"))
     ++ (named_tokens (codes "content-type") (json.string (codes "application/json")) ++ key (codes "headers") ∷ x))))
     (regroup (data_tokens headers) (data_tokens properties) (end_object ∷ []))
+
+-- ---- a whole text
+
+whole_print : (end : Written) (bytes : List ℕ) → end.before ≡ [] → bytes ≡ end.before ++ print end.tokens → bytes ≡ print end.tokens
+whole_print end bytes before is = is ∙ ap (λ xs. xs ++ print end.tokens) before
+
+pub whole_tokens : (d : Data) (start end : Written) (bytes : List ℕ) → start.before ≡ [] → start.tokens ≡ [] → Stands start end (data_tokens d)
+    → bytes ≡ end.before ++ print end.tokens → tokens (print end.tokens) ≡ end.tokens → tokens bytes ≡ data_tokens d
+whole_tokens d start end bytes empty new written is back =
+    ap tokens (whole_print end bytes (written.1 ∙ empty) is) ∙ back ∙ written.0 ∙ ap (λ ts. ts ++ data_tokens d) new
+
+pub whole_utf8 : (d : Data) (start end : Written) (bytes : List ℕ) → start.before ≡ [] → Stands start end (data_tokens d)
+    → bytes ≡ end.before ++ print end.tokens → IsUtf8 (print end.tokens) → IsUtf8 bytes
+whole_utf8 d start end bytes empty written is good = subst IsUtf8 (sym (whole_print end bytes (written.1 ∙ empty) is)) good

@@ -1,6 +1,6 @@
 //! The start of a plan some of whose arguments are places, which have values.
 
-ghost use Rattle.std.specs.Prelude.{◌≡◌, IfOk, List, OnOk, Some, None, map};
+ghost use Rattle.std.specs.Prelude.{◌≡◌, IfOk, List, OnOk, Some, None, map, option_map};
 ghost use Rattle.json.specs.Json.{Json};
 ghost use Rattle.json.specs.Value.{value_view};
 ghost use Rattle.canvas_effects.specs.Effects.{first_messages};
@@ -9,7 +9,7 @@ ghost use Rattle.canvas_export.specs.Envelope.{body_wire};
 ghost use Rattle.canvas_export.specs.ExportView.{setting, naming, naming_of};
 ghost use Rattle.canvas_export.specs.Filled.{AreUnmarked, IsFilledStart, filled_message, filled_text};
 ghost use Rattle.canvas_export.specs.Values.{AreValues};
-ghost use Rattle.canvas_export.specs.steps.Filling.{HaveNumbers};
+ghost use Rattle.canvas_export.specs.steps.Filling.{HaveNumbers, is_marked_name};
 
 use crate::envelope::envelope_around;
 use crate::exporting::{sizes_of, start_of};
@@ -95,15 +95,24 @@ fn filled_texts(
     encode_filled(alloc, &names, queue, &messages, &values)
 }
 
+/// Whether what a task is called begins with `~`.
+fn is_marked_name(name: Option<&str>) -> bool
+    ensures { result ≡ is_marked_name (option_map (λ name. name.now) name.entry) }
+{
+    match name {
+        Some(name) => is_marked(name),
+        None => false,
+    }
+}
+
 /// The first of the tasks' names that begins with `~`.
 fn marked_name(plan: &Plan) -> Option<&str>
     ensures { result ≡ None → AreUnmarked (names plan.now) }
 {
     for index in 0..plan.tasks() {
-        if let Some(name) = plan.name(plan.task_at(index))
-            && is_marked(name)
-        {
-            return Some(name);
+        let name = plan.name(plan.task_at(index));
+        if is_marked_name(name) {
+            return name;
         }
     }
     None

@@ -1,11 +1,11 @@
 -- Values filled into the tokens of a JSON text, one token after the other.
-use Rattle.std.specs.Prelude.{◌≡◌, ◌≢◌, List, [], ◌∷◌, ◌++◌, Option, Some, option_map, option_and_then, ⊤}
+use Rattle.std.specs.Prelude.{◌≡◌, ◌≢◌, Bool, false, List, [], ◌∷◌, ◌++◌, Option, Some, None, option_map, option_and_then, ⊤}
 use Rattle.json.specs.Json.{Json}
 use Rattle.json.specs.Token.{Token, string, bad}
 use Rattle.json.specs.Tree.{json_tokens, HasNumbers}
 use Rattle.json.specs.Written.{Written}
 use Rattle.canvas_task.specs.Text.{Text}
-use Rattle.canvas_export.specs.Places.{told_by}
+use Rattle.canvas_export.specs.Places.{is_marked, told_by}
 
 abbrev pub text_filled : List Json → Text → Option (List Token)
 text_filled vs s = option_map json_tokens (told_by vs s)
@@ -33,3 +33,8 @@ HaveNumbers (j ∷ js) = HasNumbers j × HaveNumbers js
 abbrev pub AreGood : List Token → Type 0
 AreGood [] = ⊤
 AreGood (t ∷ ts) = (t ≢ bad) × AreGood ts
+
+-- what a task is called, if there is one
+abbrev pub is_marked_name : Option Text → Bool
+is_marked_name None = false
+is_marked_name (Some s) = is_marked s

@@ -1,6 +1,8 @@
 //! The body of a message: its arguments, and what goes with the call.
 
 ghost use Rattle.std.specs.Prelude.{◌≡◌, ◌∷◌, ◌++◌, IfOk, map, reverse, codes};
+ghost use Rattle.std.specs.Str.{IsUtf8};
+ghost use Rattle.json.specs.Lex.{tokens};
 ghost use Rattle.json.specs.Token.{begin_array, begin_object};
 ghost use Rattle.serde_json.specs.Data.{array};
 ghost use Rattle.serde_json.specs.Written.{compact_text};
@@ -165,8 +167,11 @@ pub(crate) fn body_of(
     names: &Names<'_>,
     message: &Message,
 ) -> Result<Vec<u8>, AllocError>
-    ensures { IfOk result
+    ensures text { IfOk result
         (λ text. text.items ≡ compact_text (body_wire (naming names.now) message.now)) }
+    ensures tokens { IfOk result
+        (λ text. tokens text.items ≡ data_tokens (body_wire (naming names.now) message.now)) }
+    ensures utf8 { IfOk result (λ text. IsUtf8 text.items) }
 {
     let mut out = Writer::new(Vec::new(alloc));
     write_body(&mut out, names, message)?;
