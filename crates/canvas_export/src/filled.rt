@@ -3,22 +3,20 @@
 ghost use Rattle.std.specs.Prelude.{◌≡◌, IfOk, List, OnOk, Some, None, map, option_map};
 ghost use Rattle.json.specs.Json.{Json};
 ghost use Rattle.json.specs.Value.{value_view};
-ghost use Rattle.canvas_effects.specs.Effects.{first_messages};
 ghost use Rattle.canvas_semantics.specs.Line.{names};
 ghost use Rattle.canvas_export.specs.Envelope.{body_wire};
-ghost use Rattle.canvas_export.specs.ExportView.{setting, naming, naming_of};
+ghost use Rattle.canvas_export.specs.ExportView.{setting, naming};
 ghost use Rattle.canvas_export.specs.Filled.{AreUnmarked, IsFilledStart, filled_message, filled_text};
 ghost use Rattle.canvas_export.specs.Values.{AreValues};
 ghost use Rattle.canvas_export.specs.steps.Filling.{HaveNumbers, is_marked_name};
 
 use crate::envelope::envelope_around;
-use crate::exporting::{sizes_of, start_of};
 use crate::filling::{filled_text, is_marked};
+use crate::parts::Parts;
 use crate::values::values_of;
 use crate::write::{Names, body_of};
 use crate::{FillFault, Target};
 use canvas_celery::Run;
-use canvas_effects::first_messages;
 use canvas_envelope::Message;
 use canvas_rewrite::Plan;
 use json::{Scratch, Value};
@@ -75,24 +73,21 @@ fn encode_filled(
     Ok(texts)
 }
 
-/// The texts of the messages that a plan starts with, with the values of a text in their places.
+/// The texts of messages, with the values of a text in their places.
 fn filled_texts(
     alloc: Global,
-    plan: &Plan,
-    run: &Run,
+    names: &Names<'_>,
     queue: &str,
+    messages: &[Message],
     values: &[u8],
 ) -> Result<Vec<Vec<u8>>, FillFault>
     ensures { IfOk result (λ texts. (list : List Json) × AreValues values.now list
         × (map (λ t. Some t.items) texts.items
-        ≡ map (filled_message list (naming_of run.now.digits plan.now) queue.now)
-        (first_messages plan.now))) }
+        ≡ map (filled_message list (naming names.now) queue.now) messages.now)) }
 {
     let mut scratch = Scratch::new(alloc);
     let values = values_of(alloc, values, &mut scratch)?;
-    let messages = first_messages(alloc, plan)?;
-    let names = Names { run, plan };
-    encode_filled(alloc, &names, queue, &messages, &values)
+    encode_filled(alloc, names, queue, messages, &values)
 }
 
 /// Whether what a task is called begins with `~`.
@@ -142,7 +137,8 @@ pub fn export_with(
         plan.now bytes.items) }
 {
     check_names(alloc, plan)?;
-    let texts = filled_texts(alloc, plan, run, target.queue, values)?;
-    let sizes = sizes_of(alloc, plan)?;
-    Ok(start_of(alloc, run, target, &sizes, &texts)?)
+    let parts = Parts::of(alloc, plan, run, target)?;
+    let names = Names { run, plan };
+    let texts = filled_texts(alloc, &names, target.queue, &parts.messages, values)?;
+    Ok(parts.with_texts(alloc, &texts)?)
 }

@@ -9,7 +9,7 @@ ghost use Rattle.canvas_effects.specs.Effects.{first_messages};
 ghost use Rattle.canvas_export.specs.Resp.{resp, word_bytes, words_bytes};
 ghost use Rattle.canvas_export.specs.Starting.{starting};
 ghost use Rattle.canvas_export.specs.Start.{commands, start};
-ghost use Rattle.canvas_export.specs.steps.Around.{Surrounds, parts_bytes};
+ghost use Rattle.canvas_export.specs.steps.Around.{Surrounds, around_texts, parts_bytes};
 ghost use Rattle.canvas_export.specs.steps.Sizes.{size_view};
 ghost use Rattle.canvas_export.specs.ExportView.{setting, naming, naming_of};
 ghost use Rattle.canvas_export.specs.Envelope.{message_text};
@@ -21,7 +21,7 @@ use crate::around::Around;
 use crate::by_script::around_in_script;
 use crate::by_transaction::around_in_transaction;
 use crate::envelope::envelope_text;
-use crate::resp::push_word;
+use crate::resp::{push_texts, push_word};
 use crate::starting::{Size, push_sizes};
 use crate::write::Names;
 use canvas_celery::Run;
@@ -36,7 +36,7 @@ use std::io::{self, Write};
 #[derive(Drop)]
 pub(crate) struct Parts {
     around: Around,
-    messages: Vec<Message>,
+    pub(crate) messages: Vec<Message>,
 }
 
 /// The chords whose headers start with a plan, whose line can stand in a message.
@@ -167,5 +167,16 @@ impl Parts {
         out.write_all(&self.around.front)?;
         write_messages(alloc, names, queue, &self.messages, out)?;
         out.write_all(&self.around.back)
+    }
+    /// The start where the messages have these texts.
+    pub(crate) fn with_texts(&self, alloc: Global, texts: &[Vec<u8>]) -> Result<Vec<u8>, AllocError>
+        ensures { IfOk result (λ bytes. bytes.items
+            ≡ around_texts self.now.around (map (λ t. t.items) texts.now)) }
+    {
+        let mut out = Vec::new(alloc);
+        out.extend_from_slice(&self.around.front)?;
+        push_texts(alloc, &mut out, texts)?;
+        out.extend_from_slice(&self.around.back)?;
+        Ok(out)
     }
 }

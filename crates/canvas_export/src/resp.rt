@@ -69,3 +69,18 @@ pub(crate) fn push_command(
     begin_command(alloc, out, words.len())?;
     push_words(alloc, out, words)
 }
+
+/// Texts as words, one after the other.
+pub(crate) fn push_texts(
+    alloc: Global,
+    out: &mut Vec<u8>,
+    texts: &[Vec<u8>],
+) -> Result<(), AllocError>
+    ensures { OnOk result
+        (out.new.items ≡ out.old.items ++ words_bytes (map (λ t. t.items) texts.now)) }
+{
+    for text in texts {
+        push_word(alloc, out, text)?;
+    }
+    Ok(())
+}

@@ -97,7 +97,7 @@ where
     let alloc = rt.alloc();
     let values = values_of(rt, file, input)?;
     match export_with(alloc, plan, run, target, &values) {
-        Ok(start) => Ok(Answer::whole(start).as_bytes()),
+        Ok(start) => Ok(Answer::raw(start)),
         Err(fault) => Err(refused(alloc, file, fault)),
     }
 }

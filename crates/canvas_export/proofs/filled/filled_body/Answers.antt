@@ -14,5 +14,5 @@ filled_text-requires-clause-good c =
 pub returns : goal.returns
 returns c =
     let same : c.unwrap.result.now ≡ c.in_ok-body.body.items = search rules in
-    body_made (λ t. t.items) c.filled_text.result (map value_view c.args.values.now) (body_wire (naming c.args.names.now) c.args.message.now) c.unwrap.result.now
-    (ap tokens same ∙ c.in_ok-body.ensures.tokens) c.filled_text.ensures
+    body_made (λ t. t.items) c.filled_text.result (map value_view c.args.values.now) (body_wire (naming c.args.names.now) c.args.message.now)
+    c.unwrap.result.now (ap tokens same ∙ c.in_ok-body.ensures.tokens) c.filled_text.ensures
