@@ -59,8 +59,7 @@ class Client:
             it.hear(channel, text)
         return len(self.server.listeners)
 
-    def pubsub(self, ignore_subscribe_messages):
-        assert ignore_subscribe_messages
+    def pubsub(self):
         self.server.listeners.append(Listener())
         return self.server.listeners[-1]
 
@@ -90,7 +89,10 @@ class Listener:
         self.channels, self.told, self.is_closed = set(), [], False
 
     def subscribe(self, *channels):
-        self.channels.update(channels)
+        for it in channels:
+            self.channels.add(it)
+            self.told.append({"type": "subscribe", "channel": it.encode(),
+                              "data": len(self.channels)})
 
     def hear(self, channel, text):
         if channel in self.channels:
@@ -101,8 +103,10 @@ class Listener:
         self.is_closed = True
         self.channels.clear()
 
-    def get_message(self):
-        return self.told.pop(0) if self.told else None
+    def get_message(self, ignore_subscribe_messages=False):
+        found = self.told.pop(0) if self.told else None
+        is_ignored = ignore_subscribe_messages and found and found["type"] == "subscribe"
+        return None if is_ignored else found
 
 
 def messages(client, queue="celery"):

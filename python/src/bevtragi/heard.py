@@ -33,7 +33,7 @@ class Heard:
         self._listener: Any = None
         try:
             if channels:
-                self._listener = client.pubsub(ignore_subscribe_messages=True)
+                self._listener = client.pubsub()
                 self._listener.subscribe(*channels)
         except Exception:
             self._listener = None
@@ -56,7 +56,7 @@ class Heard:
         """The results of tasks that ended, by channel."""
         while self._listener is not None:
             try:
-                told = self._listener.get_message()
+                told = self._listener.get_message()  # also one that it listens to a channel
             except Exception:
                 self._listener = told = None
             if told is None:
