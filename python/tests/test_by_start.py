@@ -52,6 +52,7 @@ class Waits(unittest.TestCase):
             self.assertEqual([it for it in found if it["waits_for"] or it["get"] == "WAITS"], [])
             for it in found:
                 self.assertEqual(it["get"] == "SUCCESS", it["status"] == "SUCCESS", it)
+                self.assertTrue(it["same"], it)  # what wait() reported didn't change
 
     def test_the_differences(self):
         """A start cures what differs, but for a task that no worker has."""
