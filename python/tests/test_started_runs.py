@@ -335,6 +335,13 @@ class Told(Runs):
         self.assertEqual({**report.silent}, {
             1: "its result isn't stored, and a task after it was called"})
 
+    def test_so_have_those_before_a_task_that_has(self):
+        run = self.started(THREE)
+        self.store(1, "RETRY", None)
+        self.store(3, "STARTED", None)
+        report = run.report()
+        self.assertEqual((report.due(), [*report.silent]), (["#3 shop.c (STARTED)"], [1, 2]))
+
     def test_nothing_is_heard_without_a_connection(self):
         def none(**_):
             raise OSError("no connection")
