@@ -9,6 +9,7 @@ import unittest
 import warnings
 from pathlib import Path
 from types import SimpleNamespace
+from unittest import mock
 
 HERE = Path(__file__).resolve().parent
 sys.path[:0] = [str(HERE.parent / "src"), str(HERE)]
@@ -225,8 +226,8 @@ class OnCelery(Runs):
         with self.assertRaisesRegex(NotEnded, "waits for #3 shop.c"):
             run.wait(0)
         self.store(3)
-        self.assertEqual(run.wait(0).silent, {
-            2: "its result isn't stored, and a task after it was called"})
+        self.assertEqual((run.wait(0).silent, run.wait(0)[2].ran),
+                         ({2: "its results are ignored"}, True))
         last = self.started(task("shop.b"), app)
         self.assertEqual((last.wait(0)[1].ran, last.wait(0).silent),
                          (None, {1: "its results are ignored"}))
@@ -323,24 +324,40 @@ class Told(Runs):
         self.store(1, result=5)
         self.assertEqual(run.wait(0).result, 5)
 
+    def test_a_result_may_be_stored_after_that_of_the_next_task(self):
+        run = self.started(THREE)
+        self.store(2), self.store(3)
+        self.assertEqual(run.report().due(), ["#1 shop.a"])
+        for call in (lambda: run.wait(0.1), run.settle):
+            with self.assertRaisesRegex(NotEnded, "waits for #1 shop.a"):
+                call()
+        threading.Timer(0.2, self.store, [1]).start()
+        report = run.wait(20)
+        self.assertEqual((report.succeeded, report.silent), (["shop.a", "shop.b", "shop.c"], {}))
+
     def test_a_task_has_ended_if_one_after_it_has_begun(self):
         run = self.started(THREE)
         self.store(1, "RETRY", None)
         self.store(2, "STARTED", None)
-        self.assertEqual(run.report().due(), ["#2 shop.b (STARTED)"])
+        self.assertEqual(run.report().due(), ["#1 shop.a (RETRY)", "#2 shop.b (STARTED)"])
+        self.assertEqual([row.ran for row in run.report()], [True, None, None])
         self.store(2), self.store(3)
-        report = run.wait(0)
+        before = time.monotonic()
+        with mock.patch("bevtragi.started_runs.PATIENCE", 0.3):
+            report = run.wait(20)
+        self.assertTrue(0.3 <= time.monotonic() - before < 10)
         self.assertEqual((report[1].ran, report.ran),
                          (True, ["shop.a", "shop.b", "shop.c"]))
         self.assertEqual({**report.silent}, {
             1: "its result isn't stored, and a task after it was called"})
+        self.assertEqual((run.report(), run.settle()), (report, []))
 
     def test_so_have_those_before_a_task_that_has(self):
         run = self.started(THREE)
         self.store(1, "RETRY", None)
-        self.store(3, "STARTED", None)
-        report = run.report()
-        self.assertEqual((report.due(), [*report.silent]), (["#3 shop.c (STARTED)"], [1, 2]))
+        self.store(3)
+        with mock.patch("bevtragi.started_runs.PATIENCE", 0.1):
+            self.assertEqual([*run.wait(20).silent], [1, 2])
 
     def test_nothing_is_heard_without_a_connection(self):
         def none(**_):

@@ -6,7 +6,7 @@ import datetime
 import functools
 import json
 import time
-from typing import Any, Dict, FrozenSet, List, NamedTuple, Union
+from typing import Any, Dict, FrozenSet, List, NamedTuple, Set, Union
 
 from .coming import IN_PLACE, Coming
 from .errors import BadCall, CanvasError, hidden
@@ -24,6 +24,9 @@ __tracebackhide__ = hidden
 
 #: The pauses between two looks at the results, in seconds.
 FIRST_PAUSE, LONGEST_PAUSE = 0.01, 0.5
+#: How long a result may come after that of a task that was called later: a worker sends what follows
+#: before it stores a result.
+PATIENCE = 5.0
 #: Why the result of a task that was called isn't known.
 PASSED = "its result isn't stored, and a task after it was called"
 
@@ -39,11 +42,14 @@ class Told(NamedTuple):
 
 class Seen(NamedTuple):
     """What is stored of each task, which of them failed, and who is to come: the tasks of which no
-    result comes, and why; and those that a worker may take, with their states."""
+    result comes, and why; and with their states those that a worker may take, and those that have
+    ended, since one after them was called, though that isn't stored yet."""
     told: List[Told]
     failed: FrozenSet[int]
+    passed: Set[int]
     silent: Dict[int, str]
     due: Dict[int, str]
+    late: Dict[int, str]
 
 
 class Run:
@@ -62,6 +68,7 @@ class Run:
         self._placed, self._place, self._coming = placed, place, coming
         self.keys: List[str] = keys_of(placed.text, number, place.prefix)
         self._heard = Heard(place.client, self.keys)
+        self._given_up: Set[int] = set()
 
     def __repr__(self) -> str:
         return f"<Run {self.number} of {len(self.keys)} tasks>"
@@ -77,12 +84,15 @@ class Run:
         if timeout is not None and not isinstance(timeout, (int, float)):
             raise BadCall(f"timeout is a number of seconds, not {timeout!r:.60}")
         until = None if timeout is None else time.monotonic() + timeout
-        pause, last, seen = FIRST_PAUSE, None, None  # type: float, Any, Any
+        pause, last, seen, since = FIRST_PAUSE, None, None, 0.0  # type: float, Any, Any, float
         while True:
             found = self._found()
             if seen is None or found != last:
-                pause, last, seen = FIRST_PAUSE, found, self._seen(found)
-            if not seen.due:
+                pause, last, seen, since = FIRST_PAUSE, found, self._seen(found), time.monotonic()
+            if not seen.due and seen.late and time.monotonic() - since >= PATIENCE:
+                self._given_up.update(seen.late)
+                seen = self._seen(found)
+            if not seen.due and not seen.late:
                 self._heard.close()
                 return self._report_of(seen)
             left = LONGEST_PAUSE if until is None else until - time.monotonic()
@@ -113,7 +123,7 @@ class Run:
         pending, so that its `get()` ends, too. What is stored is never changed. It gives the names
         of these tasks. Raises NotEnded if a task still comes."""
         seen = self._seen(self._found())
-        if seen.due:
+        if seen.due or seen.late:
             raise self._not_ended(seen, "", "wait() first")
         return [row.name for row, told in zip(self._report_of(seen), seen.told)
                 if row.status == "FAILURE" and told.state == "PENDING"
@@ -164,12 +174,15 @@ class Run:
         dropped = {number: it.state for number, it in enumerate(told, 1) if it.dropped}
         called = {row.number for row in self._coming.rows(failed) if row.ran}
         begun = {number for number, state in states.items() if state != "PENDING"}
-        passed = dict.fromkeys(sorted(self._coming.passed(begun, called)), PASSED)
         left = {number for number in called if states[number] not in ENDS}
-        silent = {number: why for number, why in {**self._coming.silent(failed, dropped),
-                                                  **passed}.items() if number in left}
-        due = {number: states[number] for number in self._coming.due(left - silent.keys())}
-        return Seen(told, failed, silent, due)
+        passed = self._coming.passed(begun, called) & left
+        silent = {number: why for number, why in self._coming.silent(failed, dropped).items()
+                  if number in left}
+        silent.update(dict.fromkeys(sorted(passed & self._given_up - silent.keys()), PASSED))
+        late = passed - silent.keys()
+        due = self._coming.due(left - silent.keys() - late)
+        return Seen(told, failed, passed, silent, {number: states[number] for number in due},
+                    {number: states[number] for number in sorted(late)})
 
     def _report_of(self, seen: Seen) -> StartedReport:
         """The report of what is stored."""
@@ -180,14 +193,16 @@ class Run:
             if self._is_known(number, row["status"] == "FAILURE" and not known.ran, seen):
                 row["ran"] = known.ran
                 row["due_to"] = identifier_of(known.due_to) if known.due_to else None
-        return StartedReport(rows, end, self._placed.shown, seen.due, seen.silent)
+        waits_for = dict(sorted({**seen.due, **seen.late}.items()))
+        return StartedReport(rows, end, self._placed.shown, waits_for, seen.silent)
 
     def _is_known(self, number: int, is_skipped: bool, seen: Seen) -> bool:
         """Whether it is known if a task was called."""
-        if number in seen.silent:
-            is_in_place = seen.silent[number] == IN_PLACE and number in self._coming.surely
-            return seen.silent[number] == PASSED or is_in_place and not seen.due
-        return is_skipped or not seen.due or seen.told[number - 1].state in ENDS
+        is_over = not seen.due and not seen.late
+        if number in seen.silent and number not in seen.passed:
+            return is_over and seen.silent[number] == IN_PLACE and number in self._coming.surely
+        return is_skipped or is_over or number in seen.passed or \
+            seen.told[number - 1].state in ENDS
 
 
 def _told(text: Found) -> Told:
