@@ -61,7 +61,15 @@ def ended(flow, rests, app=None):
 
 
 def got(result):
-    """How the caller's `get()` ends: with a value, with the name of an exception, or not."""
+    """How the caller's `get()` ends: with a value, with the name of an exception, or not. A group
+    raises any of several exceptions: here it is that of the first member that failed."""
+    end = got_of_one(result)
+    if end in ("SUCCESS", "WAITS") or not hasattr(result, "results"):
+        return end
+    return next(it for it in map(got_of_one, result.results) if it != "SUCCESS")
+
+
+def got_of_one(result):
     from celery.exceptions import TimeoutError as Late
 
     try:
