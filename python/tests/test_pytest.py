@@ -93,7 +93,7 @@ class Plugin(unittest.TestCase):
         self.assertIn("+#3 thank fails: result Exception", self.ran(other))
 
     def test_a_wheel_loads_it(self):
-        namespace = runpy.run_path(str(HERE.parent / "build-wheel"))
+        namespace = runpy.run_path(str(HERE.parent / "wheels.py"))
         info = self.room / "bevtragi-0.1.0.dist-info"
         info.mkdir()
         (info / "METADATA").write_text("Metadata-Version: 2.1\nName: bevtragi\nVersion: 0.1.0\n")

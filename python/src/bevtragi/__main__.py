@@ -1,0 +1,26 @@
+"""The program's own words: `python -m bevtragi WORDS` is `canvas WORDS`."""
+
+from __future__ import annotations
+
+import os
+import sys
+from pathlib import Path
+
+from .calling import path_of_program
+from .errors import CanvasError
+
+
+def main() -> int:
+    """Becomes the wheel's program, whatever $CANVAS names, which may be the wheel's own command;
+    without a wheel the program that the package calls. The status is 126 if there is none."""
+    try:
+        own = Path(__file__).resolve().with_name("canvas")
+        path = str(own) if own.is_file() else path_of_program()
+        os.execv(path, ["canvas", *sys.argv[1:]])
+    except (CanvasError, OSError, ValueError) as error:
+        print(f"canvas: {error}", file=sys.stderr)
+    return 126
+
+
+if __name__ == "__main__":
+    sys.exit(main())
