@@ -102,9 +102,9 @@ class Table(unittest.TestCase):
             alike = [sum(sum(it["runs"][kind, version]) for it in found) for kind in compared.KINDS]
             self.assertEqual(alike, [232, 237, 267])
             self.assertEqual(sum(len(it["runs"]["start", version]) for it in found), 279)
-        self.assertIn("Of 279 runs on each version, 232 are alike by `apply_async()`, 237 by\n"
-                      "`cured()`, and 267 by `start()`.", CELERY)
-        self.assertIn("Of 279 runs of flows on real workers of each version, 232 do what the canvas"
+        self.assertIn("On each version, 232 of 279 runs are alike by `apply_async()`, 237 by"
+                      " `cured()`, and\n267 by `start()`.", CELERY)
+        self.assertIn("On real workers of each version, 232 of 279 runs of flows do what the canvas"
                       " means if\n`apply_async()` starts them, and 267 if `start` does", README)
 
 
