@@ -120,6 +120,12 @@ class Flows(unittest.TestCase):
         again = what_if(flow("order"), again={"shop.ship": "late", 2: ("early", "late")}).again
         self.assertEqual(again, 3)
 
+    def test_every_failure_of_more_tasks_than_are_asked_about_at_once(self):
+        found = every_failure(chain(*(task("a") for _ in range(130))), {"a": 1})
+        self.assertEqual(list(found), list(range(1, 131)))
+        self.assertEqual(found[130].failed, ["a"])
+        self.assertEqual(len(found[61].never_run), 130 - 61)
+
     def test_every_failure(self):
         found = every_failure(flow("order"), error=ConnectionError)
         self.assertEqual([*found], [1, 2, 3, 4, 5, 6])
