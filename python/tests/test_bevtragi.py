@@ -453,6 +453,9 @@ class Programs(unittest.TestCase):
                             "status 1: error: unexpected argument '--json' found")):
             with self.fake(text), self.assertRaisesRegex(CanvasError, said):
                 what_if(task("a"))
+            # The same of a call of its own, where the first is of the process that stays.
+            with self.fake(text), self.assertRaisesRegex(CanvasError, said):
+                what_if(task("a"), workers=2)
         with self.fake("sleep 5"), mock.patch("bevtragi.calling.SECONDS", 0.2):
             with self.assertRaisesRegex(CanvasError, "took more than 0.2 seconds"):
                 what_if(task("a"))
