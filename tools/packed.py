@@ -17,7 +17,7 @@ def zipped(data):
 
 
 def folders_of(names):
-    """All folders that these files stand in, the outer ones first."""
+    """All folders of these files, the outer ones first."""
     found = set()
     for name in names:
         parts = name.split("/")

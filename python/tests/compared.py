@@ -4,7 +4,7 @@
                               flows/by-start-VERSION.jsonl; it needs Celery
 
 A run is alike if the same tasks are called as often and the caller's `get()` ends as the report
-says: with a value, or with an exception, and not never. Of a run that start() began, wait() has to
+says: with a value, or with an exception, and not never. If start() began the run, wait() has to
 end, too.
 """
 

@@ -453,7 +453,7 @@ class Programs(unittest.TestCase):
                             "status 1: error: unexpected argument '--json' found")):
             with self.fake(text), self.assertRaisesRegex(CanvasError, said):
                 what_if(task("a"))
-            # The same of a call of its own, where the first is of the process that stays.
+            # With 2 workers the program is called anew; with one, the process that stays is asked.
             with self.fake(text), self.assertRaisesRegex(CanvasError, said):
                 what_if(task("a"), workers=2)
         with self.fake("sleep 5"), mock.patch("bevtragi.calling.SECONDS", 0.2):

@@ -1,5 +1,5 @@
 """Runs that were started: whom they wait for, how they end, and what Celery is told of it. What
-workers store stands in a dictionary."""
+workers store is in a dictionary."""
 
 import json
 import sys

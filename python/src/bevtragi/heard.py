@@ -1,7 +1,7 @@
 """The ends of tasks as Celery's workers tell them on the channels of Redis.
 
 A worker stores a result and publishes it. If a task retries at once, another process may store its
-end before the first one stores that it retries: the stored state is then RETRY for ever, and only
+end before the first one stores that it retries: the stored state is then RETRY forever, and only
 who listened knows the end.
 """
 

@@ -1,7 +1,7 @@
 """Canvases whose arguments are places, and the values that are put there.
 
 The program knows whole numbers, texts and lists of numbers. So each argument of a canvas becomes a
-text, `~0`, `~1`, and its JSON stands in a list beside it, as Celery's serializer writes it. The
+text, `~0`, `~1`, and its JSON is in a list beside it, as Celery's serializer writes it. The
 program puts the values into the messages.
 """
 

@@ -122,7 +122,7 @@ def _broker(app: Any) -> Iterator[Any]:
 
 
 def _prefix(backend: Any) -> str:
-    """What stands before a key of the backend."""
+    """The prefix of the keys of the backend."""
     key = backend.task_keyprefix
     key = key.decode() if isinstance(key, bytes) else key
     if not key.endswith(RESULT):

@@ -202,7 +202,7 @@ class Calls:
 
 
 def _round_of(start: int, messages: Dict[int, Message]) -> Set[int]:
-    """The messages that come behind a message, and itself: a body's if its chord does, too."""
+    """The messages that come after a message, and itself: a body's if its chord does, too."""
     found = {start}
     for number, it in sorted(messages.items()):
         if found & it.after and (it.header_after is None or found & it.header_after):

@@ -25,7 +25,7 @@ __tracebackhide__ = hidden
 BYTES = 11
 DIGESTS = (16, 20, 28, 32, 48, 64)
 DIGITS = re.compile("[0-9a-f]+")
-#: Where the key of the queue stands in the command that starts a canvas: EVAL, the script, how many
+#: Where the key of the queue is in the command that starts a canvas: EVAL, the script, how many
 #: keys, and the key of the run's marker come before it.
 QUEUE_AT = 4
 
@@ -49,7 +49,7 @@ def start(flow: Canvas, app: Any = None, client: Any = None, *, number: Any = No
     client  a client of that Redis, to use instead of the application's connections: its database is
             that of the queue and of the results
     number  the number of the run: 22 digits as `os.urandom(11).hex()`, or a digest of hashlib, as
-            of an order's number. Of two starts with one number the second raises StartedBefore
+            of an order's number. The second start with a number raises StartedBefore
     queue   the queue of the first tasks. By default it is the one of their routes
 
     Warns by NotHeeded of options that aren't heeded, as countdown, and of calls that the tasks of
