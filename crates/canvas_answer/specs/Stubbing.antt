@@ -3,14 +3,14 @@
 -- a run the class `stands` is put in place of a class that isn't one of the four of built-in tasks,
 -- and a task with a number has the name of that, as `#3`.
 use Rattle.std.specs.Prelude.{◌≡◌, ◌==◌, ◌++◌, Bool, false, if◌then◌else◌, List, [], ◌∷◌, Option, Some, None, Ok, map, string_bytes, codes}
-use Rattle.std.specs.List.{before_first, filter_map}
+use Rattle.std.specs.List.{filter_map}
 use Rattle.clap.specs.Walk.{Row, first_of}
 use Rattle.canvas_task.specs.Text.{Text}
 use Rattle.canvas_adapt.specs.RenameTexts.{IsRenameText}
 use Rattle.canvas_adapt.specs.declared.renames.Rename.{Rename}
 use Rattle.canvas_stubs.specs.Raising.{other_error, plain_text}
 use Rattle.canvas_stubs.specs.Stubs.{has_stub}
-use Rattle.canvas_stubs.specs.StubTexts.{is_equals, stub_reading, stubs_reading}
+use Rattle.canvas_stubs.specs.StubTexts.{stub_reading, stubs_reading}
 use Rattle.canvas_stubs.specs.declared.stub.Stub.{Stub}
 use Rattle.canvas_words.specs.declared.subcommand.Subcommand.{Subcommand}
 use Rattle.canvas_words.specs.declared.subcommand.Subcommand.TheVariants.{Check}
@@ -37,11 +37,11 @@ abbrev pub unsaid : List Stub → Text × Text → Option (Text × Text)
 unsaid stubs e = if has_stub e.0 stubs then None else Some e
 
 module _ (stands : Text) where
-  -- the stub of a task's number, as `#3=1`, and the task's name in a run: that of `#3=#3`
+  -- the stub of a task's number, as `#3=1`, whose name is that of the task in a run: `#3`
   abbrev pub IsNumbered : Text → Rename → Stub → Type 0
   IsNumbered text r s =
-      (stub_reading (plain_text stands text) ≡ Ok s)
-      × IsRenameText (before_first is_equals text ++ 61 ∷ before_first is_equals text) r
+      (stub_reading (plain_text stands text) ≡ Ok s) × (string_bytes r.name ≡ s.name)
+      × IsRenameText (s.name ++ 61 ∷ s.name) r
 
   -- each text is one of a number
   abbrev pub AreNumbered : List Text → List Rename → List Stub → Type 0

@@ -1,10 +1,10 @@
 //! `--task '#3=WORD'`: what the third task answers. It has the name `#3` while its canvas runs.
 ghost use Rattle.std.specs.Prelude.{◌≡◌, ◌∷◌, ◌++◌, [], IfOk, List, Ok, OnOk, map, option_to_list, string_bytes};
-ghost use Rattle.std.specs.List.{before_first, filter_map};
+ghost use Rattle.std.specs.List.{filter_map};
 ghost use Rattle.canvas_adapt.specs.RenameTexts.{IsRenameText};
 ghost use Rattle.canvas_adapt.specs.declared.renames.Rename.{Rename};
 ghost use Rattle.canvas_stubs.specs.Raising.{other_error, plain_text};
-ghost use Rattle.canvas_stubs.specs.StubTexts.{is_equals, stub_reading};
+ghost use Rattle.canvas_stubs.specs.StubTexts.{stub_reading};
 ghost use Rattle.canvas_stubs.specs.declared.stub.Stub.{Stub};
 ghost use Rattle.canvas_answer.specs.Stubbing.{AreNumbered, IsNumbered, error_said, is_numbered, named, numbered};
 
@@ -92,16 +92,6 @@ pub(crate) fn with_names<'t>(alloc: Global, texts: &[&'t str]) -> Result<Vec<&'t
     Ok(found)
 }
 
-/// What is before the first `=`, or the whole text.
-fn before_equals(text: &str) -> &str
-    ensures { result.now ≡ before_first is_equals text.now }
-{
-    match text.split_once('=') {
-        Some((before, _)) => before,
-        None => text,
-    }
-}
-
 /// The number, `=` and the number once more.
 fn named_by_itself(alloc: Global, number: &str) -> Result<String, AllocError>
     ensures { IfOk result (λ t. string_bytes t ≡ number.now ++ 61 ∷ number.now) }
@@ -112,16 +102,17 @@ fn named_by_itself(alloc: Global, number: &str) -> Result<String, AllocError>
     Ok(text)
 }
 
-/// The name of the task of the number.
-fn rename_of(alloc: Global, text: &str) -> Result<Rename, Refusal>
-    ensures { IfOk result (IsRenameText
-        (before_first is_equals text.now ++ 61 ∷ before_first is_equals text.now)) }
+/// The name of the task of a number, which is the number.
+fn rename_of(alloc: Global, text: &str, number: &str) -> Result<Rename, Refusal>
+    ensures { IfOk result (λ r. (string_bytes r.name ≡ number.now)
+        × IsRenameText (number.now ++ 61 ∷ number.now) r) }
 {
-    let same = named_by_itself(alloc, before_equals(text))?;
+    let same = named_by_itself(alloc, number)?;
     match read_rename(alloc, &same) {
-        Ok(rename) => Ok(rename),
+        // `#3=x` has a number before an `=`, and isn't one.
+        Ok(rename) if rename.name.as_str() == number => Ok(rename),
         Err(RenameFault::Memory) => Err(Refusal::Memory),
-        Err(_) => Err(Refusal::of_number(alloc, text, NumberFault::NoWord)),
+        _ => Err(Refusal::of_number(alloc, text, NumberFault::NoWord)),
     }
 }
 
@@ -152,11 +143,11 @@ fn add_number(alloc: Global, answers: &mut Answers, text: &str, stands: &str) ->
         × (map error_said answers.new.errors.items
         ≡ map error_said answers.old.errors.items ++ option_to_list (other_error text.now))) }
 {
-    let rename = rename_of(alloc, text)?;
+    let stub = stub_of(alloc, text, stands)?;
+    let rename = rename_of(alloc, text, stub.name.get())?;
     if is_renamed(&answers.renames, rename.task) {
         return Err(Refusal::of_number(alloc, text, NumberFault::Twice));
     }
-    let stub = stub_of(alloc, text, stands)?;
     push_error(alloc, &mut answers.errors, text)?;
     answers.renames.push(rename)?;
     answers.stubs.push(stub)?;

@@ -1,5 +1,5 @@
 -- Numbers as words.
-use Rattle.std.proofs.Common.{◌≡◌, ℕ, suc, ◌<◌, ◌≤◌, ◌^◌, Bool, true, false, List, [], ◌∷◌, length, get_or, None, Ok, refl, ap, sym, ◌∙◌, arith}
+use Rattle.std.proofs.Common.{◌≡◌, ℕ, zero, suc, ◌<◌, ◌≤◌, ◌^◌, Bool, true, false, List, [], ◌∷◌, length, get_or, None, Ok, refl, ap, sym, ◌∙◌, arith}
 use Rattle.std.specs.Prelude.{◌==◌, ◌&&◌, not, codes, nat_eq, ℤ, pos, negsuc, neg_ℤ}
 use Rattle.std.proofs.lemmas.Bool.Decides.{nat_tests}
 use Rattle.std.proofs.lemmas.Fmt.{decimal_is_IsNumeral}
@@ -19,6 +19,7 @@ use Rattle.canvas_task.specs.declared.builtin.Builtin.{Builtin}
 use Rattle.canvas_task.proofs.BuiltinLaw.{word_begins}
 use Rattle.canvas_stubs.specs.StubTexts.{are_digits, is_number, known_word, raise_word, task_or, word_reading}
 use Rattle.canvas_stubs.specs.declared.stub.Does.TheVariants.{Gives}
+use Rattle.canvas_stubs.proofs.Splits.{Lacks}
 use Rattle.canvas_stubs.proofs.WordNumbers.{all_digits, model}
 
 -- ---- no number is a word that is spelled out
@@ -130,3 +131,17 @@ read_as w n h s = rw (unknown w s.low) (rw s.number (rw s.value (rw h refl)))
 
 pub number_back : (n : ℤ) → in_range n ≡ true → word_reading (signed_decimal n) ≡ Ok (Gives n)
 number_back n h = read_as (signed_decimal n) n h (spells n h)
+
+-- ---- no number has an `=`
+
+digits_free : (ds : Text) → IsNumeral 10 ds → Lacks ds
+digits_free ds h = λ i l at. omega (arith, digit_at ds i h.1 l, at)
+
+signed_free : (ds : Text) → Lacks ds → (i : ℕ) → i < length (45 ∷ ds) → get_or (45 ∷ ds) i 0 ≡ 61 → ⊥
+signed_free ds h zero l at = omega (arith, at)
+signed_free ds h (suc i) l at = h i (omega arith) at
+
+pub number_free : (n : ℤ) → in_range n ≡ true → Lacks (signed_decimal n)
+number_free (pos n) h = digits_free (decimal n) (decimal_is_IsNumeral n (small n h)).0
+number_free (negsuc n) h = signed_free (decimal (suc n)) (digits_free (decimal (suc n))
+    (decimal_is_IsNumeral (suc n) (small_below n h)).0)
