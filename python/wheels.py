@@ -14,6 +14,7 @@ import sys
 import zipfile
 from datetime import datetime, timezone
 from pathlib import Path
+from typing import NamedTuple
 
 HERE = Path(__file__).resolve().parent
 TOP = HERE.parent
@@ -22,10 +23,14 @@ sys.dont_write_bytecode = True
 sys.path.insert(0, str(TOP / "tools"))
 
 import contained  # noqa: E402
+import linked  # noqa: E402
 
 PACKAGE = HERE / "src" / "bevtragi"
 PROGRAM = TOP / "crates" / "canvas_cli" / "out" / "canvas_cli"
-PLATFORM = "manylinux_2_34_x86_64"
+OBJECT = PROGRAM.with_name("canvas_cli.o")
+#: Where a program runs that needs the C library of the system, and one that needs none.
+SHARED = ["manylinux_2_34_x86_64"]
+STATIC = ["manylinux2014_x86_64", "musllinux_1_1_x86_64"]
 
 METADATA = """\
 Metadata-Version: 2.4
@@ -51,7 +56,7 @@ Description-Content-Type: text/markdown
 
 """
 
-WHEEL = "Wheel-Version: 1.0\nGenerator: build-wheel\nRoot-Is-Purelib: false\nTag: py3-none-{tag}\n"
+WHEEL = "Wheel-Version: 1.0\nGenerator: build-wheel\nRoot-Is-Purelib: false\n"
 
 ENTRY_POINTS = """\
 [console_scripts]
@@ -64,6 +69,16 @@ bevtragi.pytest = bevtragi.pytest
 
 class CannotBuild(Exception):
     """Why no wheel is made."""
+
+
+class Shipped(NamedTuple):
+    """A program as it is shipped: its bytes, the platforms that it runs on, what it was built of
+    and with, and the C library in it; or why there is none in it."""
+    program: bytes
+    platforms: list
+    record: dict
+    library: "linked.Static | None" = None
+    lacks: str = ""
 
 
 def said(*words, **how):
@@ -96,7 +111,7 @@ def proved_program():
         raise CannotBuild("the program isn't one for x86_64")
     newest = max((int(it) for it in re.findall(rb"GLIBC_2\.(\d+)", program)), default=0)
     if newest > 34:
-        raise CannotBuild(f"the program needs GLIBC 2.{newest}, and {PLATFORM} has 2.34")
+        raise CannotBuild(f"the program needs GLIBC 2.{newest}, and {SHARED[0]} has 2.34")
     return program
 
 
@@ -114,10 +129,21 @@ def package_version():
     return found[1]
 
 
-def record_of(program):
-    """What a program was built of and with."""
-    return {"commit": commit(), "digest": hashlib.sha256(program).hexdigest(),
-            "toolchain": said("rt", "version").splitlines()[0]}
+def sum_of(data):
+    return hashlib.sha256(data).hexdigest()
+
+
+def shipped_program():
+    """The proved program with the C library in it, or as it is if it can't be linked so."""
+    program = proved_program()
+    record = {"commit": commit(), "digest": sum_of(program), "proved": sum_of(program),
+              "toolchain": said("rt", "version").splitlines()[0]}
+    try:
+        static = linked.static_program(TOP, kit_folder(), program, OBJECT)
+    except linked.CannotLink as error:
+        return Shipped(program, SHARED, record, lacks=str(error))
+    record.update(digest=sum_of(static.program), library=f"glibc {static.version}")
+    return Shipped(static.program, STATIC, record, static)
 
 
 def date_of(record):
@@ -131,29 +157,39 @@ def kit_folder():
     return Path(said("rt", "doc")).parent
 
 
-def told_of(version, record):
-    """The bill of materials of a program with this record, and the notices that go with it."""
+def told_of(version, shipped):
+    """The bill of materials of a program that is shipped, and the notices that go with it."""
     crates, named = contained.crates_of(TOP)
     parts = contained.kit_parts(kit_folder(), named)
-    date = date_of(record).strftime("%Y-%m-%dT%H:%M:%SZ")
-    bill = contained.bill(version, {**record, "date": date}, crates, parts)
-    return bill, contained.notices(parts)
+    libraries = []
+    if shipped.library:
+        libraries = contained.c_libraries(shipped.library.build, shipped.library.version)
+    date = date_of(shipped.record).strftime("%Y-%m-%dT%H:%M:%SZ")
+    bill = contained.bill(version, {**shipped.record, "date": date}, crates, parts, libraries)
+    return bill, contained.notices(parts, libraries)
 
 
-def contents():
+def package_files():
+    """The name and bytes of each file of the package: its modules, and the template of its page."""
+    return {f"bevtragi/{it.relative_to(PACKAGE)}": it.read_bytes()
+            for it in (*PACKAGE.glob("*.py"), *PACKAGE.glob("template/*.*"))}
+
+
+def contents(shipped):
     """The name and bytes of each file of the wheel but its list."""
-    program = proved_program()
-    version, record = package_version(), record_of(program)
-    bill, notices = told_of(version, record)
-    files = {f"bevtragi/{it.name}": it.read_bytes() for it in PACKAGE.glob("*.py")}
+    version = package_version()
+    bill, notices = told_of(version, shipped)
+    files = package_files()
     info = f"bevtragi-{version}.dist-info"
+    tags = "".join(f"Tag: py3-none-{it}\n" for it in shipped.platforms)
+    record = json.dumps(shipped.record, sort_keys=True, indent=1).encode() + b"\n"
     files.update({
         "bevtragi/py.typed": b"",
-        "bevtragi/canvas": program,
-        "bevtragi/program.json": json.dumps(record, sort_keys=True, indent=1).encode() + b"\n",
+        "bevtragi/canvas": shipped.program,
+        "bevtragi/program.json": record,
         f"{info}/METADATA": (METADATA.format(version=version).encode()
                              + (HERE / "README.md").read_bytes()),
-        f"{info}/WHEEL": WHEEL.format(tag=PLATFORM).encode(),
+        f"{info}/WHEEL": (WHEEL + tags).encode(),
         f"{info}/entry_points.txt": ENTRY_POINTS.encode(),
         f"{info}/licenses/THIRD-PARTY": notices,
         f"{info}/sboms/canvas.cdx.json": bill,
@@ -181,10 +217,12 @@ def packed(info, files):
     return room.getvalue()
 
 
-def wheel():
+def wheel(shipped=None):
     """The name of the wheel's file, and its bytes. Raises CannotBuild."""
-    version, info, files = contents()
-    return f"bevtragi-{version}-py3-none-{PLATFORM}.whl", packed(info, files)
+    shipped = shipped or shipped_program()
+    version, info, files = contents(shipped)
+    platforms = ".".join(shipped.platforms)
+    return f"bevtragi-{version}-py3-none-{platforms}.whl", packed(info, files)
 
 
 def build_wheel(wheel_directory, config_settings=None, metadata_directory=None):

@@ -1,5 +1,6 @@
-"""What the program is built of: the crates here, the toolchain's crates below them with their
-versions and licences, the bill of materials (CycloneDX) and the notices that the licences ask for.
+"""What the program is built of: the crates here, the toolchain's crates below them and the system's
+libraries with their versions and licences, the bill of materials (CycloneDX) and the notices that
+the licences ask for.
 """
 import json
 import re
@@ -12,6 +13,14 @@ LICENCE = "MIT OR Apache-2.0"
 class Part(NamedTuple):
     """A crate of the toolchain: what it ports, its build, and the texts of its licences by name."""
     ported: str
+    version: str
+    build: str
+    texts: dict
+
+
+class Library(NamedTuple):
+    """A library of the system: its version, its build, and the texts of its licences by name."""
+    name: str
     version: str
     build: str
     texts: dict
@@ -52,21 +61,37 @@ def kit_parts(kit, named):
     return dict(sorted(found.items()))
 
 
+def c_libraries(build, version):
+    """The C library and the compiler's own, which a static program has, with Debian's notices."""
+    found = [("glibc", version, build, "libc6-dev"), ("libgcc", "", "", "libgcc-*-dev")]
+    return [Library(name, number, told, {
+        it.name: _text(it) for it in sorted(Path("/usr/share/doc").glob(f"{where}/copyright"))})
+        for name, number, told, where in found]
+
+
 def _text(path):
     return path.read_text(errors="replace") if path.is_file() else ""
 
 
-def notices(parts):
-    """The licences of the toolchain's crates, each text once with the crates that have it."""
+def notices(parts, libraries):
+    """The licences of the toolchain's crates and of the system's libraries, each text once with
+    those that have it."""
     holders = {}
     for name, it in parts.items():
         for file, text in it.texts.items():
             title = f"{name} ({file}{f', {it.ported} {it.version}' if it.version else ''})"
             holders.setdefault(text.strip(), []).append(title)
-    without = ", ".join(name for name, it in parts.items() if not it.texts) or "none"
+    for it in libraries:
+        for text in it.texts.values():
+            holders.setdefault(text.strip(), []).append(" ".join(filter(None, it[:2])))
+    lacking = [name for name, it in parts.items() if not it.texts]
+    lacking += [it.name for it in libraries if not it.texts]
     out = ["The program `canvas` has, besides its own code (LICENSE-MIT, LICENSE-APACHE), code of"
            " these crates of its toolchain.", "",
-           f"Without a licence file of their own: {without}.", ""]
+           f"Without a licence file of their own: {', '.join(lacking) or 'none'}.", ""]
+    if libraries:
+        out += ["The C library is linked into it: to link it with another one, take the archive of"
+                " object files of the same release.", ""]
     line = "=" * 79
     for text, names in sorted(holders.items(), key=lambda it: it[1]):
         out += [line, *names, line, "", text, ""]
@@ -100,7 +125,15 @@ def _kit_component(name, part):
     return it
 
 
-def bill(version, built, crates, parts):
+def _library_component(it):
+    component = _component(f"system/{it.name}", it.version,
+                           {"license": {"name": f"see THIRD-PARTY, {it.name}"}} if it.texts else None)
+    if it.build:
+        component["properties"] = [{"name": "system:build", "value": it.build}]
+    return component
+
+
+def bill(version, built, crates, parts, libraries):
     """The bill of materials of a program, where `built` has its commit, its digest, the toolchain
     and the commit's date."""
     program = {"type": "application", "bom-ref": "canvas", "name": "canvas", "version": version,
@@ -108,6 +141,7 @@ def bill(version, built, crates, parts):
                "hashes": [{"alg": "SHA-256", "content": built["digest"]}]}
     components = [_component(f"crates/{it}", version, {"expression": LICENCE}) for it in crates]
     components += [_kit_component(name, it) for name, it in parts.items()]
+    components += [_library_component(it) for it in libraries]
     told = {"bomFormat": "CycloneDX", "specVersion": "1.5", "version": 1,
             "metadata": {"timestamp": built["date"], "component": program,
                          "tools": {"components": [{"type": "application",

@@ -124,7 +124,22 @@ class Flows(unittest.TestCase):
         found = every_failure(chain(*(task("a") for _ in range(130))), {"a": 1})
         self.assertEqual(list(found), list(range(1, 131)))
         self.assertEqual(found[130].failed, ["a"])
+        self.assertEqual((found[130][1].result, found.well[130].result), (1, 1))
         self.assertEqual(len(found[61].never_run), 130 - 61)
+
+    def test_a_task_may_answer_otherwise_instead_of_failing(self):
+        """Each of many runs is asked for, since the program has no one answer for them."""
+        found = every_failure(chain(*(task("a") for _ in range(70))), {"a": 1}, error=5)
+        self.assertEqual([*found], [*range(1, 71)])
+        self.assertEqual([row.result for row in found[70].rows], [1] * 69 + [5])
+
+    def test_one_call_for_all_failures_says_what_a_call_for_each_does(self):
+        with mock.patch("bevtragi.failing.FEW", 0):
+            there = every_failure(flow("order"), {"shop.find": 3})
+        here = every_failure(flow("order"), {"shop.find": 3})
+        self.assertEqual(here, there)
+        self.assertEqual([str(it.rows) for it in here.values()],
+                         [str(it.rows) for it in there.values()])
 
     def test_every_failure(self):
         found = every_failure(flow("order"), error=ConnectionError)
@@ -411,14 +426,14 @@ class Programs(unittest.TestCase):
         room = tempfile.TemporaryDirectory()
         self.addCleanup(room.cleanup)
         path = Path(room.name, "canvas")
-        version = 'if [ "$1" = --version ]; then echo canvas 0.1.0; exit; fi'
+        version = 'if [ "$1" = --version ]; then echo canvas 1.0.0; exit; fi'
         path.write_text(f"#!/bin/sh\n{version}\n{text}\n")
         path.chmod(mode)
         return mock.patch.dict(os.environ, {"CANVAS": str(path)})
 
     def test_what_it_is(self):
         found = bevtragi.program()
-        self.assertEqual((found.version, len(found.digest)), ("0.1.0", 64))
+        self.assertEqual((found.version, len(found.digest)), ("1.0.0", 64))
         self.assertTrue(os.access(found.path, os.X_OK))
 
     def test_a_program_that_came_in_a_wheel(self):
@@ -483,7 +498,7 @@ class Programs(unittest.TestCase):
                 with self.assertRaisesRegex(CanvasError, said):
                     what_if(task("a"))
         with self.fake(""), mock.patch("bevtragi.calling.VERSION", "0.2.0"):
-            with self.assertRaisesRegex(CanvasError, "0.1.0, and this package calls 0.2.0"):
+            with self.assertRaisesRegex(CanvasError, "1.0.0, and this package calls 0.2.0"):
                 what_if(task("a"))
 
     def test_a_checkout_without_a_build(self):

@@ -94,9 +94,9 @@ class Plugin(unittest.TestCase):
 
     def test_a_wheel_loads_it(self):
         namespace = runpy.run_path(str(HERE.parent / "wheels.py"))
-        info = self.room / "bevtragi-0.1.0.dist-info"
+        info = self.room / "bevtragi-1.0.0.dist-info"
         info.mkdir()
-        (info / "METADATA").write_text("Metadata-Version: 2.1\nName: bevtragi\nVersion: 0.1.0\n")
+        (info / "METADATA").write_text("Metadata-Version: 2.1\nName: bevtragi\nVersion: 1.0.0\n")
         (info / "entry_points.txt").write_text(namespace["ENTRY_POINTS"])
         for conftest in (CONFTEST, CONFTEST.replace('pytest_plugins = ["bevtragi.pytest"]', "")):
             (self.room / "conftest.py").write_text(conftest)

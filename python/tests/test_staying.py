@@ -92,7 +92,7 @@ class Staying(unittest.TestCase):
         patched.start()
         self.addCleanup(patched.stop)
 
-    def write(self, fault="none", at=0, version="0.1.0"):
+    def write(self, fault="none", at=0, version="1.0.0"):
         """The program, as another file."""
         other = self.room / "other"
         other.write_text(RELAY.format(python=sys.executable, version=version, program=self.real,

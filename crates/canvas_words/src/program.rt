@@ -19,7 +19,7 @@ use clap::{ArgMatches, Command, Error};
 use std::alloc::{AllocError, Global};
 
 /// The version of the program.
-const VERSION: &str = "0.1.0";
+const VERSION: &str = "1.0.0";
 
 /// The program without its commands.
 fn plain_program<'a>(alloc: Global) -> Result<Command<'a>, AllocError>

@@ -6,6 +6,7 @@ import functools
 import hashlib
 import json
 import os
+import re
 import shutil
 import subprocess
 from pathlib import Path
@@ -14,7 +15,8 @@ from typing import Any, NamedTuple
 from . import VERSION
 from .errors import BadCall, CanvasError, Refused, hidden
 
-__all__ = ["Program", "ask", "failure", "forget_path", "path_of_program", "program", "refusal_of"]
+__all__ = ["Program", "ask", "ask_once", "failure", "forget_path", "has_option", "path_of_program",
+           "program", "refusal_of"]
 
 __tracebackhide__ = hidden
 
@@ -23,12 +25,15 @@ SECONDS = 60
 
 
 class Program(NamedTuple):
-    """A program, with the SHA-256 of its file; of a wheel's also what it was built of and with."""
+    """A program, with the SHA-256 of its file; of a wheel's also what it was built of and with, the
+    SHA-256 of the program as it was proved, and the C library that was linked into it since."""
     path: str
     version: str
     digest: str
     commit: str | None = None
     toolchain: str | None = None
+    proved: str | None = None
+    library: str | None = None
 
 
 def program() -> Program:
@@ -56,6 +61,7 @@ def path_of_program() -> str:
 def forget_path() -> None:
     """Has the program looked for anew: what was found at a path has changed."""
     _path_of_program.cache_clear()
+    _ask_once.cache_clear()
 
 
 @functools.lru_cache(maxsize=None)
@@ -94,6 +100,16 @@ def _ended(path: str, words: list[str], given: bytes = b"",
         raise CanvasError(f"{path} took more than {SECONDS} seconds") from error
 
 
+def has_option(command: str, option: str) -> bool:
+    """Whether the help of one of the program's commands names an option."""
+    return re.search(rf"{option}\b", _help_of(path_of_program(), command)) is not None
+
+
+@functools.lru_cache(maxsize=None)
+def _help_of(path: str, command: str) -> str:
+    return _ended(path, [command, "--help"]).stdout.decode(errors="replace")
+
+
 def ask(words: list[str], given: bytes) -> tuple[str, str]:
     """What the program prints, and says on standard error. Raises Refused, BadCall, CanvasError."""
     call = _ended(path_of_program(), [*words, "--json"], given)
@@ -101,6 +117,16 @@ def ask(words: list[str], given: bytes) -> tuple[str, str]:
     if call.returncode == 0 and (out or words[0] in ("export", "keys", "messages")):
         return out, said
     raise failure(words[0], call.returncode, said)
+
+
+def ask_once(words: list[str], given: bytes) -> tuple[str, str]:
+    """Like `ask`, but the last answers are remembered: the same question has the same answer."""
+    return _ask_once(path_of_program(), tuple(words), given)
+
+
+@functools.lru_cache(maxsize=64)
+def _ask_once(_path: str, words: tuple[str, ...], given: bytes) -> tuple[str, str]:
+    return ask([*words], given)
 
 
 def failure(word: str, status: int, said: str) -> CanvasError:
