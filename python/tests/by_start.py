@@ -155,8 +155,9 @@ def workers(place):
     import everyday_runs
     import started
     from places import url_of
-    words = [PYTHON, "-B", "-m", "celery", "-A", "tasks", "worker", "-n", "differ@localhost", "-c",
-             "2", "--without-gossip", "--without-mingle", "--without-heartbeat"]
+    words = [PYTHON, "-B", "-m", "celery", "-A", "tasks", "worker", "-Q", "celery,fast", "-n",
+             "differ@localhost", "-c", "2", "--without-gossip", "--without-mingle",
+             "--without-heartbeat"]
     own = subprocess.Popen(words, cwd=EXAMPLES / "celery", stdout=subprocess.DEVNULL,
                            stderr=subprocess.DEVNULL, start_new_session=True,
                            env={**os.environ, "CANVAS_REDIS": url_of(place, 3)})

@@ -63,22 +63,25 @@ class Client:
         self.server.listeners.append(Listener())
         return self.server.listeners[-1]
 
-    def eval(self, _script, count, *words):
-        """What the program's script does."""
-        count = int(count)
-        (marker, queue, *sizes), (expires, own, brokers, *more) = words[:count], words[count:]
+    def eval(self, script, count, *words):
+        """What the program's script does, and that of the package for several lists."""
+        count, several = int(count), "local lists" in script
+        (marker, *keys), (expires, own, brokers, *more) = words[:count], words[count:]
+        lists = int(more.pop(0)) if several else 1
+        queues, sizes = keys[:lists], keys[lists:]
         counts, texts, whole = more[:len(sizes)], more[len(sizes):-1], more[-1]
+        pairs = [*zip(texts[::2], texts[1::2])] if several else [(1, it) for it in texts]
         assert whole == "whole" and int(expires)
         results = self if own == "" else self.server.client(int(own))
         broker = self if brokers == "" else self.server.client(int(brokers))
-        if not isinstance(broker.keys.get(queue, []), list):
+        if not all(isinstance(broker.keys.get(it, []), list) for it in queues):
             raise RedisError("QUEUE nothing was started: the key of the queue is no list")
         if marker in results.keys:
             raise RedisError("STARTED nothing was started: this run was started before")
         results.keys.update(zip(sizes, counts))
         results.keys[marker] = "started"
-        for text in texts:
-            broker.keys.setdefault(queue, []).insert(0, text)
+        for at, text in pairs:
+            broker.keys.setdefault(queues[int(at) - 1], []).insert(0, text)
         return len(texts)
 
 
@@ -151,14 +154,16 @@ class App:
         self.tasks, self.connections = tasks, 0
         self._broker = SimpleNamespace(client=broker or server.client(), global_keyprefix=before)
         self._kind = kind
-        self.amqp = SimpleNamespace(router=SimpleNamespace(route=lambda options, name: {
-            "queue": SimpleNamespace(name=options.get("queue") or routes.get(name, "orders"))}))
+        self.amqp = SimpleNamespace(router=SimpleNamespace(
+            route=lambda options, name, args, kwargs, task_type: {**options, "queue": SimpleNamespace(
+                name=options.get("queue") or routes.get(name, "orders"))}))
 
     @contextlib.contextmanager
-    def connection_for_write(self):
+    def connection_or_acquire(self):
         self.connections += 1
         yield SimpleNamespace(transport=SimpleNamespace(driver_type=self._kind),
-                              channel=lambda: self._broker)
+                              ensure_connection=lambda max_retries: None,
+                              default_channel=self._broker)
 
     def AsyncResult(self, identifier):
         return ("result", identifier)

@@ -7,13 +7,15 @@ from celery import Celery
 BROKER, RESULTS = os.environ.get("START_BROKER"), os.environ.get("START_RESULTS")
 app = Celery("start_tasks", broker=BROKER or "memory://", backend=RESULTS or "cache+memory://",
              set_as_current=False)
-app.conf.update(task_default_queue="starts", broker_connection_retry_on_startup=True,
-                broker_transport_options={"global_keyprefix": "{own}"},
-                result_backend_transport_options={"global_keyprefix": "kept"},
-                broker_use_ssl=({"ssl_cert_reqs": "none"} if str(BROKER).startswith("rediss")
-                                else None),
-                redis_backend_use_ssl=({"ssl_cert_reqs": "none"} if str(RESULTS).startswith("rediss")
-                                       else None))
+SETTINGS = {
+    "task_default_queue": "starts",
+    "broker_connection_retry_on_startup": True,
+    "broker_transport_options": {"global_keyprefix": "{own}"},
+    "result_backend_transport_options": {"global_keyprefix": "kept"},
+    "broker_use_ssl": {"ssl_cert_reqs": "none"} if str(BROKER).startswith("rediss") else None,
+    "redis_backend_use_ssl": {"ssl_cert_reqs": "none"} if str(RESULTS).startswith("rediss") else None,
+}
+app.conf.update(SETTINGS)
 
 
 class Lost(Exception):

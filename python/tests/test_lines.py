@@ -10,6 +10,7 @@ sys.path[:0] = [str(HERE.parent / "src"), str(HERE)]
 
 from bevtragi import CanvasError, adapt
 from bevtragi.coming import Coming
+from bevtragi.placed import Placed
 from bevtragi.rehearsed_program import RehearsedProgram
 from test_start import chain, chord, group, task
 
@@ -51,7 +52,7 @@ class Lines(unittest.TestCase):
                 program = RehearsedProgram(canvas)
             except CanvasError:
                 continue
-            coming = Coming(json.dumps(canvas).encode(), canvas, None)
+            coming = Coming(Placed(json.dumps(canvas).encode(), b"[]", b"", [], {}), None)
             self.assertEqual(coming.lines.names, [*program.names.values()])
             self.assertEqual(coming.ends, program.ends())
             before = ancestors(coming.lines.before)

@@ -205,13 +205,11 @@ class Options(Silent):
         return run, [str(it.message) for it in found if it.category is NotHeeded]
 
     def test_options_are_told_by_name_and_count(self):
-        flow = chain(task("shop.a", countdown=5, priority=3), task("shop.b", countdown=7),
-                     task("shop.c", eta="2026-11-30T12:00:00", expires=60, queue="bank",
-                          task_id="my-own"))
+        flow = chain(task("shop.a", countdown=5, serializer="json"), task("shop.b", task_id="my-own"),
+                     task("shop.c", expires=60, serializer="json", colour="red", task_id="other"))
         run, said = self.warned(flow)
-        self.assertEqual(run.ignored, [
-            "countdown of 2 signatures", "eta of 1 signature", "expires of 1 signature",
-            "priority of 1 signature", "queue of 1 signature", "task_id of 1 signature"])
+        self.assertEqual(run.ignored, ["colour of 1 signature", "serializer of 1 signature",
+                                       "task_id of 2 signatures"])
         self.assertEqual(said, [f"this start doesn't heed {it}" for it in run.ignored])
         self.assertEqual(self.warned(THREE)[1], [])
 
@@ -245,6 +243,13 @@ class Options(Silent):
         with self.assertRaises(Refused):
             start(chain(), client=client)
         self.assertEqual(client.server.databases, {})
+
+    def test_what_is_no_signature_is_a_sentence(self):
+        for flow in ({"task": "celery.group", "subtask_type": "group", "kwargs": {"tasks": 5}},
+                     {"task": "celery.group", "subtask_type": "group", "kwargs": 5},
+                     {"task": "shop.a", "options": 5}):
+            with self.assertRaisesRegex(BadCall, "this canvas isn't a signature of Celery"):
+                start(flow, client=Server().client())
 
     def test_a_canvas_without_tasks(self):
         run = start(group(), client=Server().client())
@@ -342,8 +347,9 @@ class Places(Silent):
         self.assertEqual(len(messages(server.client(), "quick")), 1)
         self.assertEqual(len(messages(server.client(), "own")), 1)
         both = group(task("shop.a"), task("shop.b"))
-        with self.assertRaisesRegex(BadCall, "go to the queues quick, slow, and a start"):
-            start(both, app)
+        start(both, app)
+        self.assertEqual(len(messages(server.client(), "quick")), 2)
+        self.assertEqual(len(messages(server.client(), "slow")), 1)
         start(both, app, queue="third")
         self.assertEqual(len(messages(server.client(), "third")), 2)
         for queue in (3, b"third", ""):
@@ -359,7 +365,8 @@ class Places(Silent):
                              (chord([chord([a], b), chain(c, d)], d), "ac"), (group(), "")):
             client, routed = Server().client(), []
             app = App(backend=RedisBackend(client))
-            app.amqp.router.route = lambda _options, name: routed.append(name) or {"queue": "orders"}
+            app.amqp.router.route = lambda _options, name, *_: routed.append(name) or {
+                "queue": "orders"}
             start(flow, app)
             sent = [it[0]["task"] for it in messages(client, "orders")]
             self.assertEqual((sorted(routed), sorted(sent)), ([*firsts], [*firsts]), flow)

@@ -4,6 +4,7 @@ and the results are in another database. Left out if Celery or redis-server isn'
 import contextlib
 import datetime
 import decimal
+import importlib
 import os
 import shutil
 import signal
@@ -39,9 +40,9 @@ def server(room, *words):
                             stderr=subprocess.DEVNULL, start_new_session=True)
 
 
-def worker():
-    words = [sys.executable, "-B", "-m", "celery", "-A", "start_tasks", "worker", "-Q", "starts",
-             "-n", "starts@localhost", "-c", "2", "--without-gossip", "--without-mingle",
+def worker(module="start_tasks", queues="starts", processes="2"):
+    words = [sys.executable, "-B", "-m", "celery", "-A", module, "worker", "-Q", queues,
+             "-n", "starts@localhost", "-c", processes, "--without-gossip", "--without-mingle",
              "--without-heartbeat"]
     return subprocess.Popen(words, cwd=HERE, stdout=subprocess.DEVNULL, stderr=subprocess.DEVNULL,
                             start_new_session=True)
@@ -61,6 +62,7 @@ def until(holds):
 @unittest.skipIf(celery is None or shutil.which("redis-server") is None,
                  "Celery or redis-server isn't installed")
 class OnWorkers(unittest.TestCase):
+    module = "start_tasks"
     words, urls = ("--unixsocket", "{room}/redis.sock"), (
         "redis+socket://{room}/redis.sock?virtual_host=1",
         "redis+socket://{room}/redis.sock?virtual_host=3")
@@ -78,9 +80,9 @@ class OnWorkers(unittest.TestCase):
         before = {key: os.environ.get(key) for key in ("START_BROKER", "START_RESULTS")}
         cls.addClassCleanup(cls.restore, before)
         os.environ.update(zip(before, (it.format(room=cls.room) for it in cls.urls)))
-        sys.modules.pop("start_tasks", None)
-        import start_tasks
-        cls.tasks, cls.app = start_tasks, start_tasks.app
+        cls.forget()
+        cls.tasks = importlib.import_module(cls.module)
+        cls.app = cls.tasks.app
         cls.addClassCleanup(cls.listen_no_more)
         until(lambda: cls.app.backend.client.ping())
 
@@ -89,8 +91,13 @@ class OnWorkers(unittest.TestCase):
         """What is done before the server starts."""
 
     @classmethod
+    def forget(cls):
+        for name in ("start_tasks", cls.module):
+            sys.modules.pop(name, None)
+
+    @classmethod
     def restore(cls, before):
-        sys.modules.pop("start_tasks", None)
+        cls.forget()
         for key, value in before.items():
             os.environ.pop(key) if value is None else os.environ.update({key: value})
 

@@ -11,7 +11,7 @@ from pathlib import Path
 HERE = Path(__file__).resolve().parent
 USE = '''
 from typing import Dict
-from bevtragi import every_failure, on_celery, rehearse, rehearse_orders, run, what_if
+from bevtragi import every_failure, on_celery, page, rehearse, rehearse_orders, run, what_if
 
 fails: Dict[str, type] = {"shop.ship": ConnectionError}
 numbered: Dict[int, object] = {2: ConnectionError("no route")}
@@ -19,6 +19,7 @@ flow = {"task": "shop.ship"}
 report = what_if(flow, fails)
 reveal_type(report["shop.ship"].raised)
 every_failure(flow, fails)
+page(flow, fails, error=ConnectionError, workers=[2]).save("order.html")
 run(flow, numbered, again={"shop.ship": "late"})
 on_celery(flow, fails)
 rehearsal = rehearse(flow, fails, order=[2, 1], again={2: ["early", "lost"]})

@@ -1,4 +1,5 @@
-"""The program's own words: `python -m bevtragi WORDS` is `canvas WORDS`."""
+"""`python -m bevtragi page` makes a page; with all other words `python -m bevtragi WORDS` is
+`canvas WORDS`."""
 
 from __future__ import annotations
 
@@ -22,5 +23,13 @@ def main() -> int:
     return 126
 
 
+def called() -> int:
+    """What `python -m bevtragi` does with its words."""
+    if sys.argv[1:2] == ["page"]:
+        from .page_command import page_command
+        return page_command(sys.argv[2:])
+    return main()
+
+
 if __name__ == "__main__":
-    sys.exit(main())
+    sys.exit(called())

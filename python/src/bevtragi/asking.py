@@ -11,14 +11,15 @@ from .checking import Figures, figures
 from .comparing import Question
 from .errors import BadCall, CanvasError, Refused, hidden
 from .outcomes import is_exception
+from .pictures import Picture
 from .recorded import recorded_answers
-from .reports import Failures, Picture, Report
+from .reports import Report
 from .staying import item_of, told
 from .texts import (Answers, Canvas, check_names, is_huge, lines_of, named, text_of, values,
                     words_in, words_of)
 
-__all__ = ["adapt", "check", "every_failure", "graph", "messages", "run", "what_if",
-           "what_if_each"]
+__all__ = ["adapt", "answered", "check", "graph", "judge_of", "messages", "run", "runs_of",
+           "what_if", "what_if_each"]
 
 __tracebackhide__ = hidden
 
@@ -60,8 +61,8 @@ def what_if(canvas: Canvas, tasks: Answers = {}, workers: int = 1,
     chord after a failed task, with what waits for it, and what waits for a failed chord in a
     header. docs/CELERY.md lists all that differs. If Celery is installed, print() of the report
     says where its code does otherwise."""
-    judge = _judge(canvas, app)
-    return _what_if(judge, _with_recorded(judge.text, named(tasks), answers), workers, turns, again)
+    judge = judge_of(canvas, app)
+    return answered(judge, _with_recorded(judge.text, named(tasks), answers), workers, turns, again)
 
 
 def _with_recorded(text: bytes, tasks: dict[Any, Any], answers: Any) -> dict[Any, Any]:
@@ -79,22 +80,23 @@ def _is_number(it: Any) -> bool:
     return isinstance(it, int) and not isinstance(it, bool) and abs(it) <= MOST_NUMBER
 
 
-def _judge(canvas: Canvas, app: Any = None) -> Judge:
+def judge_of(canvas: Canvas, app: Any = None) -> Judge:
     """The judge of a canvas as it is now."""
     return Judge(text_of(canvas), app, type(canvas))
 
 
-def _what_if(judge: Judge, tasks: Answers = {}, workers: int = 1,
+def answered(judge: Judge, tasks: Answers = {}, workers: int = 1,
              turns: Sequence[int] | None = None, again: Again = False) -> Report:
+    """what_if() of a canvas that Celery can be asked about, too."""
     tasks = named(tasks)
     if type(workers) is int and workers == 1 and turns is None and again is False:
-        (report,) = _runs(judge.text, [tasks])
+        (report,) = runs_of(judge.text, [tasks])
     else:
         report = _run(judge.text, tasks, words_of(tasks, True), workers, turns, again)
     return report.asked_of(Question(judge, tasks))
 
 
-def _runs(text: bytes, several: Sequence[Answers]) -> Iterator[Report]:
+def runs_of(text: bytes, several: Sequence[Answers]) -> Iterator[Report]:
     """The Report of a canvas's run by one worker with each of these answers, which the program that
     stays is asked for; where it can't be, by a call for each."""
     for some in (several[start:start + MOST] for start in range(0, len(several), MOST)):
@@ -189,20 +191,6 @@ def _each(said: Any, asked: list[str], text: bytes, tasks: Answers) -> Report | 
     judge = Judge(text)
     report = Report(said["rows"], said["canvas"], (asked, text))
     return report.asked_of(Question(judge, tasks))
-
-
-def every_failure(canvas: Canvas, tasks: Answers = {}, error: Any = Exception, app: Any = None
-                  ) -> Failures:
-    """The what_if() of each task failing, by its number; print() it. If Celery is installed,
-    each line also says where its code does otherwise. Raises as what_if()."""
-    judge, tasks = _judge(canvas, app), named(tasks)
-    well = _what_if(judge, tasks)
-    numbers = [it.number for it in well.rows]
-    several = [{**tasks, number: error} for number in numbers]
-    found = Failures((number, report.asked_of(Question(judge, its))) for number, report, its
-                     in zip(numbers, _runs(judge.text, several), several))
-    found.well = well
-    return found
 
 
 def adapt(canvas: Canvas) -> dict[str, Any]:

@@ -83,13 +83,18 @@ def refusal(sig: Tree, given: int, app: Any) -> str:
         return ""
     task = app.tasks[sig["task"]]
     try:
-        parameters = inspect.signature(getattr(task, "__header__", None) or task.run)
+        parameters = _parameters(getattr(task, "__header__", None) or task.run)
         parameters.bind(*[None] * given, *(sig.get("args") or ()), **(sig.get("kwargs") or {}))
     except TypeError as error:
         return str(error)
     except ValueError:  # the parameters of some functions of C aren't known
         return ""
     return ""
+
+
+@functools.lru_cache(maxsize=1024)
+def _parameters(function: Any) -> inspect.Signature:
+    return inspect.signature(function)
 
 
 def is_called_in_place(task: Any) -> bool:

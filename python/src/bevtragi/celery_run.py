@@ -14,7 +14,7 @@ from .binding import misfits
 from .celery_store import NothingComes
 from .checking import warnings_of
 from .errors import BadCall, CanvasError, hidden
-from .marking import Marked
+from .marking import Marked, identified
 from .outcomes import Warning, is_exception
 from .texts import Answers, Canvas, check_names, named, text_of, tree_of, values, words_of
 
@@ -62,30 +62,43 @@ class CeleryRun:
     @functools.cached_property
     def states(self) -> Dict[str, List[str]]:
         found: Dict[str, List[str]] = {}
-        for number, name in self.identified().items():
-            found.setdefault(name, []).append(self._session.state_of(number))
+        for mark, states in self.marked_states().items():
+            found.setdefault(self._session.names[mark], []).extend(states)
+        return found
+
+    def marked_states(self) -> Dict[str, List[str]]:
+        """The states of the tasks, by mark."""
+        found: Dict[str, List[str]] = {}
+        for number, mark in self._marked().items():
+            found.setdefault(mark, []).append(self._session.state_of(number))
         return found
 
     def identified(self) -> Dict[str, str]:
         """The names of the tasks by their identifiers."""
+        return {number: self._session.names[mark] for number, mark in self._marked().items()}
+
+    def _marked(self) -> Dict[str, str]:
         marks: Dict[str, str] = {}
         for message in self._session.messages:
             marks.setdefault(message.headers["id"], message.headers["task"])
-            for number, mark in _identified(message.payload[2]):
+            for number, mark in identified(message.payload[2]):
                 marks.setdefault(number, mark)
-        names = self._session.names
-        return {number: names[mark] for number, mark in marks.items() if mark in names}
+        return {number: mark for number, mark in marks.items() if mark in self._session.names}
+
+    @property
+    def end(self) -> str:
+        """How the canvas ends for the caller, in words; empty if there is nothing to get."""
+        if self.raised is not None:
+            return f"apply_async() raises {said(self.raised)}"
+        if self.waits:
+            return "get() waits forever"
+        if self.status is None:
+            return ""
+        return f"get() gives {self.result!r}" if self.status == "SUCCESS" else \
+            f"get() raises {said(self.result)}"
 
     def __repr__(self) -> str:
-        end = ""
-        if self.raised is not None:
-            end = f"; apply_async() raises {said(self.raised)}"
-        elif self.waits:
-            end = "; get() waits forever"
-        elif self.status is not None:
-            is_well = self.status == "SUCCESS"
-            end = f"; get() gives {self.result!r}" if is_well else \
-                f"; get() raises {said(self.result)}"
+        end = f"; {self.end}" if self.end else ""
         return f"Celery {self.version} calls {', '.join(self.called) or 'nothing'}{end}"
 
 
@@ -227,14 +240,3 @@ def said(error: BaseException) -> str:
     text = " ".join(str(error).split())
     return type(error).__name__ + (f": {text if len(text) < 100 else text[:97] + '...'}" if text
                                    else "")
-
-
-def _identified(value: Any) -> Iterator[tuple[str, str]]:
-    """The identifiers and names of the tasks in a part of a message."""
-    if isinstance(value, dict):
-        number = (value.get("options") or {}).get("task_id") if "task" in value else None
-        if number and not value.get("subtask_type"):
-            yield number, value["task"]
-    inner = value.values() if isinstance(value, dict) else value if isinstance(value, list) else ()
-    for it in inner:
-        yield from _identified(it)

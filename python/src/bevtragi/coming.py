@@ -13,9 +13,11 @@ from typing import Any, Dict, FrozenSet, List, Set, Tuple, Union
 from .binding import IN_PLACE as IN_PLACE_GIVEN, is_called_in_place, refusal
 from .errors import CanvasError, hidden
 from .lines import Dropped, Lines
-from .marking import Tree, callbacks_of
+from .marking import callbacks_of
+from .options import date_of
+from .placed import Placed
 from .reports import Row, row_of
-from .texts import values, words_of
+from .texts import values_once, words_of
 
 __all__ = ["Coming", "IN_PLACE"]
 
@@ -32,8 +34,9 @@ Ends = Union[int, List[int]]
 class Coming:
     """What is to come of a canvas. The program is asked once for each set of tasks that failed."""
 
-    def __init__(self, text: bytes, canvas: Tree, app: Any) -> None:
-        self._text, self.lines, self.app = text, Lines(canvas), app
+    def __init__(self, canvas: Placed, app: Any) -> None:
+        self._text, self.lines, self.app = canvas.text, Lines(canvas.tree), app
+        self._options = canvas.options
         #: The error callbacks that Celery calls in place, with their tasks.
         self.in_place = {number: owner for number, owner in self.lines.owners.items()
                          if is_called_in_place(self._task(number))}
@@ -70,7 +73,7 @@ class Coming:
     def _run(self, failed: FrozenSet[int]) -> Tuple[List[Row], Ends]:
         if failed not in self._runs:
             words = words_of(dict.fromkeys(sorted(failed), RAISES), True)
-            *told, end = values(["run", "-", *words], self._text)
+            *told, end = values_once(["run", "-", *words], self._text)
             rows = [row_of(number, it) for number, it in enumerate(told, 1)]
             if [it.name for it in rows] != self.lines.names:
                 raise CanvasError("the tasks of this canvas aren't numbered as the program does")
@@ -100,7 +103,16 @@ class Coming:
             return "Celery isn't told that the header failed"
         if number in self.in_place:
             return IN_PLACE
-        return IGNORED if getattr(self._task(number), "ignore_result", False) else ""
+        is_ignored = getattr(self._task(number), "ignore_result", False) or \
+            self._options.get(number, {}).get("ignore_result")
+        return IGNORED if is_ignored else ""
+
+    def state(self, number: int, stored: str) -> str:
+        """The state of a task that a worker may take: the stored one, and what it waits for."""
+        options = self._options.get(number, {})
+        if options.get("countdown"):
+            return f"{stored}, countdown={options['countdown']}"
+        return f"{stored}, eta={date_of(options['eta'])}" if "eta" in options else stored
 
     def passed(self, begun: Set[int], called: Set[int]) -> Set[int]:
         """The tasks before those that have begun: they have ended, whatever is stored of them."""

@@ -20,21 +20,28 @@ class Question:
         """What Celery does. Raises CanvasError if there is none."""
         return self.judge.run(self.answers)
 
+    def runs(self) -> list[CeleryRun]:
+        """What Celery does if tasks that fail end first, and if they end last."""
+        return [*self.judge.both(self.answers)]
+
     def note(self, report: Any) -> str:
         """A line that says what Celery does otherwise; empty if it does the same or isn't there."""
         try:
-            found = self._parts(report) if self.judge.can_be_asked else []
+            return self.note_of(report, self.runs()) if self.judge.can_be_asked else ""
         except Exception as error:  # a report can be shown without its note
             return f"Celery can't be asked: {said(error)}"
+
+    def note_of(self, report: Any, runs: list[CeleryRun]) -> str:
+        """The note, if Celery does this."""
+        found = self._parts(report, runs)
         if not found:
             return ""
         is_call = found[0].startswith(("also ", "calls ", "never "))
         return f"Celery {self.judge.version}{'' if is_call else ':'} {'; '.join(found)}"
 
-    def _parts(self, report: Any) -> list[str]:
+    def _parts(self, report: Any, runs: list[CeleryRun]) -> list[str]:
         """What is done otherwise, and if that depends on which task ends last, when."""
-        runs = [[*self._differences(report, run)] for run in self.judge.both(self.answers)]
-        first, last = runs[0], runs[-1]
+        first, last = ([*self._differences(report, run)] for run in (runs[0], runs[-1]))
         return [*(it + ("" if it in last else " unless the failure comes last") for it in first),
                 *(f"{it} if the failure comes last" for it in last if it not in first)]
 

@@ -40,7 +40,7 @@ class Lines:
     names       of the tasks, in the order of their numbers
     before      the tasks right before each, which end before it is called
     owners      the task of each error callback
-    signatures  what is written of each error callback"""
+    signatures  what is written of each task"""
 
     def __init__(self, canvas: Tree) -> None:
         self.names: List[str] = []
@@ -76,17 +76,21 @@ class Lines:
     def _task(self, sig: Tree, before: Numbers) -> int:
         self.names.append(sig["task"])
         number = len(self.names)
-        self.before[number] = before
+        self.before[number], self.signatures[number] = before, sig
         for it in callbacks_of(sig, "link"):
             self._task(it, frozenset([number]))
         for it in callbacks_of(sig, "link_error"):
-            called = self._task(it, frozenset([number]))
-            self.owners[called], self.signatures[called] = number, it
+            self.owners[self._task(it, frozenset([number]))] = number
         return number
 
-    def firsts(self) -> List[str]:
-        """The names of the tasks that are called first."""
-        return [self.names[number - 1] for number in _firsts(self._top)]
+    def firsts(self) -> List[int]:
+        """The numbers of the tasks that are called first."""
+        return [*_firsts(self._top)]
+
+    def without_priority(self) -> Set[int]:
+        """The tasks whose own priority Celery's workers forget: the body of a chord that is started
+        after a task, or with such a chord, if it begins with a task."""
+        return {*_bodies(self._top, False)}
 
     def told(self, rows: Sequence[Row], dropped: Dropped) -> Set[int]:
         """The bodies of failed headers of which Celery's workers are told: such a header has to be
@@ -114,6 +118,18 @@ def _firsts(line: Line) -> Iterator[int]:
         else:
             for inner in it.members or [it.body or []]:
                 yield from _firsts(inner)
+
+
+def _bodies(line: Line, is_after: bool) -> Iterator[int]:
+    """The tasks that begin the bodies of the chords that come after a task."""
+    for place, it in enumerate(line):
+        if isinstance(it, Fork):
+            is_late = is_after or place > 0
+            if is_late and it.body and isinstance(it.body[0], Step):
+                yield it.body[0].number
+            for inner in it.members:
+                yield from _bodies(inner, is_late)
+            yield from _bodies(it.body or [], False)
 
 
 def _ends(line: Line) -> Iterator[int]:

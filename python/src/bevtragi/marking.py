@@ -12,8 +12,8 @@ from typing import Any, Dict, Iterator, Set
 
 from .errors import BadCall, hidden
 
-__all__ = ["Marked", "app_of", "callbacks_of", "complete", "kind_of", "members_of", "plain",
-           "walked"]
+__all__ = ["Marked", "app_of", "callbacks_of", "complete", "identified", "kind_of", "members_of",
+           "plain", "walked"]
 
 __tracebackhide__ = hidden
 
@@ -140,3 +140,14 @@ class Marked:
             return dict(plain(around[text]))
         inner[text] = self._copy(sig, around)
         return inner[text]
+
+
+def identified(value: Any) -> Iterator[tuple[str, str]]:
+    """The identifiers and names of the tasks in a part of a message."""
+    if isinstance(value, dict):
+        number = (value.get("options") or {}).get("task_id") if "task" in value else None
+        if number and not value.get("subtask_type"):
+            yield number, value["task"]
+    inner = value.values() if isinstance(value, dict) else value if isinstance(value, list) else ()
+    for it in inner:
+        yield from identified(it)

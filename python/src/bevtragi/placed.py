@@ -8,11 +8,13 @@ program puts the values into the messages.
 from __future__ import annotations
 
 import json
-from typing import Any, NamedTuple
+from typing import Any, Dict, NamedTuple
 
-from .calling import ask
+from .calling import ask_once
 from .errors import BadCall, hidden
+from .lines import Lines
 from .marking import Tree, plain
+from .options import Options, taken
 from .placeholders import Placeholders
 from .texts import Canvas, tree_of
 
@@ -22,13 +24,14 @@ __tracebackhide__ = hidden
 
 
 class Placed(NamedTuple):
-    """A canvas that the program runs, whose arguments are places; the values of these, as a list in
-    JSON; the canvas with its arguments, for pictures; and what was adapted, in the program's words.
-    """
+    """A canvas that the program runs, whose arguments are places, without the options that a start
+    heeds; the values of the places, as a list in JSON; the canvas with its arguments, for pictures;
+    what was adapted, in the program's words; and the options, by the tasks' numbers."""
     text: bytes
     values: bytes
     shown: bytes
     adapted: list[str]
+    options: Dict[int, Options]
 
     @property
     def tree(self) -> Tree:
@@ -37,12 +40,16 @@ class Placed(NamedTuple):
 
 
 def placed(flow: Canvas) -> Placed:
-    """A canvas with places. Raises Refused, and BadCall for arguments that JSON doesn't have."""
+    """A canvas with places. Raises Refused, and BadCall for arguments that JSON doesn't have, and
+    for options that are of another kind than Celery's."""
     tree = _sent(tree_of(flow))
     found = Placeholders(tree)
-    text, said = ask(["adapt", "-"], json.dumps(found.tree).encode())
-    return Placed(text.encode(), json.dumps(found.values).encode(), json.dumps(tree).encode(),
-                  lines_after(said, "adapted "))
+    text, said = ask_once(["adapt", "-"], json.dumps(found.tree).encode())
+    bare = dict(json.loads(text))
+    options = taken(Lines(bare))
+    return Placed(json.dumps(bare).encode() if options else text.encode(),
+                  json.dumps(found.values).encode(), json.dumps(tree).encode(),
+                  lines_after(said, "adapted "), options)
 
 
 def lines_after(said: str, word: str) -> list[str]:

@@ -7,12 +7,13 @@ with TLS, passwords and prefixes.
 from __future__ import annotations
 
 import contextlib
+from bisect import bisect
 from typing import Any, Iterator, NamedTuple, Tuple, Union
 
 from .errors import BadCall, CanvasError, hidden
-from .marking import app_of
+from .marking import app_of, walked
 
-__all__ = ["Place", "application", "place_of", "queue_of"]
+__all__ = ["Place", "application", "asked", "place_of"]
 
 __tracebackhide__ = hidden
 
@@ -22,6 +23,8 @@ RESULT = "celery-task-meta-"
 LONGEST = 10 ** 9
 #: What makes two clients of one server, by their connections.
 SERVER = ("host", "port", "path")
+#: The priorities of which kombu has a list each, and what it puts before one in the name of a list.
+STEPS, SEPARATOR, MOST_PRIORITY = (0, 3, 6, 9), "\x06\x16", 9
 NEEDED = "a start needs Redis as broker and as result backend"
 
 Databases = Union[None, Tuple[int, int]]
@@ -35,13 +38,22 @@ class Place(NamedTuple):
     before     what the broker puts before the key of a queue
     prefix     what the result backend puts before its keys
     expires    how many seconds results are kept, or None
-    databases  of the queue and of the results, or None if both are the client's own"""
+    databases  of the queue and of the results, or None if both are the client's own
+    steps      the priorities of which the broker has a list each
+    separator  what it puts before one in the name of a list"""
     client: Any
     queue: str = "celery"
     before: str = ""
     prefix: str = ""
     expires: Union[None, int] = 86_400
     databases: Databases = None
+    steps: Tuple[int, ...] = STEPS
+    separator: str = SEPARATOR
+
+    def key_of(self, queue: str, priority: int) -> str:
+        """The key of the list of a queue with the messages of a priority, as kombu names it."""
+        step = self.steps[bisect(self.steps, min(max(priority, 0), MOST_PRIORITY)) - 1]
+        return f"{self.before}{queue}" + (f"{self.separator}{step}" if step else "")
 
     def words(self) -> list[str]:
         """The options of `canvas export`, but for the queue."""
@@ -54,7 +66,9 @@ class Place(NamedTuple):
 
 def application(flow: Any, app: Any) -> Any:
     """The application that is given, or else that of the signature; None if there is none."""
-    app = app if app is not None else app_of(flow) or getattr(flow, "app", None)
+    if app is None:
+        with walked():
+            app = app_of(flow) or getattr(flow, "app", None)
     return getattr(app, "_get_current_object", lambda: app)()
 
 
@@ -67,19 +81,21 @@ def place_of(app: Any, client: Any) -> Place:
             raise BadCall("a start needs your Celery application as `app`, or a client of Redis")
         return Place(client)
     _check_settings(app)
-    with _asked("the result backend"):
+    with asked("the result backend"):
         backend = app.backend
         kinds = [it.__name__ for it in type(backend).__mro__]
     if "RedisBackend" not in kinds:
         raise CanvasError(f"{NEEDED}, and the result backend is a {kinds[0]}: set result_backend to"
                           " the URL of a Redis")
     place = Place(client, app.conf.task_default_queue, "", _prefix(backend), backend.expires)
+    transport = app.conf.broker_transport_options or {}
+    place = place._replace(steps=tuple(transport.get("priority_steps") or STEPS),
+                           separator=transport.get("sep") or SEPARATOR)
     if client is not None:
-        before = (app.conf.broker_transport_options or {}).get("global_keyprefix") or ""
-        return place._replace(before=before)
-    with _asked("the result backend"):
+        return place._replace(before=transport.get("global_keyprefix") or "")
+    with asked("the result backend"):
         place = place._replace(client=backend.client)
-    with _broker(app) as channel, _asked("the broker"):
+    with _broker(app) as channel, asked("the broker"):
         before = getattr(channel, "global_keyprefix", "") or ""
         databases = _databases(channel.client, place.client)
     return place._replace(before=before, databases=databases)
@@ -101,7 +117,7 @@ def _check_settings(app: Any) -> None:
 
 
 @contextlib.contextmanager
-def _asked(what: str) -> Iterator[None]:
+def asked(what: str) -> Iterator[None]:
     try:
         yield
     except CanvasError:
@@ -112,13 +128,14 @@ def _asked(what: str) -> Iterator[None]:
 
 @contextlib.contextmanager
 def _broker(app: Any) -> Iterator[Any]:
-    """A channel of the application's broker."""
-    with _asked("the broker"), app.connection_for_write() as connection:
+    """A channel of the application's broker, of its pool of connections."""
+    with asked("the broker"), app.connection_or_acquire() as connection:
         kind = connection.transport.driver_type
         if kind != "redis":
             raise CanvasError(f"{NEEDED}, and the broker is {kind}: set broker_url to the URL of a"
                               " Redis")
-        yield connection.channel()
+        connection.ensure_connection(max_retries=1)  # a channel would be waited for without an end
+        yield connection.default_channel
 
 
 def _prefix(backend: Any) -> str:
@@ -140,24 +157,3 @@ def _databases(broker: Any, backend: Any) -> Databases:
                           " script on one: let both be databases of one Redis")
     found = int(one.get("db") or 0), int(two.get("db") or 0)
     return None if found[0] == found[1] else found
-
-
-def queue_of(app: Any, names: list[str], place: Place, wanted: Any) -> str:
-    """The queue of the first tasks: the one that is wanted, or that of their routes. Raises BadCall
-    if there are several."""
-    if wanted is not None:
-        if not isinstance(wanted, str) or not wanted:
-            raise BadCall(f"queue is the name of a queue, not {wanted!r:.60}")
-        return wanted
-    with _asked("the route of a task"):
-        found = sorted({place.queue if app is None else _route(app, name) for name in names})
-    if len(found) > 1:
-        raise BadCall(f"the first tasks go to the queues {', '.join(found)}, and a start puts all on"
-                      " one: name it, as queue=\"orders\"")
-    return found[0] if found else place.queue
-
-
-def _route(app: Any, name: str) -> str:
-    own = getattr(app.tasks.get(name), "queue", None)
-    found = app.amqp.router.route({"queue": own} if own else {}, name).get("queue")
-    return str(getattr(found, "name", found) or app.conf.task_default_queue)

@@ -4,7 +4,7 @@ from __future__ import annotations
 
 from typing import Any, Iterator
 
-from .asking import every_failure
+from .failing import every_failure
 from .celery_run import celery_version
 from .errors import hidden
 from .reports import Failures

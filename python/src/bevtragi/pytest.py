@@ -21,8 +21,9 @@ from typing import Any
 
 import pytest
 
-from .asking import every_failure, what_if
+from .asking import what_if
 from .errors import hidden
+from .failing import every_failure
 from .rehearsal import Rehearsal
 from .rehearsed_on_celery import rehearse_differences
 from .rehearsing import StandIns, World, rehearse

@@ -1,22 +1,21 @@
-"""What is answered: reports with their rows and failures, and pictures."""
+"""What is answered: reports with their rows and failures."""
 
 from __future__ import annotations
 
 import functools
-import shutil
-import subprocess
 from itertools import zip_longest
 from typing import TYPE_CHECKING, Any, Dict, Iterator, NamedTuple
 
 from .calling import ask
 from .errors import CanvasError, NotKnown, hidden
 from .outcomes import Failure, Warning, shown
+from .pictures import Picture
 
 if TYPE_CHECKING:
     from .celery_run import CeleryRun
     from .comparing import Question
 
-__all__ = ["Failures", "Picture", "Report", "Row", "pytest_assertrepr_compare", "row_of"]
+__all__ = ["Failures", "Report", "Row", "pytest_assertrepr_compare", "row_of"]
 
 __tracebackhide__ = hidden
 
@@ -41,7 +40,8 @@ class Row(NamedTuple):
         return self.result.raised or self.result.kind
 
     def __str__(self) -> str:
-        why = f"not called, due to #{self.due_to}" if self.due_to else "will not run"
+        why = "not called" if self.status == "FAILURE" else "will not run"
+        why = f"not called, due to #{self.due_to}" if self.due_to else why
         said = f"#{self.number} {self.name} {self.status} {shown(self.result)}"
         return f"{said} ({why})" if self.ran is False else said
 
@@ -73,14 +73,25 @@ class Report:
     once more. Reports are equal where each task and the canvas end the same.
 
     Of what_if(), and if Celery is installed, a last line says what it does otherwise."""
-    _question: Question | None = None
+    question: Question | None = None
     _asked: tuple[list[str], bytes] | None = None
 
     def __init__(self, rows: list[dict[str, Any]], end: dict[str, Any],
                  asked: tuple[list[str], bytes] | None = None, again: int = 0) -> None:
-        self._asked = asked
+        self._asked, self._told = asked, rows
         self._fill([row_of(number, it) for number, it in enumerate(rows, 1)],
                    end["status"], _result(end, rows), again)
+
+    def with_rows(self, told: dict[int, dict[str, Any]], end: dict[str, Any], words: list[str]
+                  ) -> Report:
+        """The report of a run with these words, which differs in these rows, by number. The others
+        are the same objects."""
+        text = self._asked[1] if self._asked else b""
+        found = Report([], {**end, "result": None}, (words, text))
+        found._told = [told.get(number, it) for number, it in enumerate(self._told, 1)]
+        found._fill([row_of(row.number, told[row.number]) if row.number in told else row
+                     for row in self.rows], end["status"], _result(end, found._told), 0)
+        return found
 
     def _fill(self, rows: list[Row], status: str, result: Any, again: int) -> None:
         self.rows, self.status, self.result, self.again = rows, status, result, again
@@ -105,35 +116,35 @@ class Report:
 
     def asked_of(self, question: Question) -> Report:
         """The report, with its question to Celery."""
-        self._question = question
+        self.question = question
         return self
 
     @functools.cached_property
     def on_celery(self) -> CeleryRun:
         """What the code of the installed Celery does with the canvas and these answers, with the
         tasks in their turn. CanvasError if there is no Celery, or of reports of other calls."""
-        if self._question is None:
+        if self.question is None:
             raise NotKnown("that is known of what_if() and every_failure() only")
         try:
-            return self._question.run()
+            return self.question.run()
         except CanvasError as error:
             raise NotKnown(str(error)) from error
 
     @functools.cached_property
     def note(self) -> str:
         """What the installed Celery does otherwise, in a line; empty if nothing is known of it."""
-        return self._question.note(self) if self._question else ""
+        return self.question.note(self) if self.question else ""
 
     @functools.cached_property
     def misfits(self) -> list[Warning]:
         """Those of the warnings that only the application knows, if what_if() was given one."""
-        return self._question.judge.misfits() if self._question else []
+        return self.question.judge.misfits() if self.question else []
 
     @functools.cached_property
     def warnings(self) -> list[Warning]:
         """What may surprise in the canvas, as of check(). Empty of other reports than what_if()'s.
         """
-        return self._question.judge.warnings() if self._question else []
+        return self.question.judge.warnings() if self.question else []
 
     def graph(self) -> Picture:
         """The picture of this run. CanvasError, as of `ran`, of one on Celery's workers."""
@@ -217,19 +228,3 @@ class Failures(Dict[int, Report]):
                      if (row.ran, well.ran) == (ran, not ran)]
             said += f"; {word}: {', '.join(found)}" if found else ""
         return said
-
-
-class Picture(str):
-    """A picture in Graphviz's language. A notebook shows it where `dot` is, and else its text."""
-    def svg(self) -> str:
-        """The picture as SVG. CanvasError where there is no `dot`, or it fails."""
-        try:
-            return subprocess.run(["dot", "-Tsvg"], input=self.encode(), capture_output=True,
-                                  check=True).stdout.decode()
-        except (OSError, subprocess.CalledProcessError) as error:
-            raise CanvasError(f"Graphviz makes no picture: {error}") from error
-
-    def _repr_svg_(self) -> str | None:
-        return self.svg() if shutil.which("dot") else None
-
-    __repr__ = str.__str__

@@ -7,8 +7,9 @@ from typing import Any, Dict, List, Mapping
 from .calling import ask
 from .errors import CanvasError, NotKnown, hidden
 from .outcomes import Failure
+from .pictures import Picture
 from .rehearsing import KIND, MOST
-from .reports import Picture, Report, Row
+from .reports import Report, Row
 
 __all__ = ["NotEnded", "StartedReport"]
 
@@ -22,6 +23,7 @@ class StartedReport(Report):
     """A Report of tasks on Celery's workers. A row's `ran` is None as long as it isn't known.
 
     waits_for  the tasks that still come, by number: those that a worker may take, with their states
+               and what they wait for, as "PENDING, countdown=600"
     silent     the tasks that the canvas calls, and of which no result comes, by number: why"""
     waits_for: Dict[int, str]
     silent: Dict[int, str]
@@ -41,8 +43,10 @@ class StartedReport(Report):
 
     def due(self) -> List[str]:
         """The tasks that a worker may take now, as they are printed."""
-        return [f"#{number} {self[number].name}" + (f" ({state})" if state != "PENDING" else "")
-                for number, state in self.waits_for.items()]
+        shown = {number: state.removeprefix("PENDING").removeprefix(", ")
+                 for number, state in self.waits_for.items()}
+        return [f"#{number} {self[number].name}" + (f" ({state})" if state else "")
+                for number, state in shown.items()]
 
     def due_in_words(self) -> str:
         """The first ones of these tasks, and how many more there are."""

@@ -12,6 +12,7 @@ from .coming import IN_PLACE, Coming
 from .errors import BadCall, CanvasError, hidden
 from .exchange import by_client, collected, keys_of, results
 from .heard import ENDS, Heard
+from .pages import Page, page
 from .placed import Placed
 from .places_of_apps import Place
 from .rehearsed_program import identifier_of
@@ -27,6 +28,8 @@ FIRST_PAUSE, LONGEST_PAUSE = 0.01, 0.5
 #: How long a result may come after that of a task that was called later: a worker sends what follows
 #: before it stores a result.
 PATIENCE = 5.0
+#: Why a task is revoked that no worker calls, as Celery stores it. Others were terminated.
+UNCALLED = (["expired"], ["revoked"])
 #: Why the result of a task that was called isn't known.
 PASSED = "its result isn't stored, and a task after it was called"
 
@@ -34,10 +37,12 @@ Found = Union[str, bytes, None]
 
 
 class Told(NamedTuple):
-    """What is stored of a task: the whole text, its state, and whether no worker called it."""
+    """What is stored of a task: the whole text, its state, whether Celery drops its callbacks since
+    it takes it for one that no worker called, and whether it was revoked before it was called."""
     text: Found
     state: str
     dropped: bool
+    is_uncalled: bool = False
 
 
 class Seen(NamedTuple):
@@ -118,6 +123,11 @@ class Run:
                  for it in (ends if isinstance(ends, list) else [ends])]
         return app.GroupResult(self.number, found) if isinstance(ends, list) else found[0]
 
+    def page(self) -> Page:
+        """The page of the canvas with what has happened so far. Raises as bevtragi.page()."""
+        return page(self._placed.shown, title=f"run {self.number}", app=self._coming.app,
+                    results=self.report())
+
     def settle(self) -> List[str]:
         """Stores for Celery the failure of each task that a failure reaches and Celery leaves
         pending, so that its `get()` ends, too. What is stored is never changed. It gives the names
@@ -181,7 +191,8 @@ class Run:
         silent.update(dict.fromkeys(sorted(passed & self._given_up - silent.keys()), PASSED))
         late = passed - silent.keys()
         due = self._coming.due(left - silent.keys() - late)
-        return Seen(told, failed, passed, silent, {number: states[number] for number in due},
+        return Seen(told, failed, passed, silent,
+                    {number: self._coming.state(number, states[number]) for number in due},
                     {number: states[number] for number in sorted(late)})
 
     def _report_of(self, seen: Seen) -> StartedReport:
@@ -191,7 +202,7 @@ class Run:
         for number, row in enumerate(rows, 1):
             known = self._coming.rows(seen.failed)[number - 1]
             if self._is_known(number, row["status"] == "FAILURE" and not known.ran, seen):
-                row["ran"] = known.ran
+                row["ran"] = known.ran and not seen.told[number - 1].is_uncalled
                 row["due_to"] = identifier_of(known.due_to) if known.due_to else None
         waits_for = dict(sorted({**seen.due, **seen.late}.items()))
         return StartedReport(rows, end, self._placed.shown, waits_for, seen.silent)
@@ -210,9 +221,11 @@ def _told(text: Found) -> Told:
     try:
         found = json.loads(text) if text else {}
         state = str(found.get("status", "PENDING"))
+        failure = found.get("result") if state in ("FAILURE", "REVOKED") else None
         is_unknown = state == "FAILURE" and not found.get("traceback") and \
-            (found.get("result") or {}).get("exc_type") == "NotRegistered"
-        return Told(text or None, state, is_unknown or state == "REVOKED")
+            (failure or {}).get("exc_type") == "NotRegistered"
+        is_uncalled = state == "REVOKED" and (failure or {}).get("exc_message") in UNCALLED
+        return Told(text or None, state, is_unknown or state == "REVOKED", is_uncalled)
     except (ValueError, AttributeError, TypeError):
         return Told(text, "SUCCESS", False)
 

@@ -5,15 +5,18 @@ from __future__ import annotations
 import os
 import re
 import warnings
-from typing import Any, List
+from typing import Any, Dict, List
 
 from .binding import misfits
 from .calling import ask
 from .coming import Coming
 from .errors import BadCall, CanvasError, hidden
 from .exchange import by_client, commands_of, on_file
+from .first_options import first_options
+from .options import Options
 from .placed import Placed, lines_after, placed
-from .places_of_apps import Place, application, place_of, queue_of
+from .places_of_apps import Place, application, place_of
+from .start_commands import command_with
 from .started_runs import Run
 from .texts import Canvas
 
@@ -25,9 +28,6 @@ __tracebackhide__ = hidden
 BYTES = 11
 DIGESTS = (16, 20, 28, 32, 48, 64)
 DIGITS = re.compile("[0-9a-f]+")
-#: Where the key of the queue is in the command that starts a canvas: EVAL, the script, how many
-#: keys, and the key of the run's marker come before it.
-QUEUE_AT = 4
 
 
 class StartedBefore(CanvasError):
@@ -50,16 +50,18 @@ def start(flow: Canvas, app: Any = None, client: Any = None, *, number: Any = No
             that of the queue and of the results
     number  the number of the run: 22 digits as `os.urandom(11).hex()`, or a digest of hashlib, as
             of an order's number. The second start with a number raises StartedBefore
-    queue   the queue of the first tasks. By default it is the one of their routes
+    queue   the queue of the first tasks. By default each has that of its signature or its route
 
-    Warns by NotHeeded of options that aren't heeded, as countdown, and of calls that the tasks of
-    the application don't take. Raises Refused, BadCall, StartedBefore, and CanvasError if a start
-    isn't possible or Redis refuses it."""
+    Options of tasks are heeded as by `apply_async()`. Warns by NotHeeded of those that aren't, and
+    of calls that the tasks of the application don't take. Raises Refused, BadCall, StartedBefore,
+    and CanvasError if a start isn't possible or Redis refuses it."""
     app, digits, canvas = application(flow, app), _digits(number), placed(flow)
-    coming, place = Coming(canvas.text, canvas.tree, app), place_of(app, client)
-    place = place._replace(queue=queue_of(app, coming.lines.firsts(), place, queue))
-    commands, said = _commands(canvas, place, digits)
-    run = Run(digits, canvas, place, coming, lines_after(said, "ignored "))
+    coming, place = Coming(canvas, app), place_of(app, client)
+    firsts = first_options(app, coming.lines, canvas.options, place, canvas.values, queue)
+    commands, said = _commands(canvas, place, digits, firsts)
+    queues = dict.fromkeys(it["queue"] for it in firsts.values())
+    run = Run(digits, canvas, place._replace(queue=", ".join(queues) or place.queue), coming,
+              lines_after(said, "ignored "))
     _warn([*(f"this start doesn't heed {it}" for it in run.ignored), *coming.never(),
            *(map(str, misfits(canvas.tree, app)) if app is not None else ())])
     for command in commands:  # one; none of a canvas without tasks
@@ -74,7 +76,7 @@ def run_of(number: Any, flow: Canvas, app: Any = None, client: Any = None) -> Ru
         raise BadCall("run_of() needs the number of the run")
     app, digits, canvas = application(flow, app), _digits(number), placed(flow)
     place = place_of(app, client)
-    run = Run(digits, canvas, place, Coming(canvas.text, canvas.tree, app), [])
+    run = Run(digits, canvas, place, Coming(canvas, app), [])
     marker = f"{place.prefix}canvas-run-{digits}"
     if run.keys and not by_client(place.client, "exists", marker):
         raise CanvasError(f"no run {digits} was started on this Redis")
@@ -93,10 +95,13 @@ def _digits(number: Any) -> str:
     return text[:2 * BYTES]
 
 
-def _commands(canvas: Placed, place: Place, digits: str) -> tuple[List[List[bytes]], str]:
+def _commands(canvas: Placed, place: Place, digits: str, firsts: Dict[int, Options]
+              ) -> tuple[List[List[bytes]], str]:
     """The commands for Redis, and what the program says of them."""
+    queue = next((it["queue"] for it in firsts.values()), place.queue)
+    later = {number: it for number, it in canvas.options.items() if number not in firsts}
     with on_file(canvas.values) as path:
-        words = ["export", "-", f"--run={digits}", f"--values={path}", f"--queue={place.queue}",
+        words = ["export", "-", f"--run={digits}", f"--values={path}", f"--queue={queue}",
                  *place.words()]
         try:
             text, said = ask(words, canvas.text)
@@ -106,11 +111,7 @@ def _commands(canvas: Placed, place: Place, digits: str) -> tuple[List[List[byte
                 raise
             raise BadCall(f"the arguments of this canvas can't be sent: {why}") from error
     commands = commands_of(text.encode())
-    for command in commands:
-        if command[QUEUE_AT] != place.queue.encode():
-            raise CanvasError("`canvas export` answered what can't be read: another queue")
-        command[QUEUE_AT] = (place.before + place.queue).encode()
-    return commands, said
+    return [command_with(it, place, queue, firsts, later) for it in commands], said
 
 
 def _send(place: Place, command: List[bytes], digits: str, is_new: bool) -> None:

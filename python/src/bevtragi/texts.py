@@ -8,11 +8,11 @@ import os
 from pathlib import Path
 from typing import Any, Dict, Iterable, Mapping, Union
 
-from .calling import ask
+from .calling import ask, ask_once
 from .errors import BadCall, CanvasError, hidden
 
 __all__ = ["Answers", "Canvas", "check_names", "is_huge", "lines_of", "named", "text_of", "tree_of",
-           "values", "words_in", "words_of"]
+           "values", "values_once", "words_in", "words_of"]
 
 __tracebackhide__ = hidden
 
@@ -107,8 +107,16 @@ def check_names(keys: Iterable[str | int], names: list[str]) -> None:
 
 def values(words: list[str], given: bytes) -> list[Any]:
     """The answer of ask() where that is a JSON value a line."""
-    out, _ = ask(words, given)
+    return _values(words[0], ask(words, given)[0])
+
+
+def values_once(words: list[str], given: bytes) -> list[Any]:
+    """The same of ask_once()."""
+    return _values(words[0], ask_once(words, given)[0])
+
+
+def _values(word: str, out: str) -> list[Any]:
     try:
         return [json.loads(it) for it in out.split("\n")[:-1]]
     except (ValueError, LookupError) as error:
-        raise CanvasError(f"`canvas {words[0]}` answered what can't be read: {error}") from error
+        raise CanvasError(f"`canvas {word}` answered what can't be read: {error}") from error
