@@ -10,8 +10,6 @@ pub mod celery;
 pub mod each;
 pub mod errors;
 mod escaping;
-mod evaluated;
-pub mod failures;
 pub mod figures;
 mod finding;
 mod given;

@@ -8,7 +8,7 @@ ghost use Rattle.canvas_stubs.specs.StubTexts.{stub_reading};
 ghost use Rattle.canvas_stubs.specs.declared.stub.Stub.{Stub};
 ghost use Rattle.canvas_answer.specs.Stubbing.{AreNumbered, IsNumbered, error_said, is_numbered, named, numbered};
 
-use crate::errors::{OtherError, push_error};
+use crate::errors::push_error;
 use crate::refusal::Refusal;
 use crate::stubs::Answers;
 use canvas_adapt::{Rename, RenameFault, read_rename};
@@ -172,40 +172,6 @@ pub(crate) fn add_numbers(
         add_number(alloc, answers, text, stands)?;
     }
     Ok(())
-}
-
-/// Puts before all others that the task of a number raises an exception of a class, as a word of
-/// the task says.
-pub(crate) fn put_first(
-    alloc: Global,
-    answers: &mut Answers,
-    text: &str,
-    class: &str,
-    stands: &str,
-) -> Result<(), Refusal> {
-    let stub = stub_of(alloc, text, stands)?;
-    let rename = rename_of(alloc, text, stub.name.get())?;
-    let error = OtherError {
-        name: rename.name.clone()?,
-        class: String::from_str(alloc, class)?,
-    };
-    answers.errors.insert(0, error)?;
-    answers.renames.insert(0, rename)?;
-    answers.stubs.insert(0, stub)?;
-    Ok(())
-}
-
-fn take_one<T: Drop>(items: &mut Vec<T>) {
-    if !items.is_empty() {
-        items.remove(0);
-    }
-}
-
-/// Takes away what was put before all others.
-pub(crate) fn take_first(answers: &mut Answers) {
-    take_one(&mut answers.stubs);
-    take_one(&mut answers.renames);
-    take_one(&mut answers.errors);
 }
 
 /// The first word of a task's number is refused where a command takes none.

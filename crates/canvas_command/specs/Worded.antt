@@ -14,7 +14,7 @@ use Rattle.canvas_answer.specs.Stubbing.{AreAnswers}
 use Rattle.canvas_answer.specs.declared.answer.Answer.{Answer}
 use Rattle.canvas_answer.specs.declared.asked.Request.{Request}
 use Rattle.canvas_answer.specs.declared.asked.Work.{Work}
-use Rattle.canvas_answer.specs.declared.asked.Work.TheVariants.{One, Each, Failures}
+use Rattle.canvas_answer.specs.declared.asked.Work.TheVariants.{One, Each}
 use Rattle.canvas_answer.specs.declared.refusal.Refusal.{Refusal}
 use Rattle.canvas_answer.specs.declared.stubs.Answers.{Answers}
 use Rattle.canvas_command.specs.Asked.{IsAnswerTo}
@@ -39,7 +39,6 @@ module _ (behaviour : Behaviour) (input : Option Text) where
       (bytes : Text) × IsCanvasRead file input bytes
       × IsAnswerTo behaviour its bytes verb a
   IsWorkDone its file (Each each) a = IsEachDone each.fails a
-  IsWorkDone its file (Failures failures) a = IsEachDone failures.fails a
 
 module _ (behaviour : Behaviour) (input : Option Text) where
   -- where some tasks answer so

@@ -209,13 +209,13 @@ impl<'a, T: Tasks> Flow<'a, T> {
 }
 
 /// Writes a line, and has it reach the reader.
-pub(crate) fn print_line<W: Write>(out: &mut W, text: &str) -> io::Result<()> {
+fn print_line<W: Write>(out: &mut W, text: &str) -> io::Result<()> {
     write_lines(out, text.as_bytes())?;
     out.flush()
 }
 
 /// The answer once all lines are printed.
-pub(crate) fn ended(alloc: Global, status: u8) -> Answer
+fn ended(alloc: Global, status: u8) -> Answer
     ensures { AnswersAll [] status result }
 {
     Answer::whole(Vec::new(alloc)).with_status(status)

@@ -34,7 +34,7 @@ impl Subcommand {
         Subcommand::Collect,
     ];
 
-    /// The word for it.
+    /// The word that stands for it.
     pub fn name<'a>(self) -> &'a str
         ensures { result.now ≡ command_name self }
     {

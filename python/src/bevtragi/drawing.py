@@ -5,6 +5,7 @@ from __future__ import annotations
 import json
 from typing import Any, Dict, List, NamedTuple, Optional
 
+from .calling import ask
 from .errors import CanvasError, hidden
 from .texts import values
 
@@ -31,13 +32,31 @@ class Drawn(NamedTuple):
 
 def drawn(text: bytes) -> Drawn:
     """The line of a canvas, which is adapted first. Raises Refused."""
-    (signature,) = values(["normal", "-", "--numbers", "--adapt"], text)
-    tasks: Dict[int, List[str]] = {}
+    adapted, _ = ask(["adapt", "-"], text)
+    (signature,) = values(["normal", "-"], adapted.encode())
+    numbers = _Numbers()
     try:
-        line = _line(signature, tasks)
+        line = _line(signature, numbers)
     except (LookupError, TypeError, ValueError) as error:
         raise CanvasError(f"`canvas normal` answered what can't be drawn: {error}") from error
-    return Drawn(line, [tasks[number] for number in sorted(tasks)])
+    return Drawn(line, numbers.tasks)
+
+
+class _Numbers:
+    """Numbers tasks, and groups and chords, in the order of the line, as the program does: a task,
+    its links, its error callbacks, what follows; a group or chord before its members."""
+
+    def __init__(self) -> None:
+        self.tasks: List[List[str]] = []
+        self.groups = 0
+
+    def task(self, name: str, arguments: str) -> int:
+        self.tasks.append([name, arguments])
+        return len(self.tasks)
+
+    def group(self) -> int:
+        self.groups += 1
+        return self.groups
 
 
 def number_of(identifier: Optional[str]) -> int:
@@ -45,26 +64,25 @@ def number_of(identifier: Optional[str]) -> int:
     return int(identifier[-8:], 16) if identifier else 0
 
 
-def _line(signature: Dict[str, Any], tasks: Dict[int, List[str]]) -> Line:
+def _line(signature: Dict[str, Any], numbers: _Numbers) -> Line:
     line: Line = {"tasks": []}
     is_chain = signature["subtask_type"] == "chain"
     for it in signature["kwargs"]["tasks"] if is_chain else [signature]:
         if it["subtask_type"] is None:
-            line["tasks"].append(_task(it, tasks))
+            line["tasks"].append(_task(it, numbers))
             continue
         inner = it["kwargs"]
         members = inner["header"] if "body" in inner else inner["tasks"]
-        line["group"] = number_of(it["options"]["group_id"])
-        line["members"] = [_line(member, tasks) for member in members]
+        line["group"] = numbers.group()
+        line["members"] = [_line(member, numbers) for member in members]
         if "body" in inner:
-            line["body"] = _line(inner["body"], tasks)
+            line["body"] = _line(inner["body"], numbers)
     return line
 
 
-def _task(it: Dict[str, Any], tasks: Dict[int, List[str]]) -> List[Any]:
-    number, options = number_of(it["options"]["task_id"]), it["options"]
-    tasks[number] = [it["task"], _arguments(it)]
-    return [number, *([_task(one, tasks) for one in options.get(key) or ()]
+def _task(it: Dict[str, Any], numbers: _Numbers) -> List[Any]:
+    number = numbers.task(it["task"], _arguments(it))
+    return [number, *([_task(one, numbers) for one in it["options"].get(key) or ()]
                       for key in ("link", "link_error"))]
 
 
