@@ -45,7 +45,6 @@ def segments():
 PICTURES = {
     "failure": (order, "#fails=2", {"width": 1400, "height": 600}),
     "celery": (order, "#celery=2", {"width": 1400, "height": 600}),
-    "run": (order, "#run=2,0,3,15", {"width": 1400, "height": 760}),
     "folded": (segments, "#fails=17", {"width": 1400, "height": 690}),
     "phone": (order, "#fails=3", {"width": 390, "height": 844, "dark": True, "phone": True}),
     "hostile": (hostile, "#fails=3", {"width": 1200, "height": 660}),

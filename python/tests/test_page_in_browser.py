@@ -92,6 +92,9 @@ class InBrowser(unittest.TestCase):
     def click(self, where):
         self.js("document.querySelector(arguments[0]).click()", where)
 
+    def is_shown(self, where):
+        return self.js("return document.querySelector(arguments[0]).offsetParent !== null", where)
+
     def text(self, where):
         return self.js("return document.querySelector(arguments[0]).textContent", where)
 
@@ -396,7 +399,8 @@ class Small(InBrowser):
             self.assertEqual(len(self.states()), count)
             self.assertIn(said, self.text("#answer"))
             for where in ("#view-run", "#next", "#play", "#play", "#view-failures"):
-                self.click(where)
+                if self.is_shown(where):
+                    self.click(where)
             self.is_quiet()
 
 
