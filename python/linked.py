@@ -59,7 +59,7 @@ def linked(kit, made, folder):
 def compiled(top, kit, folder):
     """The object file, from the libraries of the crates, which have to be there."""
     crate = top / "crates" / "canvas_cli"
-    own, theirs = contained.crates_of(top)
+    own, _ = contained.crates_of(top)
     libraries = {it: top / "crates" / it / "out" / "rlib" / f"{it}.rlib"
                  for it in own if it != crate.name}
     lacking = [name for name, it in libraries.items() if not (it / "format").is_file()]
@@ -67,14 +67,15 @@ def compiled(top, kit, folder):
         raise CannotLink(f"the library of {lacking[0]} isn't built here: ./test proves and builds"
                          " it")
     made = Path(folder, "canvas_cli.o")
+    used = {"std", *contained.uses_of(top)[crate.name]}
     words = ["--crate-name", crate.name, "src/main.rt"]
-    words += [it for name in sorted({"std", *theirs})
-              for it in ("--extern", f"{name}={kit}/rlibs/{name}.rlib")]
-    words += ["-L", f"dependency={kit}/rlibs"]
+    words += [it for name in sorted(used)
+              for it in ("--extern", f"{name}={libraries.get(name, f'{kit}/rlibs/{name}.rlib')}")]
     words += [it for name, path in sorted(libraries.items())
-              for it in ("--extern", f"{name}={path}")]
-    words += ["--antt-project", f"{kit}/rattle/logic/antt-project.json",
-              "--logic-built", f"{kit}/logic_built", "--toolchain", f"{kit}/toolchain"]
+              for it in ("-L", f"dependency={path.parent}")]
+    words += ["-L", f"dependency={kit}/rlibs", "--antt-project",
+              f"{kit}/rattle/logic/antt-project.json", "--logic-built", f"{kit}/logic_built",
+              "--toolchain", f"{kit}/toolchain"]
     ran([str(kit / "bin" / "rattle"), "build", *words, "-o", str(made)], crate)
     return made
 

@@ -26,15 +26,20 @@ class Library(NamedTuple):
     texts: dict
 
 
-def crates_of(top):
-    """The names of the crates here that the program is built of, and of the toolchain's that these
-    use."""
+def uses_of(top):
+    """What each crate here uses, by its name."""
     uses = {}
     for line in Path(top, "crates.txt").read_text().splitlines():
         name, _, used = line.split("#")[0].partition(":")
         if name.strip():
             uses[name.split()[0]] = used.split()
-    found, left = set(), ["canvas_cli"]
+    return uses
+
+
+def crates_of(top):
+    """The names of the crates here that the program is built of, and of the toolchain's that these
+    use."""
+    uses, found, left = uses_of(top), set(), ["canvas_cli"]
     while left:
         name = left.pop()
         if name not in found:
