@@ -20,7 +20,7 @@ HERE = Path(__file__).resolve().parent
 TOP = HERE.parent
 # No compiled modules are left in the tree.
 sys.dont_write_bytecode = True
-sys.path.insert(0, str(TOP / "tools"))
+sys.path[:0] = [str(HERE), str(TOP / "tools")]
 
 import contained  # noqa: E402
 import linked  # noqa: E402

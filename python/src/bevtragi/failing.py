@@ -16,7 +16,7 @@ __all__ = ["every_failure", "failures_of"]
 
 __tracebackhide__ = hidden
 
-#: Up to so many tasks the process that stays is asked for each failure, so that none is started.
+#: The most tasks for which the process that stays is asked for each failure: none is started then.
 FEW = 60
 
 

@@ -73,7 +73,7 @@ def _run(run: CeleryRun, judge: Judge) -> Dict[str, Any]:
 
 
 def _state(calls: int, alike: int, states: List[str]) -> int:
-    """What becomes of a task, if so many tasks have its mark."""
+    """What becomes of a task that shares its mark with a number of tasks."""
     failed = states.count("FAILURE")
     if calls == 0:
         return SKIPPED if failed else UNCALLED

@@ -111,7 +111,7 @@ def values(words: list[str], given: bytes) -> list[Any]:
 
 
 def values_once(words: list[str], given: bytes) -> list[Any]:
-    """The same of ask_once()."""
+    """The answer of ask_once() if that is a JSON value a line."""
     return _values(words[0], ask_once(words, given)[0])
 
 

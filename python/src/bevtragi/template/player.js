@@ -94,7 +94,7 @@ function sentenceOf(it) {
   return SENTENCES[it.kind](it.worker ? `Worker ${it.worker}` : "The start", titleOf(it.task), it);
 }
 
-// What is queued, held, stored and counted after so many steps.
+// What is queued, held, stored and counted after a number of steps.
 function momentAfter(count) {
   const states = Array(taskCount + 1).fill("waiting");
   const queue = [], held = {}, parts = {}, workers = {};
@@ -122,7 +122,7 @@ function lookAt(moment, number) {
   return { state, said, isNews: true, tagged: worker ? `worker ${worker}` : "" };
 }
 
-// Shows the run after so many of its steps.
+// Shows the run after a number of its steps.
 function seek(at) {
   const total = run.steps.length;
   step = Math.max(0, Math.min(at, total));
