@@ -95,6 +95,52 @@ def json_report(canvas, tells=True, made=same, stubs=None):
     return "".join(written(it) + "\n" for it in lines), 3 if status == "FAILURE" else 0
 
 
+def case(canvas, stubs):
+    """The rows of a canvas, and its result, as JSON lines."""
+    *rows, last = json_report(canvas, stubs=stubs)[0].splitlines()
+    return rows, last
+
+
+def failures(canvas, word, stubs=None):
+    """The text that `canvas run --failures` prints: the canvas as it stands, and then what differs
+    if each task fails alone."""
+    stubs = stubs or {}
+    rows, last = case(canvas, stubs)
+    lines = ['{"canvas":%s,"fails":null,"rows":[%s]}' % (last, ",".join(rows))]
+    for task in range(1, len(rows) + 1):
+        found, end = case(canvas, {**stubs, "#%d" % task: word})
+        changed = [row for row, before in zip(found, rows) if row != before]
+        lines.append('{"canvas":%s,"fails":"%s","rows":[%s]}' % (
+            end, identifier(task), ",".join(changed)))
+    return "".join(it + "\n" for it in lines)
+
+
+def named(sig, counts):
+    """A signature of a normal line that names its tasks, groups and chords."""
+    kind = kind_of(sig)
+    if kind == "chain":
+        return dict(sig, kwargs={"tasks": [named(it, counts) for it in parts(sig)]})
+    counts[kind is None] += 1
+    if kind is None:
+        own = {"task_id": identifier(counts[True])}
+        called = {name: [named(it, counts) for it in callbacks(sig, name)]
+                  for name in ("link", "link_error") if callbacks(sig, name)}
+        return dict(sig, options={**called, **own})
+    options = {"group_id": group_identifier(counts[False])}
+    kwargs = {name: [named(it, counts) for it in sig["kwargs"][name]]
+              for name in ("tasks", "header") if name in sig["kwargs"]}
+    if kind == "chord":
+        kwargs["body"] = named(sig["kwargs"]["body"], counts)
+    return dict(sig, kwargs=kwargs, options=options)
+
+
+def numbered_line(canvas):
+    """The text that `canvas normal --numbers` prints."""
+    line = named(rules.line([canvas]), {True: 0, False: 0})
+    compact = {"sort_keys": True, "ensure_ascii": False, "separators": (",", ":")}
+    return json.dumps(line, **compact) + "\n"
+
+
 def numbered(state):
     """A state, in which tasks go by their numbers."""
     if state is None:
@@ -159,7 +205,7 @@ digraph canvas {
 
 
 def in_quotes(text):
-    known = {'"': '\\"', "\\": "\\\\", "\n": "\\n"}
+    known = {'"': '\\"', "\\": "\\\\", "\n": "\\n", "&": "&amp;"}
     return '"%s"' % "".join(
         known.get(it, it if " " <= it <= "~" else "\\\\u{%x}" % ord(it)) for it in text)
 
@@ -213,13 +259,27 @@ class Picture:
             return self.task(sig)
         if kind == "chain":
             return self.in_a_row([self.element(it) for it in parts(sig)])
-        frame = self.frame(sig, kind)
-        return frame if kind == "group" else self.in_a_row([frame, self.element(body_of(sig))])
+        if kind == "group":
+            return self.frame(sig, kind)
+        return self.chord(sig)
 
     def in_a_row(self, drawn):
         for (_, ends), (starts, _) in zip(drawn, drawn[1:]):
             self.join(ends, starts)
         return drawn[0][0], drawn[-1][1]
+
+    def chord(self, sig):
+        """A header and a body, with a point between them if both have several nodes there."""
+        joint = "j%d" % (self.groups + 1)
+        starts, header_ends = self.frame(sig, "chord")
+        place = len(self.nodes)
+        body_starts, ends = self.element(body_of(sig))
+        if len(header_ends) > 1 and len(body_starts) > 1:
+            self.nodes.insert(place, "%s [shape=point];" % joint)
+            self.join(header_ends, [joint])
+            header_ends = [joint]
+        self.join(header_ends, body_starts)
+        return starts, ends
 
     def task(self, sig):
         self.tasks += 1

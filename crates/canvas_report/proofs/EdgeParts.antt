@@ -16,7 +16,8 @@ use Rattle.canvas_report.specs.declared.graph.edges.Node.{Node}
 use Rattle.canvas_report.specs.declared.graph.edges.Node.TheVariants as node
 use Rattle.canvas_report.specs.declared.graph.edges.Leads.{Leads}
 use Rattle.canvas_report.specs.declared.graph.edges.Leads.TheVariants.{Link, Errback}
-use Rattle.canvas_report.specs.Picture.{of_task, point, point_of, firsts, all_firsts, lasts, all_lasts, member_lasts, edge, joined, behind, task_edges, callback_edges, line_edges, all_line_edges}
+use Rattle.canvas_report.specs.Ends.{of_task, point, point_of, firsts, all_firsts, lasts, all_lasts, member_lasts}
+use Rattle.canvas_report.specs.Picture.{edge, to_body, behind, task_edges, callback_edges, line_edges, all_line_edges}
 use Rattle.canvas_report.specs.steps.EdgeLists.{lines_firsts, lines_lasts, callbacks_edges, tasks_edges, last_node, lines_edges}
 
 -- ---- lists
@@ -211,13 +212,15 @@ group_edges before t e =
 pub chord_edges : (before : Option Node) (t : FrozenEnd) (b : FrozenLine) → (out-FrozenEnd t).body ≡ Some b
     → line_edges before (end_in t)
     ≡ behind before (firsts (end_in t)) ++ lines_edges (map line_in (out-FrozenEnd t).members)
-    ++ (joined (member_lasts (end_in t)) (firsts (line_in b)) ++ line_edges None (line_in b))
+    ++ (to_body (out-FrozenEnd t).group (member_lasts (end_in t)) (firsts (line_in b)) ++ line_edges None (line_in b))
 chord_edges before t b e =
     subst (λ x. line_edges before x ≡ behind before (firsts x) ++ lines_edges (map line_in (out-FrozenEnd t).members)
-    ++ (joined (member_lasts x) (firsts (line_in b)) ++ line_edges None (line_in b))) (sym (in_chord t b e))
+    ++ (to_body (out-FrozenEnd t).group (member_lasts x) (firsts (line_in b)) ++ line_edges None (line_in b))) (sym (in_chord t b e))
     (append_assoc _
-    (joined (member_lasts (chord_end (out-FrozenEnd t).group (lines_of (map line_in (out-FrozenEnd t).members)) (line_in b))) (firsts (line_in b)))
+    (to_body (out-FrozenEnd t).group
+    (member_lasts (chord_end (out-FrozenEnd t).group (lines_of (map line_in (out-FrozenEnd t).members)) (line_in b))) (firsts (line_in b)))
     (line_edges None (line_in b))
     ∙ ap (λ es. behind before (firsts (chord_end (out-FrozenEnd t).group (lines_of (map line_in (out-FrozenEnd t).members)) (line_in b))) ++ es
-    ++ (joined (member_lasts (chord_end (out-FrozenEnd t).group (lines_of (map line_in (out-FrozenEnd t).members)) (line_in b))) (firsts (line_in b))
+    ++ (to_body (out-FrozenEnd t).group
+    (member_lasts (chord_end (out-FrozenEnd t).group (lines_of (map line_in (out-FrozenEnd t).members)) (line_in b))) (firsts (line_in b))
     ++ line_edges None (line_in b))) (edges_list (map line_in (out-FrozenEnd t).members)))

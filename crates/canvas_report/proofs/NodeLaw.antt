@@ -1,5 +1,6 @@
 -- A picture of a plan has one node for each task.
 use Rattle.std.proofs.Common.{◌≡◌, ◌∙◌, ℕ, suc, ◌+◌, Bool, true, false, List, [], ◌∷◌, ◌++◌, map, length, refl, sym, ap, ap₂, append-nil, arith}
+use Rattle.std.specs.Prelude.{if◌then◌else◌}
 use Rattle.std.proofs.lemmas.List.{map-append}
 use Rattle.canvas_task.specs.Text.{Text}
 use Rattle.canvas_semantics.specs.Tree.{Task, task, Tasks, no_tasks, and_task}
@@ -9,7 +10,11 @@ use Rattle.canvas_semantics.specs.States.{numbers_from}
 use Rattle.canvas_rewrite.specs.Planned.{IsPlan}
 use Rattle.canvas_rewrite.proofs.NamesInOrder.{plan_names}
 use Rattle.canvas_report.proofs.ReportLines.{names_long}
-use Rattle.canvas_report.specs.Nodes.{Piece, node, opens, point, closes, points, task_pieces, all_task_pieces, line_pieces, all_line_pieces, nodes}
+use Rattle.canvas_report.specs.declared.graph.edges.Node.{Node}
+use Rattle.canvas_report.specs.declared.graph.edges.Node.TheVariants.{Joint}
+use Rattle.canvas_report.specs.Ends as ends
+use Rattle.canvas_report.specs.Ends.{firsts, all_lasts, has_joint}
+use Rattle.canvas_report.specs.Nodes.{Piece, node, opens, point, closes, points, joints, task_pieces, all_task_pieces, line_pieces, all_line_pieces, nodes}
 
 abbrev named : List (ℕ × Text) → List ℕ
 named ns = map (λ n. n.0) ns
@@ -18,7 +23,7 @@ nodes_append : (ps qs : List Piece) → nodes (ps ++ qs) ≡ nodes ps ++ nodes q
 nodes_append [] qs = refl
 nodes_append (node k ∷ ps) qs = ap (λ ks. k ∷ ks) (nodes_append ps qs)
 nodes_append (opens c g ∷ ps) qs = nodes_append ps qs
-nodes_append (point g ∷ ps) qs = nodes_append ps qs
+nodes_append (point n ∷ ps) qs = nodes_append ps qs
 nodes_append (closes ∷ ps) qs = nodes_append ps qs
 
 both : (ps qs : List Piece) (xs ys : List (ℕ × Text)) → nodes ps ≡ named xs → nodes qs ≡ named ys → nodes (ps ++ qs) ≡ named (xs ++ ys)
@@ -32,6 +37,16 @@ framed : (c : Bool) (g : ℕ) (ms : Lines) → nodes (opens c g ∷ points g ms 
 framed c g ms =
     nodes_append (opens c g ∷ points g ms ++ all_line_pieces ms) (closes ∷ []) ∙ append-nil _
     ∙ nodes_append (opens c g ∷ points g ms) (all_line_pieces ms) ∙ ap (λ ks. ks ++ nodes (all_line_pieces ms)) (no_node g ms)
+
+no_task : (g : ℕ) (has : Bool) → nodes (if has then point (Joint g) ∷ [] else []) ≡ []
+no_task g true = refl
+no_task g false = refl
+
+header : (g : ℕ) (ms : Lines) (from to : List Node)
+    → nodes (opens true g ∷ points g ms ++ all_line_pieces ms ++ closes ∷ [] ++ joints g from to) ≡ nodes (all_line_pieces ms)
+header g ms from to =
+    nodes_append (opens true g ∷ points g ms ++ all_line_pieces ms ++ closes ∷ []) (joints g from to)
+    ∙ ap₂ (λ ks js. ks ++ js) (framed true g ms) (no_task g (has_joint from to)) ∙ append-nil (nodes (all_line_pieces ms))
 
 mutual
   task_nodes : (t : Task) → nodes (task_pieces t) ≡ named (names_of_task t)
@@ -50,8 +65,9 @@ mutual
   line_nodes (group_end g ms) =
       framed false g ms ∙ members_nodes ms ∙ sym (ap named (append-nil (all_names_by_number (members_of ms))))
   line_nodes (chord_end g ms b) =
-      both (opens true g ∷ points g ms ++ all_line_pieces ms ++ closes ∷ []) (line_pieces b) (all_names_by_number (members_of ms))
-      (all_names_by_number (elements_of b)) (framed true g ms ∙ members_nodes ms) (line_nodes b)
+      both (opens true g ∷ points g ms ++ all_line_pieces ms ++ closes ∷ [] ++ joints g (ends.point g ms ++ all_lasts ms) (firsts b)) (line_pieces b)
+      (all_names_by_number (members_of ms)) (all_names_by_number (elements_of b))
+      (header g ms (ends.point g ms ++ all_lasts ms) (firsts b) ∙ members_nodes ms) (line_nodes b)
       ∙ sym (ap named (append-nil (all_names_by_number (members_of ms) ++ all_names_by_number (elements_of b))))
 
   members_nodes : (ms : Lines) → nodes (all_line_pieces ms) ≡ named (all_names_by_number (members_of ms))

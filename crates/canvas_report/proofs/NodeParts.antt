@@ -15,7 +15,9 @@ use Rattle.canvas_rewrite.specs.declared.frozen.FrozenTask.{FrozenTask, out-Froz
 use Rattle.canvas_rewrite.specs.declared.frozen.FrozenLine.{FrozenLine, out-FrozenLine}
 use Rattle.canvas_rewrite.specs.declared.frozen.FrozenEnd.{FrozenEnd, out-FrozenEnd}
 use Rattle.canvas_rewrite.proofs.PlanLines.{in_none, in_some, in_group, in_chord}
-use Rattle.canvas_report.specs.Nodes.{Piece, node, opens, point, closes, points, task_pieces, all_task_pieces, line_pieces, all_line_pieces, inside, behind_backslash, kind, node_line, frame_line, label_line, Draws, AreDrawn}
+use Rattle.canvas_report.specs.declared.graph.edges.Node.TheVariants.{Group}
+use Rattle.canvas_report.specs.Ends.{node_text, firsts, member_lasts}
+use Rattle.canvas_report.specs.Nodes.{Piece, node, opens, point, closes, points, joints, task_pieces, all_task_pieces, line_pieces, all_line_pieces, inside, behind_backslash, behind_ampersand, kind, node_line, frame_line, label_line, Draws, AreDrawn}
 use Rattle.canvas_report.specs.Picture.{opening, line_edges, edges_text, IsPicture}
 use Rattle.canvas_report.specs.steps.PieceLists.{Adds, AddsNode, tasks_pieces, lines_pieces, IsWhole, AddsWhole, list_points, frame_pieces}
 use Rattle.canvas_report.proofs.EdgeParts.{by_body}
@@ -120,8 +122,11 @@ pub group_is : (t : FrozenEnd) → (out-FrozenEnd t).body ≡ None → frame_pie
 group_is t e = subst (λ x. frame_pieces false x ≡ line_pieces x) (sym (in_group t e)) refl
 
 pub chord_is : (t : FrozenEnd) (b : FrozenLine) → (out-FrozenEnd t).body ≡ Some b
-    → frame_pieces true (end_in t) ++ line_pieces (line_in b) ≡ line_pieces (end_in t)
-chord_is t b e = subst (λ x. frame_pieces true x ++ line_pieces (line_in b) ≡ line_pieces x) (sym (in_chord t b e)) refl
+    → frame_pieces true (end_in t) ++ joints (out-FrozenEnd t).group (member_lasts (end_in t)) (firsts (line_in b)) ++ line_pieces (line_in b)
+    ≡ line_pieces (end_in t)
+chord_is t b e =
+    subst (λ x. frame_pieces true x ++ joints (out-FrozenEnd t).group (member_lasts x) (firsts (line_in b)) ++ line_pieces (line_in b) ≡ line_pieces x)
+    (sym (in_chord t b e)) refl
 
 -- ---- the rest of a list
 
@@ -145,7 +150,7 @@ no_list : (g : ℕ) (ls : List FrozenLine) → (length ls == 0) ≡ false → []
 no_list g [] some = absurd cc
 no_list g (l ∷ ls) some = refl
 
-a_list : (g : ℕ) (ls : List FrozenLine) → (length ls == 0) ≡ true → point g ∷ [] ≡ list_points g (map line_in ls)
+a_list : (g : ℕ) (ls : List FrozenLine) → (length ls == 0) ≡ true → point (Group g) ∷ [] ≡ list_points g (map line_in ls)
 a_list g [] none = refl
 a_list g (l ∷ ls) none =
     let other : (suc (length ls) == 0) ≡ false = grind (arith, nat_tests) in
@@ -155,8 +160,8 @@ pub point_else : (at : ℕ → Text) (g : ℕ) (ls : List FrozenLine) (old : Tex
 point_else at g ls old some = alike at [] _ old old (no_list g ls some) (nothing at old)
 
 pub point_ok : {E : Type 0} (r : Result (Unit {0}) E) (at : ℕ → Text) (g : ℕ) (ls : List FrozenLine) (old new : Text) → (length ls == 0) ≡ true
-    → OnOk r (new ≡ old ++ (codes "  g" ++ decimal g ++ codes " [shape=point];\n")) → OnOk r (Adds at (list_points g (map line_in ls)) old new)
-point_ok (Ok x) at g ls old new none e = alike at (point g ∷ []) _ old new (a_list g ls none) (one at (point g) _ old new refl e)
+    → OnOk r (new ≡ old ++ (codes "  " ++ node_text (Group g) ++ codes " [shape=point];\n")) → OnOk r (Adds at (list_points g (map line_in ls)) old new)
+point_ok (Ok x) at g ls old new none e = alike at (point (Group g) ∷ []) _ old new (a_list g ls none) (one at (point (Group g)) _ old new refl e)
 point_ok (Err x) at g ls old new none e = tt
 
 pub alike_label : {E : Type 0} (r : Result (Unit {0}) E) (old : Text) (k : Text) (n m : ℕ) (new : Text) → n ≡ m
@@ -196,13 +201,15 @@ own_node (Err x) at k n look t0 t1 same is h = tt
 
 -- ---- what isn't printable is told by its number
 
-plain_byte : (b : ℕ) (bs : Text) → (b == 34) ≡ false → (b == 92) ≡ false → inside (b ∷ bs) ≡ inside bs
-plain_byte b bs quote slash =
-    ap (λ x. if x then false else (if b == 92 then behind_backslash bs else inside bs)) quote ∙ ap (λ x. if x then behind_backslash bs else inside bs) slash
+plain_byte : (b : ℕ) (bs : Text) → (b == 34) ≡ false → (b == 92) ≡ false → (b == 38) ≡ false → inside (b ∷ bs) ≡ inside bs
+plain_byte b bs quote slash ampersand =
+    ap (λ x. if x then false else (if b == 92 then behind_backslash bs else (if b == 38 then behind_ampersand bs else inside bs))) quote
+    ∙ ap (λ x. if x then behind_backslash bs else (if b == 38 then behind_ampersand bs else inside bs)) slash
+    ∙ ap (λ x. if x then behind_ampersand bs else inside bs) ampersand
 
 glyph_plain : (d : ℕ) (bs : Text) → inside (digit_glyph false d ∷ bs) ≡ inside bs
 glyph_plain d bs =
-    plain_byte (digit_glyph false d) bs (grind (arith, nat_tests)) (grind (arith, nat_tests))
+    plain_byte (digit_glyph false d) bs (grind (arith, nat_tests)) (grind (arith, nat_tests)) (grind (arith, nat_tests))
 
 either_way : (b : Bool) (xs ys more : Text) (z : Bool) → inside (xs ++ more) ≡ z → inside (ys ++ more) ≡ z → inside (cond b xs ys ++ more) ≡ z
 either_way true xs ys more z h k = h

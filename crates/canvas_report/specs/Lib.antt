@@ -7,6 +7,7 @@ pub mod StoredRows
 pub mod Wording
 pub mod ReadLines
 pub mod MessageLines
+pub mod Ends
 pub mod Nodes
 pub mod Picture
 pub mod steps

@@ -1,12 +1,17 @@
 -- The nodes of a picture (Graphviz, the DOT language): one for each task, a frame round the members
--- of each group and chord, and a point in the frame of one that has none.
-use Rattle.std.specs.Prelude.{◌≡◌, ◌==◌, ℕ, if◌then◌else◌, Bool, true, false, List, [], ◌∷◌, ◌++◌, Option, Some, None, codes, decimal}
+-- of each group and chord, a point in the frame of one that has none, and a point between a header
+-- that ends in several nodes and a body that begins at several.
+use Rattle.std.specs.Prelude.{◌≡◌, ◌==◌, ◌&&◌, ℕ, if◌then◌else◌, Bool, true, false, List, [], ◌∷◌, ◌++◌, Option, Some, None, codes, decimal}
 use Rattle.std.specs.Option.{option_map}
 use Rattle.canvas_task.specs.Text.{Text}
 use Rattle.canvas_semantics.specs.Tree.{Task, task, Tasks, no_tasks, and_task}
 use Rattle.canvas_semantics.specs.Line.{Line, stop, step, group_end, chord_end, Lines, no_lines, and_line}
+use Rattle.canvas_report.specs.Ends as ends
+use Rattle.canvas_report.specs.Ends.{node_text, firsts, all_lasts, has_joint}
 use Rattle.canvas_report.specs.Fates.{Fates, fate_at}
 use Rattle.canvas_report.specs.StoredRows.{row_of, row_status}
+use Rattle.canvas_report.specs.declared.graph.edges.Node.{Node}
+use Rattle.canvas_report.specs.declared.graph.edges.Node.TheVariants.{Group, Joint}
 use Rattle.canvas_report.specs.declared.fate.Fate.{Fate}
 use Rattle.canvas_report.specs.declared.fate.Fate.TheVariants.{Ran, Skipped, Idle}
 use Rattle.canvas_report.specs.declared.row.Row.{Row}
@@ -17,7 +22,7 @@ use Rattle.canvas_report.specs.declared.shown.Status.TheVariants.{Pending, Succe
 pub data Piece : Type 0 where
   node : ℕ → Piece
   opens : (is_chord : Bool) → ℕ → Piece
-  point : ℕ → Piece
+  point : Node → Piece
   closes : Piece
 
 -- ---- which they are, in the order of the file
@@ -32,8 +37,12 @@ abbrev mutual
   all_task_pieces (and_task t ts) = task_pieces t ++ all_task_pieces ts
 
 abbrev pub points : ℕ → Lines → List Piece
-points g no_lines = point g ∷ []
+points g no_lines = point (Group g) ∷ []
 points g (and_line m ms) = []
+
+-- between what the header of chord g ends in and what its body begins at
+abbrev pub joints : ℕ → (from to : List Node) → List Piece
+joints g from to = if has_joint from to then point (Joint g) ∷ [] else []
 
 abbrev mutual
   pub line_pieces : Line → List Piece
@@ -42,7 +51,8 @@ abbrev mutual
   line_pieces (group_end g ms) =
       opens false g ∷ points g ms ++ all_line_pieces ms ++ closes ∷ []
   line_pieces (chord_end g ms b) =
-      opens true g ∷ points g ms ++ all_line_pieces ms ++ closes ∷ [] ++ line_pieces b
+      opens true g ∷ points g ms ++ all_line_pieces ms ++ closes ∷ []
+      ++ joints g (ends.point g ms ++ all_lasts ms) (firsts b) ++ line_pieces b
 
   pub all_line_pieces : Lines → List Piece
   all_line_pieces no_lines = []
@@ -53,7 +63,7 @@ abbrev pub nodes : List Piece → List ℕ
 nodes [] = []
 nodes (node k ∷ ps) = k ∷ nodes ps
 nodes (opens c g ∷ ps) = nodes ps
-nodes (point g ∷ ps) = nodes ps
+nodes (point n ∷ ps) = nodes ps
 nodes (closes ∷ ps) = nodes ps
 
 -- ---- how they are written
@@ -73,16 +83,24 @@ look (Some Ran) s = state_look s
 look (Some Idle) s = state_look s
 look (Some (Skipped d)) s = codes "shape=hexagon, style=\"dashed,filled\", fillcolor=\"#fbeeee\""
 
--- A text that stands between quotes: none in it ends them, since a backslash goes with the byte
--- behind it.
+-- A text between quotes. No byte of it ends them, since a backslash goes with the byte after it.
+-- Each ampersand begins `&amp;`: Graphviz reads entities of HTML in a text, and finds no other.
 abbrev mutual
   pub inside : Text → Bool
   inside [] = true
-  inside (b ∷ bs) = if b == 34 then false else (if b == 92 then behind_backslash bs else inside bs)
+  inside (b ∷ bs) =
+      if b == 34 then false
+      else (if b == 92 then behind_backslash bs
+      else (if b == 38 then behind_ampersand bs else inside bs))
 
   pub behind_backslash : Text → Bool
   behind_backslash [] = false
   behind_backslash (b ∷ bs) = inside bs
+
+  pub behind_ampersand : Text → Bool
+  behind_ampersand (a ∷ m ∷ p ∷ s ∷ bs) =
+      if a == 97 && m == 109 && p == 112 && s == 59 then inside bs else false
+  behind_ampersand bs = false
 
 abbrev pub node_line : ℕ → Text → (label : Text) → Text
 node_line k looks label =
@@ -111,7 +129,7 @@ module _ (at : ℕ → Text) where
   Draws (node k) text =
       (label : Text) × (inside label ≡ true) × (text ≡ node_line k (at k) label)
   Draws (opens c g) text = text ≡ frame_line g ++ label_line (kind c) g
-  Draws (point g) text = text ≡ codes "  g" ++ decimal g ++ codes " [shape=point];\n"
+  Draws (point n) text = text ≡ codes "  " ++ node_text n ++ codes " [shape=point];\n"
   Draws closes text = text ≡ codes "  }\n"
 
   -- one after another

@@ -2,66 +2,17 @@
 -- what is behind it. Links and error callbacks are behind their task, a group or chord begins at
 -- its members, and what is behind a chord begins behind the last tasks of its members (Celery user
 -- guide, Canvas).
-use Rattle.std.specs.Prelude.{◌≡◌, ℕ, List, [], ◌∷◌, ◌++◌, map, Option, Some, None, codes, decimal}
+use Rattle.std.specs.Prelude.{◌≡◌, ℕ, if◌then◌else◌, List, [], ◌∷◌, ◌++◌, map, Option, Some, None, codes}
 use Rattle.canvas_task.specs.Text.{Text}
 use Rattle.canvas_semantics.specs.Tree.{Task, task, Tasks, no_tasks, and_task}
-use Rattle.canvas_semantics.specs.Line.{Line, stop, step, group_end, chord_end, Lines, no_lines, and_line, no_of}
+use Rattle.canvas_semantics.specs.Line.{Line, stop, step, group_end, chord_end, Lines, no_lines, and_line}
 use Rattle.canvas_report.specs.declared.graph.edges.Node.{Node}
 use Rattle.canvas_report.specs.declared.graph.edges.Node.TheVariants as node
 use Rattle.canvas_report.specs.declared.graph.edges.Leads.{Leads}
 use Rattle.canvas_report.specs.declared.graph.edges.Leads.TheVariants.{Next, Link, Errback}
 use Rattle.canvas_report.specs.declared.graph.edges.Edge.{Edge}
+use Rattle.canvas_report.specs.Ends.{node_text, of_task, point, firsts, all_firsts, all_lasts, has_joint}
 use Rattle.canvas_report.specs.Nodes.{AreDrawn, line_pieces}
-
-abbrev pub node_text : Node → Text
-node_text (node.Task k) = codes "t" ++ decimal k
-node_text (node.Group g) = codes "g" ++ decimal g
-
--- ---- where lines begin and end
-
-abbrev pub of_task : Task → Node
-of_task t = node.Task (no_of t)
-
--- a point stands for a group or chord of no members
-abbrev pub point : ℕ → Lines → List Node
-point g no_lines = node.Group g ∷ []
-point g (and_line m ms) = []
-
-abbrev pub point_of : Line → List Node
-point_of stop = []
-point_of (step t l) = []
-point_of (group_end g ms) = point g ms
-point_of (chord_end g ms b) = point g ms
-
-abbrev mutual
-  pub firsts : Line → List Node
-  firsts stop = []
-  firsts (step t l) = of_task t ∷ []
-  firsts (group_end g ms) = point g ms ++ all_firsts ms
-  firsts (chord_end g ms b) = point g ms ++ all_firsts ms
-
-  pub all_firsts : Lines → List Node
-  all_firsts no_lines = []
-  all_firsts (and_line m ms) = firsts m ++ all_firsts ms
-
-abbrev mutual
-  pub lasts : Line → List Node
-  lasts stop = []
-  lasts (step t stop) = of_task t ∷ []
-  lasts (step t l) = lasts l
-  lasts (group_end g ms) = point g ms ++ all_lasts ms
-  lasts (chord_end g ms b) = lasts b
-
-  pub all_lasts : Lines → List Node
-  all_lasts no_lines = []
-  all_lasts (and_line m ms) = lasts m ++ all_lasts ms
-
--- of a group or chord, without its body
-abbrev pub member_lasts : Line → List Node
-member_lasts stop = []
-member_lasts (step t l) = []
-member_lasts (group_end g ms) = point g ms ++ all_lasts ms
-member_lasts (chord_end g ms b) = point g ms ++ all_lasts ms
 
 -- ---- edges
 
@@ -72,6 +23,12 @@ edge leads from to = record { from = from; to = to; leads = leads }
 abbrev pub joined : List Node → List Node → List Edge
 joined [] to = []
 joined (from ∷ more) to = map (λ node. edge Next from node) to ++ joined more to
+
+-- from where the header of chord g ends to where its body begins, through a point if it has one
+abbrev pub to_body : ℕ → (from to : List Node) → List Edge
+to_body g from to =
+    if has_joint from to then joined from (node.Joint g ∷ []) ++ joined (node.Joint g ∷ []) to
+    else joined from to
 
 -- from what stands before, if something does
 abbrev pub behind : Option Node → List Node → List Edge
@@ -98,7 +55,7 @@ abbrev mutual
       behind before (point g ms ++ all_firsts ms) ++ all_line_edges ms
   line_edges before (chord_end g ms b) =
       behind before (point g ms ++ all_firsts ms) ++ all_line_edges ms
-      ++ joined (point g ms ++ all_lasts ms) (firsts b) ++ line_edges None b
+      ++ to_body g (point g ms ++ all_lasts ms) (firsts b) ++ line_edges None b
 
   pub all_line_edges : Lines → List Edge
   all_line_edges no_lines = []

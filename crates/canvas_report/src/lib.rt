@@ -22,6 +22,6 @@ pub use graph::graph_text;
 pub use json_text::{escaped_json, message_line, quoted_json};
 pub use report::{Report, report_text};
 pub use row::Row;
-pub use rows::{Told, rows_text, stored_rows_text};
+pub use rows::{Told, result_text, row_text, rows_text, shown_members, stored_rows_text};
 pub use states::state_in;
 pub use wording::{explained_text, stored_text};

@@ -1,6 +1,6 @@
 //! The tasks of a run as JSON lines, which tools such as `jq` read.
 
-ghost use Rattle.std.specs.Prelude.{◌≡◌, ◌++◌, ◌∷◌, [], true, false, ℕ, IfOk, OnOk, option_map, string_bytes, codes};
+ghost use Rattle.std.specs.Prelude.{◌≡◌, ◌++◌, ◌∷◌, [], true, false, ℕ, IfOk, None, OnOk, option_map, string_bytes, codes};
 ghost use Rattle.std.specs.Fmt.{signed_decimal};
 ghost use Rattle.json.specs.Print.{quoted};
 ghost use Rattle.serde_json.specs.Written.{comma_if};
@@ -474,6 +474,42 @@ pub fn rows_text(
 {
     let rows = run_rows(alloc, report)?;
     lines_of(alloc, plan, &rows, told)
+}
+
+/// The JSON object of a task in a line, as `stored_rows_text` has it.
+pub fn row_text(
+    alloc: Global,
+    plan: &Plan,
+    task: TaskNo,
+    rows: &[Row],
+    told: Told<'_>,
+) -> Result<String, Memory>
+    ensures { IfOk result (λ text. string_bytes text
+        ≡ line_if (row_line told.entry.fates.now (parameter_of told.entry.blamed.now) rows.now)
+        task (name_of plan.now task)) }
+{
+    let mut text = String::new(alloc);
+    push_task(&mut text, alloc, plan, task, told, rows)?;
+    Ok(text)
+}
+
+/// The result of a task and its status as members of a JSON object, up to the closing quote.
+pub fn shown_members(alloc: Global, rows: &[Row], task: TaskNo) -> Result<String, Memory>
+    ensures { IfOk result (λ text. string_bytes text ≡ shown_text (row_of rows.now task)) }
+{
+    let mut text = String::new(alloc);
+    push_shown(&mut text, alloc, rows, task)?;
+    Ok(text)
+}
+
+/// The JSON object of the canvas's result in a line, as `stored_rows_text` has it.
+pub fn result_text(alloc: Global, plan: &Plan, rows: &[Row]) -> Result<String, Memory>
+    ensures { IfOk result (λ text. string_bytes text
+        ≡ end_text None (ends_in_group (tree_of plan.now)) rows.now (ends (tree_of plan.now))) }
+{
+    let mut text = String::new(alloc);
+    push_end(&mut text, alloc, &plan.ends(), rows, None)?;
+    Ok(text)
 }
 
 /// The same of rows of any kind. A row whose result isn't compact JSON takes nothing from what is

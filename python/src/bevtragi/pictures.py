@@ -11,7 +11,7 @@ __all__ = ["Picture"]
 
 __tracebackhide__ = hidden
 
-#: The seconds that Graphviz may take. A header of hundreds of members takes it hours.
+#: The seconds that Graphviz may take.
 SECONDS = 20
 
 

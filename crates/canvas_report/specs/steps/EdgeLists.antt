@@ -2,7 +2,8 @@
 use Rattle.std.specs.Prelude.{List, [], ◌∷◌, ◌++◌, Option, Some, None}
 use Rattle.canvas_semantics.specs.Tree.{Task}
 use Rattle.canvas_semantics.specs.Line.{Line}
-use Rattle.canvas_report.specs.Picture.{of_task, firsts, lasts, edge, behind, task_edges, line_edges}
+use Rattle.canvas_report.specs.Ends.{of_task, firsts, lasts}
+use Rattle.canvas_report.specs.Picture.{edge, behind, task_edges, line_edges}
 use Rattle.canvas_report.specs.declared.graph.edges.Node.{Node}
 use Rattle.canvas_report.specs.declared.graph.edges.Leads.{Leads}
 use Rattle.canvas_report.specs.declared.graph.edges.Edge.{Edge}

@@ -4,6 +4,7 @@ use Rattle.canvas_task.specs.Text.{Text}
 use Rattle.canvas_semantics.specs.Tree.{Task}
 use Rattle.canvas_semantics.specs.Line.{Line, stop, step, group_end, chord_end}
 use Rattle.canvas_report.specs.Nodes.{Piece, opens, point, closes, points, task_pieces, line_pieces, all_line_pieces, inside, node_line, AreDrawn}
+use Rattle.canvas_report.specs.declared.graph.edges.Node.TheVariants.{Group}
 
 -- they stand behind what stood there
 abbrev pub Adds : (ℕ → Text) → List Piece → (old new : Text) → Type 0
@@ -32,7 +33,7 @@ AddsWhole old new = (piece : Text) × IsWhole piece × (new ≡ old ++ piece)
 -- ---- a frame
 
 abbrev pub list_points : ℕ → List Line → List Piece
-list_points g [] = point g ∷ []
+list_points g [] = point (Group g) ∷ []
 list_points g (l ∷ ls) = []
 
 -- of a group or chord, without its body

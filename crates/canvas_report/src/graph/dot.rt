@@ -20,7 +20,7 @@ fn push_code(dot: &mut String, code: u32) -> Result<(), AllocError>
 }
 
 /// A character between quotes. What isn't printable ASCII is escaped, so that no text ends its
-/// quotes or begins an escape of Graphviz.
+/// quotes, or begins an escape of Graphviz or an entity of HTML.
 fn push_escaped(dot: &mut String, c: char) -> Result<(), AllocError>
     ensures { OnOk result (AddsWhole (string_bytes dot.old) (string_bytes dot.new)) }
 {
@@ -28,6 +28,7 @@ fn push_escaped(dot: &mut String, c: char) -> Result<(), AllocError>
         '"' => dot.push_str("\\\""),
         '\\' => dot.push_str("\\\\"),
         '\n' => dot.push_str("\\n"),
+        '&' => dot.push_str("&amp;"),
         ' '..='~' => dot.push(c),
         _ => push_code(dot, c as u32),
     }

@@ -2,26 +2,31 @@
 
 ghost use Rattle.std.specs.Prelude.{◌≡◌, ◌==◌, ◌++◌, ◌∷◌, [], Some, None, IfOk, OnOk, map, length, string_bytes};
 ghost use Rattle.canvas_rewrite.specs.FrozenView.{task_in, line_in, end_in};
+ghost use Rattle.canvas_rewrite.specs.declared.frozen.FrozenEnd.{out-FrozenEnd};
 ghost use Rattle.canvas_semantics.specs.Line.{no_of};
-ghost use Rattle.canvas_report.specs.Picture.{edge, joined, behind, point_of, firsts, lasts, member_lasts, task_edges, line_edges, style, edge_text, edges_text};
+ghost use Rattle.canvas_report.specs.Ends.{point_of, firsts, lasts, member_lasts, are_several, has_joint};
+ghost use Rattle.canvas_report.specs.Picture.{edge, joined, to_body, behind, task_edges, line_edges, style, edge_text, edges_text};
 ghost use Rattle.canvas_report.specs.steps.EdgeLists.{lines_firsts, lines_lasts, callbacks_edges, tasks_edges, last_node, lines_edges};
 ghost use Rattle.canvas_report.specs.declared.graph.edges.Node.TheVariants.{Task};
 ghost use Rattle.canvas_report.specs.declared.graph.edges.Leads.TheVariants.{Next};
 
 use canvas_rewrite::{FrozenEnd, FrozenLine, FrozenTask};
+use canvas_task::GroupNo;
 use std::alloc::{AllocError, Global};
 use std::fmt;
 
-/// What edges join: a task, or a group or chord of no members; each by its number.
+/// What edges join: a task, the point of a group or chord of no members, or the point between a
+/// chord's header and its body; each by its number.
 #[derive(Clone, Copy, Drop)]
 pub(crate) enum Node {
     Task(u32),
     Group(u32),
+    Joint(u32),
 }
 
 impl fmt::Display for Node {
     ghost use Rattle.std.specs.Prelude.{Some};
-    ghost use Rattle.canvas_report.specs.Picture.{node_text};
+    ghost use Rattle.canvas_report.specs.Ends.{node_text};
 
     ghost output = { λ node. Some (node_text node) };
 
@@ -29,6 +34,7 @@ impl fmt::Display for Node {
         match self {
             Node::Task(number) => write!(f, "t{number}"),
             Node::Group(number) => write!(f, "g{number}"),
+            Node::Joint(number) => write!(f, "j{number}"),
         }
     }
 }
@@ -193,6 +199,39 @@ fn push_joined(edges: &mut Vec<Edge>, from: &[Node], to: &[Node]) -> Result<(), 
     Ok(())
 }
 
+fn are_several(nodes: &[Node]) -> bool
+    ensures { result ≡ are_several nodes.now }
+{
+    nodes.len() > 1
+}
+
+/// Whether a header and a body that end and begin so have a point between them.
+fn has_joint(from: &[Node], to: &[Node]) -> bool
+    ensures { result ≡ has_joint from.now to.now }
+{
+    are_several(from) && are_several(to)
+}
+
+/// The edges from where a chord's header ends to where its body begins, through a point if there is
+/// one.
+fn push_between(
+    edges: &mut Vec<Edge>,
+    chord: GroupNo,
+    from: &[Node],
+    to: &[Node],
+) -> Result<(), AllocError>
+    ensures { OnOk result
+        (edges.new.items ≡ edges.old.items ++ to_body chord from.now to.now) }
+{
+    if has_joint(from, to) {
+        let joint = [Node::Joint(chord.get())];
+        push_joined(edges, from, &joint)?;
+        push_joined(edges, &joint, to)
+    } else {
+        push_joined(edges, from, to)
+    }
+}
+
 /// The edges from what stands before, if something does.
 fn push_behind(edges: &mut Vec<Edge>, before: &Option<Node>, to: &[Node]) -> Result<(), AllocError>
     ensures { OnOk result (edges.new.items ≡ edges.old.items ++ behind before.now to.now) }
@@ -276,21 +315,50 @@ fn push_before(
     }
 }
 
-/// The edges from where the members of a chord end to where its body begins.
+/// Where the header of a chord ends, and where its body begins.
+#[derive(Drop)]
+struct Sides {
+    from: Vec<Node>,
+    to: Vec<Node>,
+}
+
+fn sides_of(alloc: Global, end: &FrozenEnd, body: &FrozenLine) -> Result<Sides, AllocError>
+    ensures from { IfOk result (λ sides. sides.from.items ≡ member_lasts (end_in end.now)) }
+    ensures to { IfOk result (λ sides. sides.to.items ≡ firsts (line_in body.now)) }
+{
+    let mut from = Vec::new(alloc);
+    push_member_lasts(&mut from, end)?;
+    let mut to = Vec::new(alloc);
+    push_firsts(&mut to, body)?;
+    Ok(Sides { from, to })
+}
+
+/// Whether there is a point between the header of a chord and its body.
+pub(crate) fn chord_has_joint(
+    alloc: Global,
+    end: &FrozenEnd,
+    body: &FrozenLine,
+) -> Result<bool, AllocError>
+    ensures { IfOk result (λ has. has
+        ≡ has_joint (member_lasts (end_in end.now)) (firsts (line_in body.now))) }
+{
+    let sides = sides_of(alloc, end, body)?;
+    Ok(has_joint(&sides.from, &sides.to))
+}
+
+/// The edges from the header of a chord to its body.
 fn push_to_body(
     alloc: Global,
     edges: &mut Vec<Edge>,
     end: &FrozenEnd,
     body: &FrozenLine,
 ) -> Result<(), AllocError>
-    ensures { OnOk result (edges.new.items
-        ≡ edges.old.items ++ joined (member_lasts (end_in end.now)) (firsts (line_in body.now))) }
+    ensures { OnOk result (edges.new.items ≡ edges.old.items
+        ++ to_body (out-FrozenEnd end.now).group
+        (member_lasts (end_in end.now)) (firsts (line_in body.now))) }
 {
-    let mut from = Vec::new(alloc);
-    push_member_lasts(&mut from, end)?;
-    let mut to = Vec::new(alloc);
-    push_firsts(&mut to, body)?;
-    push_joined(edges, &from, &to)
+    let sides = sides_of(alloc, end, body)?;
+    push_between(edges, end.group, &sides.from, &sides.to)
 }
 
 #[cycle(lines)]

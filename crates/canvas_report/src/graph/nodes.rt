@@ -3,14 +3,16 @@
 ghost use Rattle.std.specs.Prelude.{◌≡◌, ◌++◌, ◌∷◌, [], ℕ, OnOk, map, option_map, decimal, codes, string_bytes};
 ghost use Rattle.canvas_task.specs.Text.{Text};
 ghost use Rattle.canvas_rewrite.specs.FrozenView.{task_in, line_in, end_in};
+ghost use Rattle.canvas_rewrite.specs.declared.frozen.FrozenEnd.{out-FrozenEnd};
 ghost use Rattle.canvas_semantics.specs.Line.{no_of};
-ghost use Rattle.canvas_report.specs.Nodes.{looks, node, opens, closes, kind, frame_line, label_line, task_pieces, line_pieces};
+ghost use Rattle.canvas_report.specs.Ends.{node_text, firsts, member_lasts};
+ghost use Rattle.canvas_report.specs.Nodes.{looks, node, opens, closes, kind, frame_line, label_line, joints, task_pieces, line_pieces};
 ghost use Rattle.canvas_report.specs.StoredRows.{row_of, row_status};
 ghost use Rattle.canvas_report.specs.steps.PieceLists.{Adds, AddsNode, tasks_pieces, lines_pieces, frame_pieces, list_points};
 
 use crate::fate::{Fate, fate_in};
 use crate::graph::dot::{look_of, push_quoted};
-use crate::graph::edges::has_none;
+use crate::graph::edges::{Node, chord_has_joint, has_none};
 use crate::graph::label::label_of;
 use crate::row::Row;
 use crate::shown::{Status, status_at};
@@ -136,11 +138,11 @@ fn push_opening(text: &mut String, group: GroupNo, is_chord: bool) -> Result<(),
     push_label_line(text, kind_of(is_chord), group.get())
 }
 
-fn push_dot(text: &mut String, number: u32) -> Result<(), AllocError>
+fn push_dot(text: &mut String, node: Node) -> Result<(), AllocError>
     ensures { OnOk result (string_bytes text.new ≡ string_bytes text.old
-        ++ (codes "  g" ++ decimal number ++ codes " [shape=point];\n")) }
+        ++ (codes "  " ++ node_text node ++ codes " [shape=point];\n")) }
 {
-    writeln!(text, "  g{number} [shape=point];")?;
+    writeln!(text, "  {node} [shape=point];")?;
     Ok(())
 }
 
@@ -149,7 +151,25 @@ fn push_point(text: &mut String, group: GroupNo, members: &[FrozenLine]) -> Resu
         (string_bytes text.old) (string_bytes text.new)) }
 {
     if has_none(members) {
-        push_dot(text, group.get())
+        push_dot(text, Node::Group(group.get()))
+    } else {
+        Ok(())
+    }
+}
+
+/// The point between the header of a chord and its body, if there is one.
+fn push_joint(
+    alloc: Global,
+    text: &mut String,
+    end: &FrozenEnd,
+    body: &FrozenLine,
+) -> Result<(), AllocError>
+    ensures { (at : ℕ → Text) → OnOk result (Adds at (joints (out-FrozenEnd end.now).group
+        (member_lasts (end_in end.now)) (firsts (line_in body.now)))
+        (string_bytes text.old) (string_bytes text.new)) }
+{
+    if chord_has_joint(alloc, end, body)? {
+        push_dot(text, Node::Joint(end.group.get()))
     } else {
         Ok(())
     }
@@ -194,6 +214,7 @@ fn push_end(
     match &end.body {
         Some(body) => {
             push_frame(alloc, text, end, true, seen)?;
+            push_joint(alloc, text, end, body)?;
             push_line(alloc, text, body, seen)
         }
         None => push_frame(alloc, text, end, false, seen),

@@ -2,7 +2,7 @@ use Rattle.std.proofs.Common.{List, ◌∙◌, ◌++◌, map, ap, sym, refl, sli
 use Rattle.canvas_task.proofs.Turns.{put_on, put_all}
 use Rattle.canvas_rewrite.specs.declared.frozen.FrozenLine.{FrozenLine}
 use Rattle.canvas_rewrite.specs.FrozenView.{line_in, end_in}
-use Rattle.canvas_report.specs.Picture.{firsts}
+use Rattle.canvas_report.specs.Ends.{firsts}
 use Rattle.canvas_rewrite.proofs.PlanLines.{ok_same}
 use Rattle.canvas_rewrite.proofs.NameLines.{one_after}
 use Rattle.canvas_report.specs.steps.EdgeLists.{lines_firsts}

@@ -4,7 +4,7 @@ use Rattle.canvas_rewrite.specs.FrozenView.{line_in, end_in}
 use Rattle.canvas_rewrite.specs.declared.frozen.FrozenLine.{FrozenLine, out-FrozenLine}
 use Rattle.canvas_rewrite.proofs.PlanLines.{in_chord, ok_same, ends_last, ends_never}
 use Rattle.canvas_rewrite.proofs.NameLines.{one_after}
-use Rattle.canvas_report.specs.Picture.{lasts}
+use Rattle.canvas_report.specs.Ends.{lasts}
 use Rattle.canvas_report.specs.steps.EdgeLists.{lines_lasts}
 use Rattle.canvas_report.proofs.EdgeParts.{group_lasts, number_is, end_lasts, lasts_some, lasts_none}
 use Rattle.canvas_report.proofs.graph.edges.+lasts.Goals as goal

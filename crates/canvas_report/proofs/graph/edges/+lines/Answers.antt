@@ -1,10 +1,12 @@
 use Rattle.std.proofs.Common.{List, ◌∙◌, ◌++◌, None, map, ap, sym, refl, append_assoc}
 use Rattle.canvas_task.proofs.Turns.{put_on, put_all}
+use Rattle.canvas_rewrite.specs.declared.frozen.FrozenEnd.{out-FrozenEnd}
 use Rattle.canvas_rewrite.specs.declared.frozen.FrozenLine.{FrozenLine}
 use Rattle.canvas_rewrite.specs.FrozenView.{task_in, line_in, end_in}
 use Rattle.canvas_rewrite.proofs.PlanLines.{ok_same}
 use Rattle.canvas_rewrite.proofs.NameLines.{one_after}
-use Rattle.canvas_report.specs.Picture.{firsts, joined, member_lasts, line_edges}
+use Rattle.canvas_report.specs.Ends.{firsts, member_lasts}
+use Rattle.canvas_report.specs.Picture.{to_body, line_edges}
 use Rattle.canvas_report.specs.steps.EdgeLists.{tasks_edges, last_node, lines_edges}
 use Rattle.canvas_report.proofs.EdgeParts.{line_none, line_some, group_edges, chord_edges}
 use Rattle.canvas_report.proofs.graph.edges.+lines.Goals as goal
@@ -39,7 +41,8 @@ push_end-returns-in_ok-push_to_body-in-Some t c =
     let body = c.in_ok-push_to_body-in-Some.ensures in
     ok_same _ _ (c.push_to_body.new.edges.items ++ line_edges None (line_in c.in-Some.body)) _
     (ap (λ es. es ++ line_edges None (line_in c.in-Some.body)) body
-    ∙ append_assoc c.push_lines.new.edges.items (joined (member_lasts (end_in c.args.end.now)) (firsts (line_in c.in-Some.body)))
+    ∙ append_assoc c.push_lines.new.edges.items
+    (to_body (out-FrozenEnd c.args.end.now).group (member_lasts (end_in c.args.end.now)) (firsts (line_in c.in-Some.body)))
     (line_edges None (line_in c.in-Some.body))
     ∙ one_after c.args.edges.now.items _ _ _ _ c.push_lines.new.edges.items both refl refl
     ∙ ap (λ es. c.args.edges.now.items ++ es) (sym (chord_edges c.args.before.now c.args.end.now c.in-Some.body c.in-Some.is)))

@@ -1,7 +1,8 @@
 use Rattle.std.proofs.Common.{◌∙◌, ◌++◌, ◌∷◌, [], true, OnOk, ap, map, subst, string_bytes}
 use Rattle.canvas_rewrite.specs.FrozenView.{task_in, line_in, end_in}
 use Rattle.canvas_rewrite.specs.declared.frozen.FrozenEnd.{out-FrozenEnd}
-use Rattle.canvas_report.specs.Nodes.{Piece, looks, opens, closes, line_pieces}
+use Rattle.canvas_report.specs.Ends.{firsts, member_lasts}
+use Rattle.canvas_report.specs.Nodes.{Piece, looks, opens, closes, joints, line_pieces}
 use Rattle.canvas_report.specs.steps.PieceLists.{Adds, tasks_pieces, lines_pieces, list_points, frame_pieces}
 use Rattle.std.specs.Prelude.{List, option_map}
 use Rattle.canvas_report.proofs.NodeParts.{nothing, after, after_ok, alike, line_none, line_some, frame_is, group_is, chord_is, rest_lines, no_line_left}
@@ -28,11 +29,13 @@ push_end-returns-in-None t c =
     λ ps. OnOk c.push_frame-in-None.result (Adds at ps (string_bytes c.args.text.now) (string_bytes c.push_frame-in-None.new.text)) in
     subst P (group_is c.args.end.now c.in-None.is) c.push_frame-in-None.ensures
 
-pub push_end-returns-in_ok-push_frame-in-Some : goal.push_end-returns-in_ok-push_frame-in-Some
-push_end-returns-in_ok-push_frame-in-Some t c =
+pub push_end-returns-in_ok-push_joint-in-Some : goal.push_end-returns-in_ok-push_joint-in-Some
+push_end-returns-in_ok-push_joint-in-Some t c =
     let at = looks c.args.seen.now.fates.now (option_map (λ rows. rows.now) c.args.seen.now.rows) in
-    after_ok _ at (frame_pieces true (end_in c.args.end.now)) (line_pieces (line_in c.in-Some.body)) _ _ _ _
-    (chord_is c.args.end.now c.in-Some.body c.in-Some.is) c.in_ok-push_frame-in-Some.ensures c.push_line.ensures
+    let frame = frame_pieces true (end_in c.args.end.now) in
+    let joint = joints (out-FrozenEnd c.args.end.now).group (member_lasts (end_in c.args.end.now)) (firsts (line_in c.in-Some.body)) in
+    after_ok _ at (frame ++ joint) (line_pieces (line_in c.in-Some.body)) _ _ _ _ (chord_is c.args.end.now c.in-Some.body c.in-Some.is)
+    (after at frame joint _ _ _ c.in_ok-push_frame-in-Some.ensures (c.in_ok-push_joint-in-Some.ensures at)) c.push_line.ensures
 
 pub push_frame-returns : goal.push_frame-returns
 push_frame-returns t c =
