@@ -436,27 +436,6 @@ class Programs(unittest.TestCase):
         self.assertEqual((found.version, len(found.digest)), ("1.0.0", 64))
         self.assertTrue(os.access(found.path, os.X_OK))
 
-    def test_a_program_that_came_in_a_wheel(self):
-        with tempfile.TemporaryDirectory() as room:
-            package = Path(room, "bevtragi")
-            shutil.copytree(HERE.parent / "src" / "bevtragi", package)
-            shutil.copy(bevtragi.program().path, package / "canvas")
-            built_of = {"commit": "c0ffee", "toolchain": "kit"}
-            right = bevtragi.program().digest
-            other = right[:-1] + ("0" if right[-1] == "1" else "1")
-            bin_of_another = Path(room, "bin")
-            bin_of_another.mkdir()
-            (bin_of_another / "canvas").symlink_to("/bin/true")
-            for digest, said in ((right, "c0ffee kit"), (other, "isn't the")):
-                (package / "program.json").write_text(json.dumps({**built_of, "digest": digest}))
-                text = ("import bevtragi\ntry: print(*bevtragi.program()[3:])\n"
-                        "except bevtragi.CanvasError as error: print(error)")
-                env = {name: it for name, it in os.environ.items() if name != "CANVAS"}
-                env["PATH"] = f"{bin_of_another}:{env['PATH']}"
-                ran = subprocess.run([sys.executable, "-B", "-c", text], cwd=room, check=True,
-                                     stdout=subprocess.PIPE, env={**env, "PYTHONPATH": room})
-                self.assertIn(said, ran.stdout.decode())
-
     def test_programs_that_give_no_answer(self):
         for text, said in (("", "`canvas run` ended with status 0: it said nothing"),
                            ("echo no", "`canvas run` answered what can't be read"),

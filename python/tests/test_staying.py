@@ -222,6 +222,7 @@ class Staying(unittest.TestCase):
             if not child:
                 status = 9
                 try:
+                    signal.alarm(40)  # so that a child that waits for a lock of its parent ends
                     status = int([answer(number), answer(8)] != [number, 8])
                     end()
                 finally:

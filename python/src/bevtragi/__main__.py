@@ -5,18 +5,20 @@ from __future__ import annotations
 
 import os
 import sys
-from pathlib import Path
 
 from .calling import path_of_program
 from .errors import CanvasError
+from .wheel import compare, own_program
 
 
 def main() -> int:
-    """Becomes the wheel's program, whatever $CANVAS names, which may be the wheel's own command;
-    without a wheel the program that the package calls. The status is 126 if there is none."""
+    """Becomes the wheel's program, and not the one that $CANVAS names, which may be the wheel's own command;
+    without a wheel the program that the package calls. The status is 126 if there is none, or if
+    the wheel's was replaced."""
     try:
-        own = Path(__file__).resolve().with_name("canvas")
+        own = own_program()
         path = str(own) if own.is_file() else path_of_program()
+        compare(path)
         os.execv(path, ["canvas", *sys.argv[1:]])
     except (CanvasError, OSError, ValueError) as error:
         print(f"canvas: {error}", file=sys.stderr)

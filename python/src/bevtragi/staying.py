@@ -19,6 +19,7 @@ from typing import Any, Dict, List, Optional, Sequence, Tuple
 
 from . import calling
 from .errors import CanvasError, hidden
+from .wheel import mark_of
 
 __all__ = ["end", "item_of", "told"]
 
@@ -31,8 +32,6 @@ MOST_BYTES = 1_048_576
 
 #: The seconds that a process has to end once it gets no more canvases.
 GRACE = 1
-
-Mark = Tuple[int, int, int, int]
 
 
 def item_of(answers: Sequence[str], text: bytes) -> Optional[bytes]:
@@ -67,7 +66,7 @@ class _Process:
     """A process of the program at a path."""
 
     def __init__(self, path: str) -> None:
-        self.path, self._mark = path, _mark_of(path)
+        self.path, self._mark = path, mark_of(path)
         self._errors = tempfile.TemporaryFile()
         try:
             self._popen = subprocess.Popen([path, *WORDS], bufsize=0, stdin=subprocess.PIPE,
@@ -82,7 +81,7 @@ class _Process:
 
     def is_there(self) -> bool:
         """Whether it hasn't ended, and is of the file that is at its path."""
-        return self._popen.poll() is None and _mark_of(self.path) == self._mark
+        return self._popen.poll() is None and mark_of(self.path) == self._mark
 
     def told(self, items: Sequence[bytes]) -> List[Dict[str, Any]]:
         """What it prints of each item. Where that isn't all of it, it has ended."""
@@ -105,7 +104,7 @@ class _Process:
             f"`canvas run` answered what can't be read: {why}")
 
     def _lines(self, items: Sequence[bytes]) -> List[bytes]:
-        """The lines that it prints of some items, each of which may take so many seconds."""
+        """The lines that it prints of some items, each of which may take a number of seconds."""
         left = memoryview(b"".join(it + b"\0" for it in items))
         said, count = bytearray(), 0
         until = time.monotonic() + calling.SECONDS
@@ -172,15 +171,6 @@ class _Process:
 def _is_answer(it: Any) -> bool:
     """Whether it says a report or a refusal."""
     return isinstance(it, dict) and ("name" in it or {"canvas", "rows"} <= it.keys())
-
-
-def _mark_of(path: str) -> Optional[Mark]:
-    """What tells a file from another at the same path. None where there is none."""
-    try:
-        found = os.stat(path)
-    except OSError:
-        return None
-    return found.st_mtime_ns, found.st_size, found.st_ino, found.st_dev
 
 
 class _One:
