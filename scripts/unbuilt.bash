@@ -10,7 +10,7 @@ read_words() {
     shift
     case "$command $1" in
       *' --') files+=("${@:2}") && return 0 ;;
-      *' --workers' | *' --turns' | *' --again' | *' --task' | *' --tasks' | *' --rename' | *' --results' | *' --of' | *' --values' | *' --queue' | *' --prefix' | \
+      *' --workers' | *' --turns' | *' --again' | *' --failures' | *' --task' | *' --tasks' | *' --rename' | *' --results' | *' --of' | *' --values' | *' --queue' | *' --prefix' | \
         *' --expires' | *' --broker-db' | *' --backend-db' | 'export --run' | 'keys --run' | 'collect --run')
         options+=("${@:1:2}")
         if (($# > 1)); then shift; fi

@@ -123,13 +123,10 @@ class Data(unittest.TestCase):
 
 
 class Steps(unittest.TestCase):
-    def test_a_program_without_steps_has_no_player(self):
-        with mock.patch("bevtragi.playing.has_option", lambda *words: False):
-            self.assertEqual(json.loads(data_of(page(ORDER)))["plays"], [])
+    def test_no_workers_are_no_runs(self):
+        self.assertEqual(json.loads(data_of(page(ORDER, workers=())))["plays"], [])
 
     def test_runs_of_a_chain(self):
-        if not bevtragi.calling.has_option("turns", "--steps"):
-            self.skipTest("the program tells no steps")
         plays = json.loads(data_of(page(chain(s("a"), s("b")), workers=(1,))))["plays"]
         self.assertEqual([(it["workers"], it["again"], it["failing"]) for it in plays],
                          [(1, False, 0), (1, True, 0), (1, False, 1), (1, False, 2)])
@@ -138,8 +135,6 @@ class Steps(unittest.TestCase):
         self.assertEqual(plays[1]["steps"].count("d"), 4)
 
     def test_a_header_counts_its_parts(self):
-        if not bevtragi.calling.has_option("turns", "--steps"):
-            self.skipTest("the program tells no steps")
         plays = json.loads(data_of(page(chord([s("a"), s("b")], s("c")), workers=(1,))))["plays"]
         self.assertEqual(re.findall(r"1c\S+", plays[0]["steps"]), ["1c1:1:0", "1c2:1:1"])
 

@@ -188,12 +188,7 @@ class Failures(InBrowser):
 
 
 class Plays(InBrowser):
-    """Runs that are played step by step, if the program tells steps."""
-
-    def setUp(self):
-        super().setUp()
-        if not bevtragi.calling.has_option("turns", "--steps"):
-            self.skipTest("the program tells no steps")
+    """Runs that are played step by step."""
 
     def test_each_run_ends_as_the_report(self):
         """It also publishes in the order of the program's messages, and each message that is
@@ -485,8 +480,6 @@ class Large(InBrowser):
 
     def test_a_thousand_tasks(self):
         """They take some 2 seconds of processor time to open, and 0.1 for a step."""
-        if not bevtragi.calling.has_option("run", "--failures"):
-            self.skipTest("the program doesn't tell all failures at once")
         shops = [chain(s("shop.fetch", at), *(s(f"shop.step{it}") for it in range(14)))
                  for at in range(66)]
         flow = chain(s("nightly.begin"), chord(shops, s("nightly.report")), s("nightly.send"))
@@ -497,11 +490,10 @@ class Large(InBrowser):
         self.assertEqual(len(self.states()), 66 * 15 + 3)
         self.assertLess(self.takes(lambda: self.click("#task-500")), 3)
         self.assertIn("What if #500", self.text("#question"))
-        if bevtragi.calling.has_option("turns", "--steps"):
-            self.click("#view-run")
-            self.js("const it = document.getElementById('slider'); it.value = 3000; it.oninput()")
-            self.assertLess(self.takes(lambda: self.click("#next")), 1)
-            self.assertIn("Step 3001 of", self.text("#question"))
+        self.click("#view-run")
+        self.js("const it = document.getElementById('slider'); it.value = 3000; it.oninput()")
+        self.assertLess(self.takes(lambda: self.click("#next")), 1)
+        self.assertIn("Step 3001 of", self.text("#question"))
 
     def takes(self, act):
         """The processor time of an act, until the page is drawn."""

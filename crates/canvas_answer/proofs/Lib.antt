@@ -9,3 +9,4 @@ pub mod Numbering
 pub mod Pieces
 pub mod Writes
 pub mod Lines
+pub mod Objects

@@ -13,7 +13,7 @@ kept_or_not : {Y Z : Type 0} (y : Y) (o : Option Z) → filter_map (λ _. o) (y 
 kept_or_not y None = refl
 kept_or_not y (Some z) = refl
 
-one_kept : {Y Z : Type 0} (h : Y → Option Z) (y : Y) → filter_map h (y ∷ []) ≡ option_to_list (h y)
+pub one_kept : {Y Z : Type 0} (h : Y → Option Z) (y : Y) → filter_map h (y ∷ []) ≡ option_to_list (h y)
 one_kept h y = kept_or_not y (h y)
 
 pub one_more : {X Y Z : Type 0} (f : X → Y) (h : Y → Option Z) (xs : List X) (i : ℕ) (d : X) → i < length xs

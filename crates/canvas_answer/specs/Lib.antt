@@ -10,6 +10,7 @@ pub mod Letters
 pub mod Names
 pub mod Plans
 pub mod Blamed
+pub mod Cases
 pub mod Raised
 pub mod Told
 pub mod Normal

@@ -18,6 +18,8 @@ use Rattle.canvas_answer.specs.declared.asked.Verb.{Verb}
 use Rattle.canvas_answer.specs.declared.asked.Verb.TheVariants as verb
 use Rattle.canvas_answer.specs.declared.asked.Work.{Work}
 use Rattle.canvas_answer.specs.declared.asked.Work.TheVariants.{One, Each}
+use Rattle.canvas_answer.specs.declared.asked.Work.TheVariants as work
+use Rattle.canvas_answer.specs.declared.failures.Failures as failures
 use Rattle.canvas_answer.specs.declared.celery.Collecting.{Collecting}
 use Rattle.canvas_answer.specs.declared.celery.OnCelery.TheVariants as celery
 use Rattle.canvas_answer.specs.declared.each.Each as each
@@ -94,10 +96,11 @@ module _ (given : List Row) where
 
   abbrev pub IsVerb : Subcommand → Verb → Type 0
   IsVerb Run (verb.Run workers manner) = IsWorkers workers × IsManner (codes "fail") manner
-  IsVerb Turns (verb.Turns workers turns again manner) =
+  IsVerb Turns (verb.Turns workers turns again steps manner) =
       IsWorkers workers × AreTurns workers turns.items
-      × IsAgain (first_of (codes "again") given) again × IsManner (codes "fail") manner
-  IsVerb Normal verb.Normal = Unit {0}
+      × IsAgain (first_of (codes "again") given) again × IsFlag given (codes "steps") steps
+      × IsManner (codes "fail") manner
+  IsVerb Normal (verb.Normal numbers) = IsFlag given (codes "numbers") numbers
   IsVerb Check (verb.Check manner) = IsManner (codes "strict") manner
   IsVerb Adapt (verb.Adapt renames) =
       AreRenameTexts (texts_of given (codes "rename")) renames.items
@@ -121,9 +124,17 @@ module _ (given : List Row) where
         × (e.end ≡ (if null then 0 else 10))
     pub tasks : IsFlag given (codes "with-tasks") e.has_tasks
 
+  -- the word that each task fails with, and whether a failure has a status of its own
+  abbrev pub AreFailures : (word : Option Text) → failures.Failures → Type 0
+  AreFailures word f = (word ≡ Some f.word.now) × IsFlag given (codes "fail") f.fails
+
   abbrev pub IsWork : Subcommand → Work → Type 0
-  IsWork command (One v) = IsFlag given (codes "each") false × IsVerb command v
+  IsWork command (One v) =
+      IsFlag given (codes "each") false × (first_of (codes "failures") given ≡ None)
+      × IsVerb command v
   IsWork command (Each e) = IsFlag given (codes "each") true × IsEach e
+  IsWork command (work.Failures f) =
+      IsFlag given (codes "each") false × AreFailures (first_of (codes "failures") given) f
 
   pub record IsRequest (command : Subcommand) (r : Request) : Type 0 where
     pub work : IsWork command r.work

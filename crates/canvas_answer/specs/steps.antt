@@ -1,3 +1,4 @@
 pub mod Classes
+pub mod First
 pub mod Pieces
 pub mod BlamedLists

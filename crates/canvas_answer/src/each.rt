@@ -37,7 +37,7 @@ fn push_more(out: &mut String, row: &str) -> Result<(), AllocError>
 }
 
 /// Adds rows with commas between them.
-fn push_rows(out: &mut String, rows: &[&str]) -> Result<(), AllocError>
+pub(crate) fn push_rows(out: &mut String, rows: &[&str]) -> Result<(), AllocError>
     ensures { OnOk result (string_bytes out.new
         ≡ string_bytes out.old ++ joined (map (λ row. row.now) rows.now)) }
 {

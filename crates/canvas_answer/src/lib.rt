@@ -10,6 +10,8 @@ pub mod celery;
 pub mod each;
 pub mod errors;
 mod escaping;
+mod evaluated;
+pub mod failures;
 pub mod figures;
 mod finding;
 mod given;

@@ -6,9 +6,10 @@ ghost use Rattle.canvas_adapt.specs.declared.renames.Rename.{Rename};
 ghost use Rattle.canvas_stubs.specs.Raising.{other_error, plain_text};
 ghost use Rattle.canvas_stubs.specs.StubTexts.{stub_reading};
 ghost use Rattle.canvas_stubs.specs.declared.stub.Stub.{Stub};
+ghost use Rattle.canvas_answer.specs.steps.First.{AreAlike, IsPutFirst};
 ghost use Rattle.canvas_answer.specs.Stubbing.{AreNumbered, IsNumbered, error_said, is_numbered, named, numbered};
 
-use crate::errors::push_error;
+use crate::errors::{OtherError, push_error};
 use crate::refusal::Refusal;
 use crate::stubs::Answers;
 use canvas_adapt::{Rename, RenameFault, read_rename};
@@ -172,6 +173,51 @@ pub(crate) fn add_numbers(
         add_number(alloc, answers, text, stands)?;
     }
     Ok(())
+}
+
+/// Puts before all others that the task of a number raises an exception of a class, as a word of
+/// the task says.
+pub(crate) fn put_first(
+    alloc: Global,
+    answers: &mut Answers,
+    text: &str,
+    class: &str,
+    stands: &str,
+) -> Result<(), Refusal>
+    ensures { OnOk result ((r : Rename) × (s : Stub) × (x : OtherError)
+        × IsNumbered stands.now text.now r s
+        × (string_bytes x.name ≡ string_bytes r.name) × (string_bytes x.class ≡ class.now)
+        × IsPutFirst s r x answers.old answers.new) }
+{
+    let stub = stub_of(alloc, text, stands)?;
+    let rename = rename_of(alloc, text, stub.name.get())?;
+    let error = OtherError {
+        name: rename.name.clone()?,
+        class: String::from_str(alloc, class)?,
+    };
+    answers.errors.insert(0, error)?;
+    answers.renames.insert(0, rename)?;
+    answers.stubs.insert(0, stub)?;
+    Ok(())
+}
+
+fn take_one<T: Drop>(items: &mut Vec<T>)
+    ensures { (first : T) → (others : List T) → items.old.items ≡ first ∷ others
+        → items.new.items ≡ others }
+{
+    if !items.is_empty() {
+        items.remove(0);
+    }
+}
+
+/// Takes away what was put before all others.
+pub(crate) fn take_first(answers: &mut Answers)
+    ensures { (before : Answers) → (s : Stub) → (r : Rename) → (x : OtherError)
+        → IsPutFirst s r x before answers.old → AreAlike before answers.new }
+{
+    take_one(&mut answers.stubs);
+    take_one(&mut answers.renames);
+    take_one(&mut answers.errors);
 }
 
 /// The first word of a task's number is refused where a command takes none.

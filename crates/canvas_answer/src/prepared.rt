@@ -36,6 +36,16 @@ impl Prepared {
     }
 }
 
+impl Prepared {
+    /// The plan of the canvas.
+    pub fn into_plan(self, alloc: Global) -> Result<Plan, Refusal>
+        ensures { IfOk result (IsPlanOf self.canvas) }
+    {
+        let Prepared { canvas, .. } = self;
+        plan_of(alloc, canvas)
+    }
+}
+
 /// The text that spells a canvas which can be run, for what points into it.
 #[derive(Drop)]
 pub struct Spelled {
@@ -121,6 +131,22 @@ impl Plans {
         let named = named_plan(alloc, &canvas, renames)?;
         let shown = plan_of(alloc, canvas)?;
         check_numbers(renames, shown.tasks())?;
+        Ok(Plans { shown, named })
+    }
+
+    /// The same plans where other tasks of the canvas have other names for the run.
+    pub(crate) fn renamed(
+        self,
+        alloc: Global,
+        canvas: &Canvas,
+        renames: &[Rename],
+    ) -> Result<Plans, Refusal>
+        ensures shown { IfOk result (λ plans. plans.shown ≡ self.shown) }
+        ensures run { IsPlanOf canvas.now self.shown
+            → IfOk result (λ plans. IsPlanOf (renamed renames.now canvas.now) (run_line plans)) }
+    {
+        let Plans { shown, .. } = self;
+        let named = named_plan(alloc, canvas, renames)?;
         Ok(Plans { shown, named })
     }
 

@@ -83,11 +83,12 @@ impl Manner {
             (run_line plans.now) plans.now.shown behaviour self.now.form self.now.fails again) }
     {
         let text = self.whole_text(alloc, plans, report, source, again)?;
-        Ok(self.answer(text, &plans.shown, report))
+        Ok(self.answer(text.into_bytes(), &plans.shown, report))
     }
 
-    fn answer(&self, text: String, plan: &Plan, report: &Report) -> Answer
-        ensures { AnswersAll (string_bytes text) (report_status self.now.fails
+    /// Lines that are told of a whole run, and the status that its result has.
+    pub fn answer(&self, lines: Vec<u8>, plan: &Plan, report: &Report) -> Answer
+        ensures { AnswersAll lines.items (report_status self.now.fails
             (any_failed (with_states (rows_from 1 report.now.rows) (ends_of plan.now)))) result }
     {
         let status = if self.fails && is_failure(plan, report) {
@@ -95,7 +96,7 @@ impl Manner {
         } else {
             0
         };
-        Answer::whole(text.into_bytes()).with_status(status)
+        Answer::whole(lines).with_status(status)
     }
 
     /// Why a run has no whole report, and what it stored, where that is known and there is memory

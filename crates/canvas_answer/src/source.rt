@@ -7,7 +7,7 @@ ghost use Rattle.canvas_task.specs.Apply.{Behaviour};
 ghost use Rattle.canvas_answer.specs.Asking.{asking};
 ghost use Rattle.canvas_answer.specs.Plans.{ArePlansOf, run_line};
 ghost use Rattle.canvas_answer.specs.Raised.{AreShown, class_of, own_class};
-ghost use Rattle.canvas_answer.specs.Told.{IsJsonOf, IsTold, known_states};
+ghost use Rattle.canvas_answer.specs.Told.{AreRows, IsJsonOf, IsTold, known_states};
 ghost use Rattle.canvas_answer.specs.declared.reporting.Form.TheVariants.{Json};
 
 use crate::blamed::{blamed_in_run, builtin_of};
@@ -147,6 +147,24 @@ impl<'a, T> Source<'a, T> {
             → IfOk result (λ rows. rows.items ≡ known_states report.now.rows) }
     {
         named_rows(alloc, plans.run(), report, self.setting, fates)
+    }
+}
+
+impl<'a, T> Source<'a, T> {
+    /// The rows of the report of a whole run.
+    pub fn whole_rows(
+        &self,
+        alloc: Global,
+        plans: &Plans,
+        report: &Report,
+    ) -> Result<Vec<Row>, Memory>
+        ensures { (behaviour : Behaviour)
+            → report.now.rows ≡ states behaviour (tree_of (run_line plans.now))
+            → IfOk result (λ rows. AreRows (asking self.now.setting) (run_line plans.now)
+            plans.now.shown behaviour rows.items) }
+    {
+        let fates = fates(alloc, plans.run(), report)?;
+        Ok(self.rows(alloc, plans, report, &fates)?)
     }
 }
 

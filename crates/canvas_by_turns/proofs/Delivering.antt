@@ -8,6 +8,8 @@ use Rattle.canvas_runs.specs.Core.{taking, resting, over, failed, owning, doing,
 use Rattle.canvas_turns.specs.Spending.{Entry, wanted, spent, has, without}
 use Rattle.canvas_core.specs.CoreState as standing
 use Rattle.canvas_core.specs.CoreState.{Standing, Left, point_in, point_at}
+use Rattle.canvas_turns.specs.Turns.{redelivery}
+use Rattle.canvas_by_turns.specs.steps.Noting.{Noted}
 use Rattle.canvas_by_turns.specs.steps.Stages.{Redelivers}
 use Rattle.canvas_by_turns.specs.declared.stage.Stage.{Stage}
 
@@ -22,21 +24,20 @@ inside_at failed x p h = absurd cc
 inside_at (doing js b) x p h = absurd cc
 inside_at (reading g t u fs) x p h = absurd cc
 
-module _ (s : Stage) (i : ℕ) (c : Standing) (place : i < length s.cores.items) (is_core : c ≡ get_or s.cores.items i c) where
+module _ (s : Stage) (n i : ℕ) (c : Standing) (place : i < length s.cores.items) (is_core : c ≡ get_or s.cores.items i c) where
   here : slice_get s.cores.items i ≡ Some c
   here = slice_get_read s.cores.items _ i c refl place is_core
 
   same : (core : Standing) → slice_get s.cores.items i ≡ Some core → c ≡ core
   same core at = same_Some c core (sym here ∙ at)
 
-  pub not_wanted : wanted (point_at c) s.again.items ≡ false → (core : Standing) → slice_get s.cores.items i ≡ Some core → Redelivers core s s
-  not_wanted w core at = subst (λ d. Redelivers d s s) (same core at) (record {
-    envelope = inl (w, refl, refl);
+  pub not_wanted : wanted (point_at c) s.again.items ≡ false → (core : Standing) → slice_get s.cores.items i ≡ Some core → Redelivers n core s s
+  not_wanted w core at = subst (λ d. Redelivers n d s s) (same core at) (record {
+    envelope = inl (w, refl, refl, refl);
     others = (refl, refl, refl, refl);
-    sent = refl;
   })
 
-  pub none_wanted : None ≡ point_at c → (core : Standing) → slice_get s.cores.items i ≡ Some core → Redelivers core s s
+  pub none_wanted : None ≡ point_at c → (core : Standing) → slice_get s.cores.items i ≡ Some core → Redelivers n core s s
   none_wanted e = not_wanted (ap (λ p. wanted p s.again.items) (sym e))
 
   module _ (p : Entry) (is_point : Some p ≡ point_at c) where
@@ -44,7 +45,7 @@ module _ (s : Stage) (i : ℕ) (c : Standing) (place : i < length s.cores.items)
     wanted_is : (b : Bool) (es : List Entry) → es ≡ s.again.items → has p.0 p.1 es ≡ b → wanted (point_at c) s.again.items ≡ b
     wanted_is b es e h = ap (λ q. wanted q s.again.items) (sym is_point) ∙ ap (has p.0 p.1) (sym e) ∙ h
 
-    pub no_entry : (es : List Entry) → es ≡ s.again.items → has p.0 p.1 es ≡ false → (core : Standing) → slice_get s.cores.items i ≡ Some core → Redelivers core s s
+    pub no_entry : (es : List Entry) → es ≡ s.again.items → has p.0 p.1 es ≡ false → (core : Standing) → slice_get s.cores.items i ≡ Some core → Redelivers n core s s
     no_entry es e h = not_wanted (wanted_is false es e h)
 
     pub holds_one : ((core : Standing) → slice_get s.cores.items i ≡ Some core → is_inside core.left ≡ true → IsSome (standing.held core)) → IsSome (standing.held c)
@@ -52,14 +53,13 @@ module _ (s : Stage) (i : ℕ) (c : Standing) (place : i < length s.cores.items)
 
     pub delivered_again : (es : List Entry) → es ≡ s.again.items → (j : ℕ) → (has p.0 p.1 es ≡ true) × (remove es j ≡ without p.0 p.1 es)
         → (e : Envelope) → standing.held c ≡ Some e → (t : Stage) → t.queue ≡ s.queue ++ e ∷ [] → t.again.items ≡ remove s.again.items j
-        → (t.table ≡ s.table) × (t.cores ≡ s.cores) × (t.steps ≡ s.steps) × (t.repeats ≡ s.repeats) → t.sent ≡ s.sent
-        → (core : Standing) → slice_get s.cores.items i ≡ Some core → Redelivers core s t
-    delivered_again es same_es j found e held t queue again others sent core at = subst (λ d. Redelivers d s t) (same core at) (record {
+        → (t.table ≡ s.table) × (t.cores ≡ s.cores) × (t.steps ≡ s.steps) × (t.repeats ≡ s.repeats) → Noted s.notes (redelivery n e ∷ []) t.notes
+        → (core : Standing) → slice_get s.cores.items i ≡ Some core → Redelivers n core s t
+    delivered_again es same_es j found e held t queue again others noted core at = subst (λ d. Redelivers n d s t) (same core at) (record {
       envelope = inr (
         wanted_is true es same_es found.0,
-        (e, held, queue),
+        (e, held, queue, noted),
         again ∙ ap (λ l. remove l j) (sym same_es) ∙ found.1 ∙ ap (without p.0 p.1) same_es ∙ ap (λ q. spent q s.again.items) is_point,
       );
       others = others;
-      sent = sent;
     })

@@ -3,7 +3,7 @@ pub mod StageSteps
 pub mod StageAsks
 pub mod StageTurns
 pub mod StageAgain
-pub mod Sending
+pub mod Noting
 pub mod Delivering
 pub mod EntryPlaces
 pub mod RoundTurns

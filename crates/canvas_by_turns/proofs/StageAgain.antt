@@ -1,5 +1,5 @@
 -- A turn with its redelivery: the envelope that the core holds is delivered again where an entry for the core's point is unspent, and then its ask is answered.
-use Rattle.std.proofs.Common.{◌≡◌, ◌⊎◌, ◌+◌, inl, inr, ℕ, suc, Bool, true, false, cond, List, [], ◌∷◌, ◌++◌, length, length-append, Option, Some, None, refl, sym, ap, ◌∙◌, subst, eqb, min, append_assoc, append-nil, arith}
+use Rattle.std.proofs.Common.{◌≡◌, ◌⊎◌, ◌+◌, inl, inr, ℕ, suc, Bool, true, false, cond, List, [], ◌∷◌, ◌++◌, map, length, length-append, Option, Some, None, refl, sym, ap, ◌∙◌, subst, eqb, min, append_assoc, append-nil, arith}
 use Rattle.std.specs.Prelude.{◌||◌, slice_get}
 use Rattle.std.specs.List.{list_any}
 use Rattle.std.specs.Option.{option_map}
@@ -38,11 +38,11 @@ use Rattle.canvas_core.specs.CoreState as standing
 use Rattle.canvas_core.specs.CoreState.{Standing, Left, located, next, task_of, point_in, point_at}
 use Rattle.canvas_core.specs.declared.ask.Ask.TheVariants.{Rest}
 use Rattle.canvas_core.proofs.Cores.Located.{located_same}
-use Rattle.canvas_by_turns.specs.Traced.{sent_by, sent_after}
+use Rattle.canvas_by_turns.specs.Noted.{opening_steps, step_seen}
 use Rattle.canvas_by_turns.specs.steps.Noting.{Noted, kept}
-use Rattle.canvas_by_turns.specs.steps.Stages.{asks_of, AnswersNow, Stepped, store_answer, counted_on, Redelivers, IsCoreAt, LeadsTo, Given, Reached, IsTurn}
+use Rattle.canvas_by_turns.specs.steps.Stages.{asks_of, AnswersNow, step_now, Stepped, store_answer, counted_on, Redelivers, IsCoreAt, LeadsTo, Given, Reached, IsTurn}
 use Rattle.canvas_by_turns.specs.declared.stage.Stage.{Stage}
-use Rattle.canvas_by_turns.proofs.Sending.{sent_then, sent_too}
+use Rattle.canvas_by_turns.proofs.Noting.{noted_then, said_now}
 use Rattle.canvas_by_turns.proofs.StageAsks.{stored_says}
 use Rattle.canvas_by_turns.proofs.StageSteps.{together, more_is, same_ask, worker_back, answered_so, stepped}
 
@@ -176,22 +176,23 @@ module _ (behaviour : Behaviour) (l : Line) (n : ℕ) (us : List ℕ) (xs : List
 -- whichever it is, some steps lead to the stage
 pub stood : (behaviour : Behaviour) (l : Line) (n : ℕ) (us : List ℕ) (xs : List Step) (s : Stage) (leads : LeadsTo behaviour l n us xs s) (i : ℕ) (c : Standing)
     (here : slice_get s.cores.items i ≡ Some c) → IsWorker n (suc i)
-    → (t : Stage) → Redelivers c s t → (ys : List Step) × LeadsTo behaviour l n us ys t
+    → (t : Stage) → Redelivers (suc i) c s t → (ys : List Step) × LeadsTo behaviour l n us ys t
 stood behaviour l n us xs s leads i c here own t gone = go gone.envelope
   where
-    go : ((wanted (point_at c) s.again.items ≡ false) × (t.queue ≡ s.queue) × (t.again.items ≡ s.again.items))
-        ⊎ ((wanted (point_at c) s.again.items ≡ true) × ((e : Envelope) × (standing.held c ≡ Some e) × (t.queue ≡ s.queue ++ e ∷ []))
+    go : ((wanted (point_at c) s.again.items ≡ false) × (t.queue ≡ s.queue) × (t.again.items ≡ s.again.items) × (t.notes ≡ s.notes))
+        ⊎ ((wanted (point_at c) s.again.items ≡ true) × ((e : Envelope) × (standing.held c ≡ Some e) × (t.queue ≡ s.queue ++ e ∷ [])
+        × Noted s.notes (redelivery (suc i) e ∷ []) t.notes)
         × (t.again.items ≡ spent (point_at c) s.again.items))
         → (ys : List Step) × LeadsTo behaviour l n us ys t
-    go (inl (w, q, a)) = (xs, leads_too behaviour l n us xs s leads t q gone.others.0 gone.others.1)
-    go (inr (w, (e, has, q), a)) =
+    go (inl (w, q, a, k)) = (xs, leads_too behaviour l n us xs s leads t q gone.others.0 gone.others.1)
+    go (inr (w, (e, has, q, k), a)) =
         (xs ++ redelivery (suc i) e ∷ [], delivered behaviour l n us xs s leads i c here own e has t q gone.others.0 gone.others.1)
 
 -- ---- a turn
 
 module _ (behaviour : Behaviour) (l : Line) (n most : ℕ) (es : Given) (us : List ℕ) (xs : List Step) (s : Stage)
     (reached : Reached behaviour l n most es us xs s) (i : ℕ) (c : Standing) (here : slice_get s.cores.items i ≡ Some c) (own : IsWorker n (suc i)) where
-  module _ (t : Stage) (gone : Redelivers c s t) (more : Bool) (told : next c ≡ Rest
+  module _ (t : Stage) (gone : Redelivers (suc i) c s t) (more : Bool) (told : next c ≡ Rest
       → more ≡ (is_queued t.queue || list_any (λ d. is_inside d.left) t.cores.items)) where
     here_too : slice_get t.cores.items i ≡ Some c
     here_too = ap (λ z. slice_get z.items i) gone.others.1 ∙ here
@@ -200,7 +201,8 @@ module _ (behaviour : Behaviour) (l : Line) (n most : ℕ) (es : Given) (us : Li
         (put : (length s'.cores.items ≡ length t.cores.items)
         × ((j : ℕ) (e : Standing) → slice_get s'.cores.items j ≡ Some e → ((j ≡ i) × (e ≡ c')) ⊎ ((j ≡ i → ⊥) × (slice_get t.cores.items j ≡ Some e))))
         (fewer : t.steps ≡ suc s'.steps) (said : s'.repeats ≡ counted_on t.repeats (store_answer (held t.table) (asks_of t.table.plan c)))
-        (kept_so : s'.again.items ≡ t.again.items) (noted : Noted t.sent (sent_by (asks_of t.table.plan c)) s'.sent) where
+        (kept_so : s'.again.items ≡ t.again.items)
+        (noted : Noted t.notes (step_now (suc i) t.table.plan t.queue (held t.table) more (asks_of t.table.plan c) ∷ []) s'.notes) where
       abbrev answer : Step
       answer = (suc i, (asks_of t.table.plan c, (replied step.reply)))
 
@@ -216,15 +218,18 @@ module _ (behaviour : Behaviour) (l : Line) (n most : ℕ) (es : Given) (us : Li
           more_agains (agains_in ys) t.repeats s'.repeats (store_answer (held t.table) (asks_of t.table.plan c)) so_far said
           ∙ ap (min greatest_count) (omega (arith, whole, said_so))
 
-      keeps_so : s'.sent.keeps ≡ es.1
-      keeps_so = noted.0 ∙ ap (λ z. z.keeps) gone.sent ∙ reached.keeps
+      noted_answer : Noted t.notes (answer ∷ []) s'.notes
+      noted_answer =
+          subst (λ r. Noted t.notes ((suc i, (asks_of t.table.plan c, r)) ∷ []) s'.notes)
+          (said_now t.table.plan t.queue (held t.table) more (asks_of t.table.plan c) (replied step.reply) step.answers) noted
 
-      -- what is noted so far, where the steps so far sent what there was
-      sent_so : (ys : List Step) → sent_after l ys ≡ sent_after l xs → s'.sent.letters.items ≡ kept es.1 (sent_after l (ys ++ answer ∷ []))
-      sent_so ys same =
-          sent_then l ys answer es.1 t.sent s'.sent
-          (ap (λ z. z.keeps) gone.sent ∙ reached.keeps)
-          (ap (λ z. z.letters.items) gone.sent ∙ reached.sent ∙ ap (kept es.1) (sym same)) noted
+      module _ (ys : List Step) (keeps : t.notes.keeps ≡ es.1) (so_far : map step_seen t.notes.steps.items ≡ kept es.1 (opening_steps l ++ ys)) where
+        keeps_so : s'.notes.keeps ≡ es.1
+        keeps_so = noted.0 ∙ keeps
+
+        -- what is noted so far
+        noted_so : map step_seen s'.notes.steps.items ≡ kept es.1 (opening_steps l ++ (ys ++ answer ∷ []))
+        noted_so = noted_then l ys answer es.1 t.notes s'.notes keeps so_far noted_answer
 
       module _ (ys : List Step) (leads : LeadsTo behaviour l n us ys t) where
         told_so : next c ≡ Rest → more ≡ holds_more behaviour l n ys
@@ -236,11 +241,12 @@ module _ (behaviour : Behaviour) (l : Line) (n most : ℕ) (es : Given) (us : Li
       pub one_turn : IsTurn behaviour true l n most es us xs (suc i) s'
       one_turn = go gone.envelope
         where
-          go : ((wanted (point_at c) s.again.items ≡ false) × (t.queue ≡ s.queue) × (t.again.items ≡ s.again.items))
-              ⊎ ((wanted (point_at c) s.again.items ≡ true) × ((e : Envelope) × (standing.held c ≡ Some e) × (t.queue ≡ s.queue ++ e ∷ []))
+          go : ((wanted (point_at c) s.again.items ≡ false) × (t.queue ≡ s.queue) × (t.again.items ≡ s.again.items) × (t.notes ≡ s.notes))
+              ⊎ ((wanted (point_at c) s.again.items ≡ true) × ((e : Envelope) × (standing.held c ≡ Some e) × (t.queue ≡ s.queue ++ e ∷ [])
+              × Noted s.notes (redelivery (suc i) e ∷ []) t.notes)
               × (t.again.items ≡ spent (point_at c) s.again.items))
               → IsTurn behaviour true l n most es us xs (suc i) s'
-          go (inl (w, q, a)) =
+          go (inl (w, q, a, k)) =
               let leads = leads_too behaviour l n us xs s reached.leads t q gone.others.0 gone.others.1 in
               let here_point = point_is behaviour l n us xs s reached.leads i c here in (
                 answer ∷ [],
@@ -256,12 +262,12 @@ module _ (behaviour : Behaviour) (l : Line) (n most : ℕ) (es : Given) (us : Li
                       let long = length-append xs (answer ∷ []) in
                       let few = total-append (λ (y : Step). redelivers_one y.1.0) xs (answer ∷ []) in
                       omega (arith, long, few, is_answer, reached.count, fewer, gone.others.2);
-                  keeps = keeps_so;
-                  sent = sent_so xs refl;
+                  keeps = keeps_so xs (ap (λ z. z.keeps) k ∙ reached.keeps) (ap (λ z. map step_seen z.steps.items) k ∙ reached.noted);
+                  noted = noted_so xs (ap (λ z. z.keeps) k ∙ reached.keeps) (ap (λ z. map step_seen z.steps.items) k ∙ reached.noted);
                 },
                 omega (arith, is_answer),
               )
-          go (inr (w, (e, has, q), a)) =
+          go (inr (w, (e, has, q, k), a)) =
               let there = reached.leads in
               let d : Step = redelivery (suc i) e in
               let ys = xs ++ d ∷ [] in
@@ -285,8 +291,9 @@ module _ (behaviour : Behaviour) (l : Line) (n most : ℕ) (es : Given) (us : Li
                       let long = length-append xs (d ∷ answer ∷ []) in
                       let few = total-append (λ (y : Step). redelivers_one y.1.0) xs (d ∷ answer ∷ []) in
                       omega (arith, long, few, is_answer, reached.count, fewer, gone.others.2);
-                  keeps = keeps_so;
-                  sent = sent_so ys (sent_too l xs (suc i) e) ∙ ap (λ zs. kept es.1 (sent_after l zs)) all;
+                  keeps = keeps_so ys (k.0 ∙ reached.keeps) (noted_then l xs d es.1 s.notes t.notes reached.keeps reached.noted k);
+                  noted = noted_so ys (k.0 ∙ reached.keeps) (noted_then l xs d es.1 s.notes t.notes reached.keeps reached.noted k)
+                      ∙ ap (λ zs. kept es.1 (opening_steps l ++ zs)) all;
                 },
                 omega (arith, is_answer),
               )

@@ -25,9 +25,8 @@ use Rattle.canvas_core.specs.CoreState as standing
 use Rattle.canvas_core.specs.CoreState.{Standing, Left, located, next, next_in}
 use Rattle.canvas_core.specs.declared.ask.Ask.TheVariants.{Rest, End}
 use Rattle.canvas_core.proofs.Cores.Sound.{Sound, run_sound}
-use Rattle.canvas_by_turns.specs.Traced.{sent_by}
 use Rattle.canvas_by_turns.specs.steps.Noting.{Noted}
-use Rattle.canvas_by_turns.specs.steps.Stages.{asks_of, IsThere, MayAsk, AreInRange, Stepped, IsTried, Tried, store_answer, counted_on, Redelivers, LeadsTo, Given, Reached, HasReached, IsTurn, IsHalfway, IsStopped}
+use Rattle.canvas_by_turns.specs.steps.Stages.{asks_of, step_now, IsThere, MayAsk, AreInRange, Stepped, IsTried, Tried, store_answer, counted_on, Redelivers, LeadsTo, Given, Reached, HasReached, IsTurn, IsHalfway, IsStopped}
 use Rattle.canvas_by_turns.specs.declared.stage.Stage.{Stage}
 use Rattle.canvas_by_turns.proofs.StageAgain.{one_turn, stood}
 use Rattle.canvas_by_turns.proofs.StageSteps.{each_more, has_ended, not_ended, same_ask, more_is, turned_so}
@@ -87,7 +86,7 @@ module _ (behaviour : Behaviour) (fits : AnswersInRange behaviour) (l : Line) (p
     pub here_first : slice_get s.cores.items (p - 1) ≡ Some first
     here_first = slice_get_read s.cores.items _ (p - 1) first refl is_place is_first
 
-    module _ (t : Stage) (gone : (c : Standing) → slice_get s.cores.items (p - 1) ≡ Some c → Redelivers c s t) where
+    module _ (t : Stage) (gone : (c : Standing) → slice_get s.cores.items (p - 1) ≡ Some c → Redelivers p c s t) where
       pub others : (t.table ≡ s.table) × (t.cores ≡ s.cores) × (t.steps ≡ s.steps) × (t.repeats ≡ s.repeats)
       others = (gone first here_first).others
 
@@ -144,7 +143,7 @@ module _ (behaviour : Behaviour) (fits : AnswersInRange behaviour) (l : Line) (p
               agains = reached.agains;
               count = reached.count;
               keeps = reached.keeps;
-              sent = reached.sent;
+              noted = reached.noted;
             },
           )
 
@@ -181,24 +180,29 @@ module _ (behaviour : Behaviour) (fits : AnswersInRange behaviour) (l : Line) (p
       held_in_range t o e = (held_range behaviour l n us xs reached.leads.by_turns fits t o (ap (λ (r : Results). r.outcomes t) (sym reached.leads.table_is)
           ∙ e)).1
 
-      module _ (t : Stage) (gone : Redelivers core s t) (more : Bool) (told : next core ≡ Rest
+      module _ (t : Stage) (gone : Redelivers p core s t) (more : Bool) (told : next core ≡ Rest
           → more ≡ (is_queued t.queue || list_any (λ c. is_inside c.left) t.cores.items)) where
         here_then : slice_get t.cores.items (p - 1) ≡ Some core
         here_then = ap (λ z. slice_get z.items (p - 1)) gone.others.1 ∙ here
 
+        gone_there : Redelivers (suc (p - 1)) core s t
+        gone_there = subst (λ q. Redelivers q core s t) (sym same_number) gone
+
         pub went : (s' : Stage) (core' : Standing) → Stepped behaviour more core t.queue t.table core' s'.queue s'.table
             → s'.cores.items ≡ slice_set t.cores.items (p - 1) core' → t.steps ≡ suc s'.steps
             → s'.repeats ≡ counted_on t.repeats (store_answer (held t.table) (asks_of t.table.plan core)) → s'.again.items ≡ t.again.items
-            → Noted t.sent (sent_by (asks_of t.table.plan core)) s'.sent → IsTurn behaviour true l n most es us xs p s'
+            → Noted t.notes (step_now p t.table.plan t.queue (held t.table) more (asks_of t.table.plan core) ∷ []) s'.notes
+            → IsTurn behaviour true l n most es us xs p s'
         went s' core' step put fewer said kept noted =
             subst (λ q. IsTurn behaviour true l n most es us xs q s') same_number
-            (one_turn behaviour l n most es us xs s reached (p - 1) core here own_place t gone more told s' core' step (
+            (one_turn behaviour l n most es us xs s reached (p - 1) core here own_place t gone_there more told s' core' step (
               ap length put ∙ put_length t.cores.items (p - 1) core',
               λ j e h. put_at t.cores.items (p - 1) core' j e (ap (λ cs. slice_get cs j) (sym put) ∙ h),
-            ) fewer said kept noted)
+            ) fewer said kept
+            (subst (λ q. Noted t.notes (step_now q t.table.plan t.queue (held t.table) more (asks_of t.table.plan core) ∷ []) s'.notes) (sym same_number) noted))
 
         pub halfway : (s' : Stage) → IsTried behaviour more core t.queue t.table s'.table → IsHalfway behaviour l n s'
-        halfway s' tried = go (stood behaviour l n us xs s reached.leads (p - 1) core here own_place t gone) tried.1
+        halfway s' tried = go (stood behaviour l n us xs s reached.leads (p - 1) core here own_place t gone_there) tried.1
           where
             go : ((ys : List Step) × LeadsTo behaviour l n us ys t) → (held s'.table ≡ held t.table) ⊎ Tried behaviour more core t.queue t.table s'.table
                 → IsHalfway behaviour l n s'

@@ -1,5 +1,5 @@
 -- A run from its first publish to its end, and the rows that it leaves.
-use Rattle.std.proofs.Common.{◌≡◌, ◌≤◌, ◌⊎◌, inl, inr, ℕ, zero, suc, Bool, true, All, List, [], ◌∷◌, ◌++◌, map, length, get_or, Some, None, Result, Ok, Err, OnOk, IfErr, refl, sym, ap, ◌∙◌, subst, append-nil, arith}
+use Rattle.std.proofs.Common.{◌≡◌, ◌≤◌, ◌⊎◌, inl, inr, ℕ, zero, suc, All, List, [], ◌∷◌, ◌++◌, map, length, get_or, Some, None, Result, Ok, Err, OnOk, IfErr, refl, sym, ap, ◌∙◌, subst, append-nil, arith}
 use Rattle.std.specs.Prelude.{slice_get}
 use Rattle.std.proofs.lemmas.Bool.{false≢true}
 use Rattle.std.proofs.lemmas.Option.{slice_get_within}
@@ -29,9 +29,13 @@ use Rattle.canvas_core.specs.declared.cause.Cause.{Cause}
 use Rattle.canvas_core.specs.declared.cause.Cause.TheVariants.{Memory, Stopped}
 use Rattle.canvas_by_turns.specs.Correct.{IsAsked, IsWholeRun, IsWholeWithin, IsWholeAgain, IsRunFault, IsFaultWithin}
 use Rattle.canvas_envelope.specs.declared.envelope.Envelope.{Envelope}
-use Rattle.canvas_by_turns.specs.Traced.{IsTraced}
+use Rattle.canvas_by_turns.specs.Noted.{IsStepped, opening_steps, step_seen}
+use Rattle.canvas_by_turns.specs.Traced.{IsTraced, sent_in}
 use Rattle.canvas_by_turns.specs.steps.Noting.{Noted, kept}
-use Rattle.canvas_by_turns.specs.steps.AgainRuns.{IsAgainWithin, IsKeptWithin, IsCutAgain, IsAgainFault}
+use Rattle.canvas_by_turns.specs.declared.notes.Keeps.{Keeps}
+use Rattle.canvas_by_turns.specs.declared.notes.Keeps.TheVariants as keep
+use Rattle.canvas_by_turns.proofs.Noting.{sent_noted}
+use Rattle.canvas_by_turns.specs.steps.AgainRuns.{IsAgainWithin, IsNotedWithin, IsCutAgain, IsAgainFault}
 use Rattle.canvas_by_turns.specs.steps.Stages.{rows_of, IsNew, AreNew, IsCoreAt, Given, Reached, IsHalfway, IsEarlyEnd, IsRunThrough}
 use Rattle.canvas_report.specs.declared.report.Report.{Report}
 use Rattle.canvas_by_turns.specs.declared.fault.RunFault.{RunFault}
@@ -58,8 +62,8 @@ new_core behaviour l cores new i c here =
 
 pub starts : (behaviour : Behaviour) → (l : Line) (n : ℕ) (old s : Stage) → IsPlan l → IsNew l n old → s.queue ≡ map sealed (first_messages l) → FirstsRead l
     → s.table ≡ old.table → s.cores ≡ old.cores → s.steps ≡ old.steps
-    → s.again ≡ old.again → s.repeats ≡ old.repeats → Noted old.sent (map sealed (first_messages l)) s.sent
-    → Reached behaviour l n old.steps (old.again.items, old.sent.keeps) [] [] s
+    → s.again ≡ old.again → s.repeats ≡ old.repeats → Noted old.notes (opening_steps l) s.notes
+    → Reached behaviour l n old.steps (old.again.items, old.notes.keeps) [] [] s
 starts behaviour l n old s plan new queue back table cores steps again repeats noted = record {
   leads = record {
     by_turns = record { plan = plan; opens_back = back; workers = tt; turned = all_taken };
@@ -74,9 +78,9 @@ starts behaviour l n old s plan new queue back table cores steps again repeats n
   agains = repeats ∙ new.repeats_is;
   count = omega (arith, steps);
   keeps = noted.0;
-  sent =
-      noted.1 ∙ ap (λ es. es ++ kept old.sent.keeps (map sealed (first_messages l))) new.sent_is
-      ∙ ap (kept old.sent.keeps) (sym (append-nil (map sealed (first_messages l))));
+  noted =
+      noted.1 ∙ ap (λ ss. map step_seen ss ++ kept old.notes.keeps (opening_steps l)) new.notes_is
+      ∙ ap (kept old.notes.keeps) (sym (append-nil (opening_steps l)));
 }
 
 -- ---- how it ends
@@ -91,7 +95,7 @@ pub err_at : {T : Type 0} (r : Result T Cause) (Q : ℕ → Given → Type 0) (P
 err_at (Ok u) Q P m es q h = tt
 err_at (Err e) Q P m es q h = h m es q
 
-module _ (behaviour : Behaviour) (l : Line) (n most : ℕ) (ts : List ℕ) (es : List Entry) (keeps : Bool) (rows : List State) (s : Stage)
+module _ (behaviour : Behaviour) (l : Line) (n most : ℕ) (ts : List ℕ) (es : List Entry) (keeps : Keeps) (rows : List State) (s : Stage)
     (are : rows ≡ rows_of (count_line l) (held s.table)) where
   pub whole_rows : 1 ≤ n → length es ≤ greatest_count → IsRunThrough behaviour l n most (es, keeps) ts s → IsAgainWithin behaviour l n ts es most rows s.repeats
   whole_rows some fits done =
@@ -122,10 +126,10 @@ module _ (behaviour : Behaviour) (l : Line) (n most : ℕ) (ts : List ℕ) (es :
         omega (arith, reached.count),
       )
 
-  pub kept_rows : 1 ≤ n → length es ≤ greatest_count → IsRunThrough behaviour l n most (es, keeps) ts s
-      → IsKeptWithin behaviour l n ts es most keeps rows s.repeats s.sent.letters.items
+  pub noted_rows : 1 ≤ n → length es ≤ greatest_count → IsRunThrough behaviour l n most (es, keeps) ts s
+      → IsNotedWithin behaviour l n ts es most keeps rows s.repeats (map step_seen s.notes.steps.items)
   unfolding whole_rows
-  kept_rows some fits done = (whole_rows some fits done, done.reached.sent)
+  noted_rows some fits done = (whole_rows some fits done, done.reached.noted)
 
   none_yet : (f : ℕ → State) (ks : List ℕ) → EachMay (map (λ k. None) ks) (map f ks)
   none_yet f [] = tt
@@ -200,10 +204,15 @@ plain_run behaviour l n ts rows m whole = record {
   are = whole.are;
 }
 
-pub traced_run : (behaviour : Behaviour) (l : Line) (n most : ℕ) (ts : List ℕ) (rows : List State) (m : ℕ) (sent : List Envelope)
-    → IsKeptWithin behaviour l n ts [] most true rows m sent → IsTraced behaviour l n ts rows sent
+pub traced_run : (behaviour : Behaviour) (l : Line) (n most : ℕ) (ts : List ℕ) (rows : List State) (m : ℕ) (steps : List Step) (sent : List Envelope)
+    → IsNotedWithin behaviour l n ts [] most keep.Published rows m steps → sent ≡ sent_in steps → IsTraced behaviour l n ts rows sent
 unfolding plain_run
-traced_run behaviour l n most ts rows m sent (within, are) = record { whole = plain_run behaviour l n ts rows m within.0; sent_are = are }
+traced_run behaviour l n most ts rows m steps sent (within, are) e =
+    record { whole = plain_run behaviour l n ts rows m within.0; sent_are = e ∙ sent_noted l within.0.run.steps steps are }
+
+pub stepped_run : (behaviour : Behaviour) (l : Line) (n most : ℕ) (ts : List ℕ) (es : List Entry) (rows : List State) (m : ℕ) (steps : List Step)
+    → IsNotedWithin behaviour l n ts es most keep.All rows m steps → IsStepped behaviour l n ts es rows m steps
+stepped_run behaviour l n most ts es rows m steps (within, are) = record { whole = within.0; steps_are = are }
 
 pub plain_within : (behaviour : Behaviour) (l : Line) (n most : ℕ) (ts : List ℕ) (rows : List State) (m : ℕ) → IsAgainWithin behaviour l n ts [] most rows m
     → IsWholeWithin behaviour l n ts most rows

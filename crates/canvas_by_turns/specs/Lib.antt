@@ -1,5 +1,6 @@
 pub mod Correct
 pub mod Traced
+pub mod Noted
 pub mod TurnFaults
 pub mod steps
 pub use Rattle.canvas_backend.specs.Plain

@@ -1,5 +1,5 @@
 //! Runs by turns.
-ghost use Rattle.std.specs.Prelude.{◌≡◌, ◌≢◌, ◌≤◌, ◌<◌, ◌*◌, ◌^◌, suc, ℕ, All, List, [], None, length, IfOk, IfErr, OnOk, OnErr, MatchBool};
+ghost use Rattle.std.specs.Prelude.{◌≡◌, ◌≢◌, ◌≤◌, ◌<◌, ◌*◌, ◌^◌, suc, ℕ, All, List, [], None, length, map, IfOk, IfErr, OnOk, OnErr, MatchBool};
 ghost use Rattle.canvas_semantics.specs.Line.{count_line, tree_of};
 ghost use Rattle.canvas_rewrite.specs.Planned.{IsPlan};
 ghost use Rattle.canvas_semantics.specs.States.{states};
@@ -9,11 +9,13 @@ ghost use Rattle.canvas_history.specs.Roster.{roster_of};
 ghost use Rattle.canvas_turns.specs.Going.{most_steps};
 ghost use Rattle.canvas_turns.specs.Turns.{Step, IsWorker};
 ghost use Rattle.canvas_by_turns.specs.Correct.{AreWorkers, AreTurns, IsAsked, IsWholeRun, IsWholeWithin, IsWholeAgain, IsRunFault, IsFaultWithin};
+ghost use Rattle.canvas_by_turns.specs.Noted.{IsStepped, step_seen};
 ghost use Rattle.canvas_by_turns.specs.Traced.{IsTraced};
-ghost use Rattle.canvas_by_turns.specs.steps.AgainRuns.{IsKeptWithin, IsAgainFault};
+ghost use Rattle.canvas_by_turns.specs.steps.AgainRuns.{IsNotedWithin, IsAgainFault};
 ghost use Rattle.canvas_by_turns.specs.steps.Stages.{rows_of, Given, Reached, HasReached, IsNew, IsPartOfRound, IsHaltInRound, IsRunThrough, IsEarlyEnd};
 
 use crate::RunFault;
+use crate::notes::{Keeps, Step as NotedStep, letters_of};
 use crate::stage::Stage;
 use canvas_core::Cause;
 use canvas_envelope::Letter;
@@ -122,9 +124,9 @@ fn run_stage<T: Tasks>(
     requires new { IsNew plan.now workers stage.old }
     requires turns { AreTurns workers turns.now }
     ensures ok { OnOk result (IsRunThrough (T.behaviour tasks.now) plan.now workers stage.old.steps
-        (stage.old.again.items, stage.old.sent.keeps) turns.now stage.new) }
+        (stage.old.again.items, stage.old.notes.keeps) turns.now stage.new) }
     ensures err { IfErr result (λ cause. IsEarlyEnd (T.behaviour tasks.now) cause plan.now workers
-        stage.old.steps (stage.old.again.items, stage.old.sent.keeps) turns.now stage.new) }
+        stage.old.steps (stage.old.again.items, stage.old.notes.keeps) turns.now stage.new) }
 {
     match stage.open(alloc, plan) {
         Ok(()) => match run_list(alloc, stage, plan, tasks, workers, turns) {
@@ -159,13 +161,13 @@ fn report_of(stage: &Stage, plan: &Plan, rows: Vec<Option<Outcome>>) -> Report
     }
 }
 
-/// What a run by turns leaves: its report, how many stores answered Again, and copies of what it
-/// published, where it was to keep them.
+/// What a run by turns leaves: its report, how many stores answered Again, and the steps that were
+/// to be noted.
 #[derive(Drop)]
 struct Ran {
     report: Report,
     repeats: u64,
-    sent: Vec<Letter>,
+    steps: Vec<NotedStep>,
 }
 
 /// Runs a plan, at most so many asks being answered.
@@ -176,12 +178,12 @@ fn run_steps<T: Tasks>(
     workers: u32,
     turns: &[u32],
     again: &[(TaskNo, When)],
-    keeps: bool,
+    keeps: Keeps,
     steps: u128,
 ) -> Result<Ran, RunFault>
     requires { IsAsked workers turns.now }
-    ensures ok { IfOk result (λ r. IsKeptWithin (T.behaviour tasks.now) plan.now workers turns.now
-        again.now steps keeps r.report.rows r.repeats r.sent.items) }
+    ensures ok { IfOk result (λ r. IsNotedWithin (T.behaviour tasks.now) plan.now workers turns.now
+        again.now steps keeps r.report.rows r.repeats (map step_seen r.steps.items)) }
     ensures err { IfErr result
         (IsAgainFault (T.behaviour tasks.now) plan.now workers turns.now again.now steps) }
 {
@@ -195,7 +197,7 @@ fn run_steps<T: Tasks>(
         Ok(()) => Ok(Ran {
             report: report_of(&stage, plan, rows),
             repeats: stage.repeats(),
-            sent: stage.into_sent(),
+            steps: stage.into_steps(),
         }),
         Err(cause) => Err(RunFault::Halted {
             cause,
@@ -218,12 +220,12 @@ fn run_checked<T: Tasks>(
     workers: u32,
     turns: &[u32],
     again: &[(TaskNo, When)],
-    keeps: bool,
+    keeps: Keeps,
     steps: u128,
 ) -> Result<Ran, RunFault>
     ensures ok { IfOk result (λ r. IsAsked workers turns.now
-        × IsKeptWithin (T.behaviour tasks.now) plan.now workers turns.now again.now steps keeps
-        r.report.rows r.repeats r.sent.items) }
+        × IsNotedWithin (T.behaviour tasks.now) plan.now workers turns.now again.now steps keeps
+        r.report.rows r.repeats (map step_seen r.steps.items)) }
     ensures err { IfErr result
         (IsAgainFault (T.behaviour tasks.now) plan.now workers turns.now again.now steps) }
 {
@@ -300,7 +302,16 @@ pub fn run_turns_again<T: Tasks>(
         (IsRunFault workers turns.now (states (T.behaviour tasks.now) (tree_of plan.now))) }
 {
     let steps = more_than_all(plan, workers, turns, again);
-    match run_checked(alloc, plan, tasks, workers, turns, again, false, steps) {
+    match run_checked(
+        alloc,
+        plan,
+        tasks,
+        workers,
+        turns,
+        again,
+        Keeps::Nothing,
+        steps,
+    ) {
         Ok(ran) => Ok((ran.report, ran.repeats)),
         Err(fault) => Err(fault),
     }
@@ -322,8 +333,36 @@ pub fn run_turns_traced<T: Tasks>(
         (IsRunFault workers turns.now (states (T.behaviour tasks.now) (tree_of plan.now))) }
 {
     let steps = more_than_all(plan, workers, turns, &[]);
-    match run_checked(alloc, plan, tasks, workers, turns, &[], true, steps) {
-        Ok(ran) => Ok((ran.report, ran.sent)),
+    let keeps = Keeps::Published;
+    match run_checked(alloc, plan, tasks, workers, turns, &[], keeps, steps) {
+        Ok(ran) => match letters_of(alloc, ran.steps) {
+            Ok(letters) => Ok((ran.report, letters)),
+            Err(_refused) => Err(RunFault::halted(Cause::Memory)),
+        },
+        Err(fault) => Err(fault),
+    }
+}
+
+/// As `run_turns_again`. Behind the report and the number of stores that answered Again it gives
+/// the steps of the run, in their order: the first messages, which worker 0 publishes, and then
+/// what each step of a worker was. Their letters share their texts as the run's own do.
+pub fn run_turns_stepped<T: Tasks>(
+    alloc: Global,
+    plan: &Plan,
+    tasks: &T,
+    workers: u32,
+    turns: &[u32],
+    again: &[(TaskNo, When)],
+) -> Result<(Report, u64, Vec<NotedStep>), RunFault>
+    ensures ok { IfOk result (λ r. IsAsked workers turns.now
+        × IsStepped (T.behaviour tasks.now) plan.now workers turns.now again.now r.0.rows r.1
+        (map step_seen r.2.items)) }
+    ensures err { IfErr result
+        (IsRunFault workers turns.now (states (T.behaviour tasks.now) (tree_of plan.now))) }
+{
+    let steps = more_than_all(plan, workers, turns, again);
+    match run_checked(alloc, plan, tasks, workers, turns, again, Keeps::All, steps) {
+        Ok(ran) => Ok((ran.report, ran.repeats, ran.steps)),
         Err(fault) => Err(fault),
     }
 }
@@ -350,7 +389,7 @@ pub fn run_turns_within<T: Tasks>(
         workers,
         turns,
         &[],
-        false,
+        Keeps::Nothing,
         steps as u128,
     ) {
         Ok(ran) => Ok(ran.report),

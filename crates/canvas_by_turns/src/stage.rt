@@ -16,13 +16,13 @@ ghost use Rattle.canvas_core.specs.EnvelopeWorker.{enveloped_by, no_tasks};
 ghost use Rattle.canvas_core.specs.CoreState as standing;
 ghost use Rattle.canvas_core.specs.CoreState.{Standing, next};
 ghost use Rattle.canvas_core.specs.declared.ask.Ask.TheVariants as ask;
-ghost use Rattle.canvas_by_turns.specs.Traced.{sent_by};
+ghost use Rattle.canvas_by_turns.specs.Noted.{opening_steps};
 ghost use Rattle.canvas_by_turns.specs.steps.Noting.{Noted};
-ghost use Rattle.canvas_by_turns.specs.steps.Stages.{rows_of, asks_of, IsThere, MayAsk, AreInRange, Stepped, IsTried, store_answer, counted_on, Redelivers, AreNew, Given, Reached, HasReached, IsTurn, IsHalt, IsNew};
+ghost use Rattle.canvas_by_turns.specs.steps.Stages.{rows_of, asks_of, step_now, IsThere, MayAsk, AreInRange, Stepped, IsTried, store_answer, counted_on, Redelivers, AreNew, Given, Reached, HasReached, IsTurn, IsHalt, IsNew};
 
 use crate::entries::first_for;
 use crate::firsts::first_envelopes;
-use crate::sent::Sent;
+use crate::notes::{Did, Keeps, Notes, Step as NotedStep};
 use canvas_backend::{PlainBackend, Stored};
 use canvas_broker::PlainBroker;
 use canvas_core::{Ask, Cause, Core, Reply};
@@ -32,12 +32,13 @@ use canvas_runs::When;
 use canvas_task::{Memory, Outcome, TaskNo, Tasks};
 use std::alloc::Global;
 
-/// Publishes what a worker hands out.
+/// Publishes what a worker hands out, and notes it.
 fn publish<T: Tasks>(
     core: &mut Core,
     queue: &mut PlainBroker<Letter>,
     table: &PlainBackend,
-    sent: &mut Sent,
+    notes: &mut Notes,
+    worker: u32,
     tasks: &T,
 ) -> Result<(), Memory>
     requires inside { core.old.is_out ≡ false }
@@ -46,12 +47,13 @@ fn publish<T: Tasks>(
     ensures ok { OnOk result ((more : Bool)
         → Stepped (T.behaviour tasks.now) more core.old queue.old table.now core.new queue.new
         table.now) }
-    ensures sent { OnOk result
-        (Noted sent.old (sent_by (asks_of table.now.plan core.old)) sent.new) }
+    ensures noted { OnOk result ((more : Bool) → Noted notes.old
+        (step_now worker table.now.plan queue.old (held table.now) more
+        (asks_of table.now.plan core.old) ∷ []) notes.new) }
 {
     match core.envelope() {
         Some(envelope) => {
-            sent.note(&envelope)?;
+            notes.published(worker, &envelope)?;
             match queue.publish(envelope) {
                 Ok(()) => core.answer(table, tasks, Reply::Published),
                 Err(_refused) => Err(Memory),
@@ -72,13 +74,14 @@ fn count_again(repeats: u64, stored: Stored) -> u64
 }
 
 /// One ask of a worker, answered by the queue and the table. A worker that rests is told whether
-/// there is more. A store that answers Again is counted, and a publish noted.
+/// there is more. A store that answers Again is counted, and the step noted.
 fn step<T: Tasks>(
     core: &mut Core,
     queue: &mut PlainBroker<Letter>,
     table: &mut PlainBackend,
     repeats: &mut u64,
-    sent: &mut Sent,
+    notes: &mut Notes,
+    worker: u32,
     tasks: &T,
     more: bool,
 ) -> Result<(), Memory>
@@ -89,8 +92,9 @@ fn step<T: Tasks>(
     requires going { next core.old ≡ ask.End → ⊥ }
     ensures ok { OnOk result (Stepped (T.behaviour tasks.now) more core.old queue.old table.old
         core.new queue.new table.new) }
-    ensures sent { OnOk result
-        (Noted sent.old (sent_by (asks_of table.old.plan core.old)) sent.new) }
+    ensures noted { OnOk result (Noted notes.old
+        (step_now worker table.old.plan queue.old (held table.old) more
+        (asks_of table.old.plan core.old) ∷ []) notes.new) }
     ensures again { repeats.new
         ≡ counted_on repeats.old
         (store_answer (held table.old) (asks_of table.old.plan core.old)) }
@@ -98,23 +102,38 @@ fn step<T: Tasks>(
         (IsTried (T.behaviour tasks.now) more core.old queue.old table.old table.new) }
 {
     match core.next() {
-        Ask::Take => core.answer(table, tasks, Reply::Taken(queue.take())),
-        Ask::Publish => publish(core, queue, table, sent, tasks),
+        Ask::Take => {
+            let taken = queue.take();
+            notes.took(worker, &taken)?;
+            core.answer(table, tasks, Reply::Taken(taken))
+        }
+        Ask::Publish => publish(core, queue, table, notes, worker, tasks),
         Ask::Store(task, outcome) => {
             let stored = table.store(task, &outcome);
             *repeats = count_again(*repeats, stored);
+            notes.plain(worker, Did::Stored(task, outcome, stored))?;
             core.answer(table, tasks, Reply::Stored(stored))
         }
         Ask::Part(group, task) => {
             let count = table.part(group, task);
+            notes.plain(worker, Did::Returned(group, task, count))?;
             core.answer(table, tasks, Reply::Counted(count))
         }
         Ask::Read(group, place) => match table.member(group, place) {
-            Some(task) => core.answer(table, tasks, Reply::Found(task, table.read(task))),
+            Some(task) => {
+                notes.plain(worker, Did::Read(task, table.read(task)))?;
+                core.answer(table, tasks, Reply::Found(task, table.read(task)))
+            }
             None => unreachable!(),
         },
-        Ask::Ack(_) => core.answer(table, tasks, Reply::Acked),
-        Ask::Rest => core.answer(table, tasks, Reply::Rested { more }),
+        Ask::Ack(_) => {
+            notes.plain(worker, Did::Acked)?;
+            core.answer(table, tasks, Reply::Acked)
+        }
+        Ask::Rest => {
+            notes.plain(worker, Did::Rested(more))?;
+            core.answer(table, tasks, Reply::Rested { more })
+        }
         Ask::End => Ok(()),
     }
 }
@@ -166,7 +185,7 @@ pub(crate) struct Stage {
     again: Vec<(TaskNo, When)>,
     /// How many stores have answered Again.
     repeats: u64,
-    sent: Sent,
+    notes: Notes,
 }
 
 /// Workers that have asked for nothing yet.
@@ -194,12 +213,12 @@ impl Stage {
         workers: u32,
         again: &[(TaskNo, When)],
         steps: u128,
-        keeps: bool,
+        keeps: Keeps,
     ) -> Result<Stage, Memory>
         ensures new { IfOk result (λ s. IsNew plan.now workers s) }
         ensures steps { IfOk result (λ s. s.steps ≡ steps) }
         ensures again { IfOk result (λ s. s.again.items ≡ again.now) }
-        ensures keeps { IfOk result (λ s. s.sent.keeps ≡ keeps) }
+        ensures keeps { IfOk result (λ s. s.notes.keeps ≡ keeps) }
         ensures few { OnOk result (length again.now ≤ greatest_count) }
     {
         let cores = new_cores(alloc, workers)?;
@@ -212,7 +231,7 @@ impl Stage {
             steps,
             again,
             repeats: 0,
-            sent: Sent::new(alloc, keeps),
+            notes: Notes::new(alloc, keeps),
         })
     }
 
@@ -225,12 +244,12 @@ impl Stage {
             × (self.new.steps ≡ self.old.steps) }
         ensures entries { (self.new.again ≡ self.old.again)
             × (self.new.repeats ≡ self.old.repeats) }
-        ensures sent { OnOk result
-            (Noted self.old.sent (map sealed (first_messages plan.now)) self.new.sent) }
+        ensures noted { OnOk result
+            (Noted self.old.notes (opening_steps plan.now) self.new.notes) }
     {
         match first_envelopes(alloc, plan) {
             Ok(envelopes) => {
-                self.sent.note_all(&envelopes)?;
+                self.notes.opened(&envelopes)?;
                 publish_all(&mut self.queue, envelopes)
             }
             Err(Memory) => Err(Memory),
@@ -262,13 +281,13 @@ impl Stage {
 
     /// Has the envelope that a worker holds delivered again, where an entry for the point to which
     /// the worker has come is unspent. That entry is spent.
-    fn deliver_again(&mut self, alloc: Global, index: usize) -> Result<(), Memory>
+    fn deliver_again(&mut self, alloc: Global, worker: u32, index: usize) -> Result<(), Memory>
         requires index { index < length self.old.cores.items }
         requires holds { (core : Standing) → slice_get self.old.cores.items index ≡ Some core
             → is_inside core.left ≡ true → IsSome (standing.held core) }
         ensures ok { OnOk result ((core : Standing)
             → slice_get self.old.cores.items index ≡ Some core
-            → Redelivers core self.old self.new) }
+            → Redelivers worker core self.old self.new) }
         ensures table { self.new.table ≡ self.old.table }
     {
         let core = &self.cores[index];
@@ -282,6 +301,7 @@ impl Stage {
             Some(envelope) => envelope.copy(alloc)?,
             None => unreachable!(),
         };
+        self.notes.redelivered(worker, &copy)?;
         match self.queue.publish(copy) {
             Ok(()) => {
                 self.again.remove(entry);
@@ -298,11 +318,11 @@ impl Stage {
         self.repeats
     }
 
-    /// What was published, where it was to be kept.
-    pub(crate) fn into_sent(self) -> Vec<Letter>
-        ensures { result ≡ self.sent.letters }
+    /// The steps that were to be noted.
+    pub(crate) fn into_steps(self) -> Vec<NotedStep>
+        ensures { result ≡ self.notes.steps }
     {
-        self.sent.into_letters()
+        self.notes.into_steps()
     }
 
     /// A worker's turn: one ask of it is answered, unless it is at its end. Whether one was. An
@@ -330,7 +350,7 @@ impl Stage {
         if self.steps == 0 {
             return Err(Cause::Stopped);
         }
-        match self.deliver_again(alloc, index) {
+        match self.deliver_again(alloc, worker, index) {
             Ok(()) => (),
             Err(Memory) => return Err(Cause::Memory),
         }
@@ -340,7 +360,8 @@ impl Stage {
             &mut self.queue,
             &mut self.table,
             &mut self.repeats,
-            &mut self.sent,
+            &mut self.notes,
+            worker,
             tasks,
             more,
         ) {

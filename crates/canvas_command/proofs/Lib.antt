@@ -1,2 +1,4 @@
 pub mod Pictures
 pub mod Wording
+pub mod Printed
+pub mod Cases

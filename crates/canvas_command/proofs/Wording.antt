@@ -15,7 +15,7 @@ use Rattle.canvas_answer.specs.declared.answer.Answer.{Answer}
 use Rattle.canvas_answer.specs.declared.asked.Asked.{Asked}
 use Rattle.canvas_answer.specs.declared.asked.Request.{Request}
 use Rattle.canvas_answer.specs.declared.asked.Work.{Work}
-use Rattle.canvas_answer.specs.declared.asked.Work.TheVariants.{One, Each}
+use Rattle.canvas_answer.specs.declared.asked.Work.TheVariants.{One, Each, Failures}
 use Rattle.canvas_answer.specs.declared.refusal.Refusal.{Refusal}
 use Rattle.canvas_answer.specs.declared.refusal.Refusal.TheVariants.{Memory}
 use Rattle.canvas_answer.specs.declared.stubs.Answers.{Answers}
@@ -51,6 +51,8 @@ module _ (before after : Option Text) where
       → IsWorkDone behaviour before its file work a
   work_moved behaviour its file same (One verb) a (bytes, read, h) = (bytes, λ is. subst (λ input. IsCanvasRead file input bytes) (same is) read is, h)
   work_moved behaviour its file same (Each each) a h = h
+  work_moved behaviour its file same (Failures failures) a (bytes, read, h) =
+      (bytes, λ is. subst (λ input. IsCanvasRead file input bytes) (same is) read is, h)
 
   -- an answer by an input that is as it was, if that is the canvas
   pub with_stubs : (behaviour : Behaviour) (request : Request) (stubs : AskedStubs) (answers : Answers) (r : Result Answer Refusal)

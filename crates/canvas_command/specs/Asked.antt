@@ -1,15 +1,14 @@
 -- What the program answers to what is asked of a canvas, by the bytes of its text and by what
 -- answers its calls.
-use Rattle.std.specs.Prelude.{ℕ, [], Option, None}
+use Rattle.std.specs.Prelude.{[], None}
 use Rattle.canvas_task.specs.Apply.{Behaviour}
 use Rattle.canvas_task.specs.Text.{Text}
-use Rattle.canvas_by_turns.specs.Correct.{IsRunFault}
 use Rattle.canvas_engine.specs.Evidence.{IsThreadFault}
 use Rattle.canvas_semantics.specs.Line.{Line}
 use Rattle.canvas_semantics.specs.Tree.{Tree}
 use Rattle.canvas_answer.specs.Answers.{AnswersAll}
 use Rattle.canvas_answer.specs.Asking.{Asking}
-use Rattle.canvas_answer.specs.Normal.{IsNormalText}
+use Rattle.canvas_answer.specs.Normal.{IsLineOf}
 use Rattle.canvas_answer.specs.OnCelery.{IsOnCelery}
 use Rattle.canvas_answer.specs.Pictured.{IsPictured}
 use Rattle.canvas_answer.specs.Plans.{ArePlansOf, IsAdaptedText, IsCanvasOf, IsSpelled, IsTextPlan}
@@ -19,7 +18,7 @@ use Rattle.canvas_answer.specs.declared.asked.Verb.TheVariants as verb
 use Rattle.canvas_answer.specs.declared.graph.States.{States}
 use Rattle.canvas_answer.specs.declared.graph.States.TheVariants as states
 use Rattle.canvas_command.specs.Messages.{ArePublished}
-use Rattle.canvas_command.specs.Runs.{IsPictureOf, IsRunOf}
+use Rattle.canvas_command.specs.Runs.{IsByTurns, IsPictureOf, IsRunOf}
 
 module _ (behaviour : Behaviour) (its : Asking) (bytes : Text) where
   -- a picture of what Celery's workers stored is told nothing of
@@ -33,13 +32,10 @@ module _ (behaviour : Behaviour) (its : Asking) (bytes : Text) where
   abbrev pub IsAnswerTo : Verb → Answer → Type 0
   IsAnswerTo (verb.Run workers manner) a =
       IsRunOf behaviour its bytes (IsThreadFault workers) manner.form manner.fails None a
-  IsAnswerTo (verb.Turns workers turns again manner) a =
-      (told : Option ℕ)
-      × IsRunOf behaviour its bytes (IsRunFault workers turns.items) manner.form manner.fails told
-      a
-  IsAnswerTo verb.Normal a =
-      (c : Tree) × IsCanvasOf its.adapts bytes c
-      × ((line : Text) × IsNormalText c line × AnswersAll line 0 a)
+  IsAnswerTo (verb.Turns workers turns again steps manner) a =
+      IsByTurns behaviour its bytes workers turns.items steps manner.form manner.fails a
+  IsAnswerTo (verb.Normal numbers) a =
+      (c : Tree) × IsCanvasOf its.adapts bytes c × IsLineOf numbers c a
   IsAnswerTo (verb.Check manner) a = Unit {0}
   IsAnswerTo (verb.Adapt renames) a =
       (made : Text) × IsAdaptedText bytes renames.items made × AnswersAll made 0 a

@@ -3,3 +3,4 @@ pub mod Messages
 pub mod Asked
 pub mod Worded
 pub mod Each
+pub mod Failing

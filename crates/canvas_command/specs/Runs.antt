@@ -1,16 +1,16 @@
 -- What the program answers to a run that is asked for.
-use Rattle.std.specs.Prelude.{◌⊎◌, ℕ, Bool, List, Option, None, Some}
+use Rattle.std.specs.Prelude.{◌⊎◌, ℕ, Bool, true, false, List, map, Option, None, Some}
 use Rattle.canvas_task.specs.Apply.{Behaviour}
 use Rattle.canvas_task.specs.Text.{Text}
-use Rattle.canvas_semantics.specs.Line.{Line, tree_of}
-use Rattle.canvas_semantics.specs.Evaluation.{State}
-use Rattle.canvas_semantics.specs.States.{states}
+use Rattle.canvas_semantics.specs.Line.{Line, tree_of, ends_of}
+use Rattle.canvas_semantics.specs.Evaluation.{State, with_states}
+use Rattle.canvas_semantics.specs.States.{rows_from, states}
 use Rattle.canvas_ran.specs.Ran.{fates}
-use Rattle.canvas_answer.specs.Answers.{AnswersPart}
+use Rattle.canvas_answer.specs.Answers.{AnswersAll, AnswersPart}
 use Rattle.canvas_answer.specs.Asking.{Asking}
 use Rattle.canvas_answer.specs.Pictured.{IsPictured}
 use Rattle.canvas_answer.specs.Plans.{ArePlansOf}
-use Rattle.canvas_answer.specs.Told.{AreRows, IsEarlyText, IsReport}
+use Rattle.canvas_answer.specs.Told.{AreRows, IsEarlyText, IsReport, report_status}
 use Rattle.canvas_answer.specs.declared.answer.Answer.{Answer}
 use Rattle.canvas_answer.specs.declared.refusal.Refusal.{Refusal}
 use Rattle.canvas_answer.specs.declared.refusal.Refusal.TheVariants as refusal
@@ -18,6 +18,12 @@ use Rattle.canvas_answer.specs.declared.reporting.Form.{Form}
 use Rattle.canvas_core.specs.declared.cause.Cause.TheVariants.{Memory, Stopped}
 use Rattle.canvas_by_turns.specs.declared.fault.RunFault.{RunFault}
 use Rattle.canvas_by_turns.specs.declared.fault.RunFault.TheVariants.{BadWorkers, BadTurn, Halted}
+use Rattle.canvas_by_turns.specs.Correct.{IsRunFault}
+use Rattle.canvas_by_turns.specs.Noted.{IsStepped, step_seen}
+use Rattle.canvas_by_turns.specs.declared.notes.Step.{Step}
+use Rattle.canvas_turns.specs.Spending.{Entry}
+use Rattle.canvas_steps.specs.Lines.{none_held, steps_text}
+use Rattle.canvas_report.specs.Failing.{any_failed}
 use Rattle.canvas_report.specs.declared.report.Report.{Report}
 use Rattle.canvas_report.specs.declared.row.Row.{Row}
 
@@ -50,6 +56,28 @@ IsRunOf behaviour its bytes Says form counts again a =
     × (IsReport its run shown behaviour form counts again a
     ⊎ ((fault : RunFault) × Says (states behaviour (tree_of run)) fault
     × IsEarlyReport its run shown form fault a))
+
+-- The lines of the steps of a run by these turns, and of its first messages, with entries that are
+-- delivered again.
+abbrev pub IsSteppedOf : Behaviour → Asking → Text → (workers : ℕ) → (turns : List ℕ)
+    → (counts : Bool) → Answer → Type 0
+IsSteppedOf behaviour its bytes workers turns counts a =
+    (shown : Line) × (run : Line) × ArePlansOf its bytes shown run
+    × ((es : List Entry) × (m : ℕ) × (steps : List Step)
+    × IsStepped behaviour run workers turns es (states behaviour (tree_of run)) m
+    (map step_seen steps)
+    × ((rows : List Row) × AreRows its run shown behaviour rows
+    × AnswersAll (steps_text run rows none_held steps) (report_status counts
+    (any_failed (with_states (rows_from 1 (states behaviour (tree_of run))) (ends_of shown)))) a))
+
+-- what a run by turns answers: its report, or its steps where these are asked for
+abbrev pub IsByTurns : Behaviour → Asking → Text → (workers : ℕ) → (turns : List ℕ)
+    → (steps : Bool) → Form → (counts : Bool) → Answer → Type 0
+IsByTurns behaviour its bytes workers turns false form counts a =
+    (again : Option ℕ)
+    × IsRunOf behaviour its bytes (IsRunFault workers turns) form counts again a
+IsByTurns behaviour its bytes workers turns true form counts a =
+    IsSteppedOf behaviour its bytes workers turns counts a
 
 -- The picture of what evaluating the canvas of the text gives.
 abbrev pub IsPictureOf : Behaviour → Asking → Text → Answer → Type 0

@@ -3,22 +3,25 @@ use Rattle.std.specs.Prelude.{◌≡◌, ◌⊎◌, Bool, true, false, List, [],
 use Rattle.clap.specs.Walk.{Row}
 use Rattle.canvas_task.specs.Apply.{Behaviour}
 use Rattle.canvas_task.specs.Text.{Text}
+use Rattle.canvas_semantics.specs.Tree.{Tree}
 use Rattle.canvas_stubs.specs.Stubs.{stubs_behaviour}
 use Rattle.canvas_words.specs.Options.{IsAsked}
 use Rattle.canvas_words.specs.declared.subcommand.Subcommand.{Subcommand}
 use Rattle.canvas_answer.specs.Answers.{IsKept, bytes_in}
 use Rattle.canvas_answer.specs.Asking.{Asking, asked_of}
 use Rattle.canvas_answer.specs.Inputs.{IsCanvasRead}
+use Rattle.canvas_answer.specs.Plans.{IsCanvasOf}
 use Rattle.canvas_answer.specs.Requests.{IsRequest}
 use Rattle.canvas_answer.specs.Stubbing.{AreAnswers}
 use Rattle.canvas_answer.specs.declared.answer.Answer.{Answer}
 use Rattle.canvas_answer.specs.declared.asked.Request.{Request}
 use Rattle.canvas_answer.specs.declared.asked.Work.{Work}
-use Rattle.canvas_answer.specs.declared.asked.Work.TheVariants.{One, Each}
+use Rattle.canvas_answer.specs.declared.asked.Work.TheVariants.{One, Each, Failures}
 use Rattle.canvas_answer.specs.declared.refusal.Refusal.{Refusal}
 use Rattle.canvas_answer.specs.declared.stubs.Answers.{Answers}
 use Rattle.canvas_command.specs.Asked.{IsAnswerTo}
 use Rattle.canvas_command.specs.Each.{IsEachDone}
+use Rattle.canvas_command.specs.Failing.{IsFailuresDone}
 
 -- why there is nothing
 abbrev pub IsRefused : Answer → Type 0
@@ -39,6 +42,10 @@ module _ (behaviour : Behaviour) (input : Option Text) where
       (bytes : Text) × IsCanvasRead file input bytes
       × IsAnswerTo behaviour its bytes verb a
   IsWorkDone its file (Each each) a = IsEachDone each.fails a
+  IsWorkDone its file (Failures failures) a =
+      (bytes : Text) × IsCanvasRead file input bytes
+      × ((c : Tree) × IsCanvasOf its.adapts bytes c
+      × IsFailuresDone behaviour its c failures.fails a)
 
 module _ (behaviour : Behaviour) (input : Option Text) where
   -- where some tasks answer so

@@ -1,9 +1,11 @@
 //! `canvas run --each`: canvases one after the other, and a JSON object a line for each, which is
 //! printed before the next canvas is read.
-ghost use Rattle.std.specs.Prelude.{[], IfOk};
+ghost use Rattle.std.specs.Prelude.{[], IfOk, OnOk};
+ghost use Rattle.std.specs.Io.KnownBytes.{Appends};
 ghost use Rattle.canvas_answer.specs.Answers.{AnswersAll};
 ghost use Rattle.canvas_answer.specs.Asking.{asking};
 ghost use Rattle.canvas_answer.specs.Plans.{run_line};
+ghost use Rattle.canvas_answer.specs.Printing.{printed};
 ghost use Rattle.canvas_command.specs.Each.{IsEachDone, IsLine, IsRunLine};
 
 use crate::runs::whole_report;
@@ -209,13 +211,15 @@ impl<'a, T: Tasks> Flow<'a, T> {
 }
 
 /// Writes a line, and has it reach the reader.
-fn print_line<W: Write>(out: &mut W, text: &str) -> io::Result<()> {
+pub(crate) fn print_line<W: Write>(out: &mut W, text: &str) -> io::Result<()>
+    ensures { OnOk result (Appends (W.contents out.old) (W.contents out.new) (printed text.now)) }
+{
     write_lines(out, text.as_bytes())?;
     out.flush()
 }
 
 /// The answer once all lines are printed.
-fn ended(alloc: Global, status: u8) -> Answer
+pub(crate) fn ended(alloc: Global, status: u8) -> Answer
     ensures { AnswersAll [] status result }
 {
     Answer::whole(Vec::new(alloc)).with_status(status)

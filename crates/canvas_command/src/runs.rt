@@ -6,7 +6,7 @@ ghost use Rattle.canvas_semantics.specs.Line.{tree_of};
 ghost use Rattle.canvas_semantics.specs.States.{states};
 ghost use Rattle.canvas_by_turns.specs.Correct.{IsRunFault};
 ghost use Rattle.canvas_engine.specs.Evidence.{IsThreadFault};
-ghost use Rattle.canvas_command.specs.Runs.{IsRunOf};
+ghost use Rattle.canvas_command.specs.Runs.{IsByTurns, IsRunOf, IsSteppedOf};
 
 use crate::halted::{early, refused};
 use canvas_answer::again::{Again, named_entries};
@@ -16,8 +16,11 @@ use canvas_answer::prepared::Plans;
 use canvas_answer::refusal::Refusal;
 use canvas_answer::reporting::Manner;
 use canvas_answer::source::Source;
-use canvas_engine::{OpenGate, Report, RunFault, Stop, When, run, run_turns_again};
+use canvas_engine::{
+    OpenGate, Report, RunFault, Stop, When, run, run_turns_again, run_turns_stepped,
+};
 use canvas_rewrite::Plan;
+use canvas_steps::steps_text;
 use canvas_task::{TaskNo, Tasks};
 use std::alloc::Global;
 use std::random::RandomSource;
@@ -90,6 +93,8 @@ struct ByTurns<'a> {
     again: &'a [(TaskNo, When)],
     /// Whether it is told how many stores answered Again.
     counts: bool,
+    /// Whether its steps are shown, and not the report.
+    steps: bool,
     manner: Manner,
 }
 
@@ -99,6 +104,31 @@ impl ByTurns<'_> {
             × (result.status ≡ answer.status) }
     {
         answer.with_remark(self.counts.then_some(Remark::Repeats(repeats)))
+    }
+
+    /// The steps.
+    fn stepped<T: Tasks>(
+        &self,
+        alloc: Global,
+        plans: &Plans,
+        source: &Source<'_, T>,
+    ) -> Result<Answer, Refusal>
+        ensures { ArePlansOf (asking source.now.setting) source.now.text.now plans.now.shown
+            (run_line plans.now)
+            → IfOk result (IsSteppedOf (T.behaviour source.now.tasks.now)
+            (asking source.now.setting) source.now.text.now self.now.workers self.now.turns.now
+            self.now.manner.fails) }
+    {
+        let (plan, tasks) = (plans.run(), source.tasks);
+        match run_turns_stepped(alloc, plan, tasks, self.workers, self.turns, self.again) {
+            Ok((report, repeats, steps)) => {
+                let rows = source.whole_rows(alloc, plans, &report)?;
+                let lines = steps_text(alloc, plan, &rows, &steps)?;
+                let answer = self.manner.answer(lines, &plans.shown, &report);
+                Ok(self.counted(answer, repeats))
+            }
+            Err(fault) => Err(refused(&fault)),
+        }
     }
 
     /// The report.
@@ -126,8 +156,27 @@ impl ByTurns<'_> {
         }
     }
 
+    /// The one, or if they are asked for the other.
+    fn told<T: Tasks>(
+        &self,
+        alloc: Global,
+        plans: &Plans,
+        source: &Source<'_, T>,
+    ) -> Result<Answer, Refusal>
+        ensures { ArePlansOf (asking source.now.setting) source.now.text.now plans.now.shown
+            (run_line plans.now)
+            → IfOk result (IsByTurns (T.behaviour source.now.tasks.now)
+            (asking source.now.setting) source.now.text.now self.now.workers self.now.turns.now
+            self.now.steps self.now.manner.form self.now.manner.fails) }
+    {
+        match self.steps {
+            true => self.stepped(alloc, plans, source),
+            false => self.shown(alloc, plans, source),
+        }
+    }
+
     /// The same, with what is delivered again by names where there is a list of these.
-    fn shown_named<T: Tasks>(
+    fn told_named<T: Tasks>(
         &self,
         alloc: Global,
         names: Option<&str>,
@@ -136,13 +185,12 @@ impl ByTurns<'_> {
     ) -> Result<Answer, Refusal>
         ensures { ArePlansOf (asking source.now.setting) source.now.text.now plans.now.shown
             (run_line plans.now)
-            → IfOk result (λ a. (again : Option ℕ)
-            × IsRunOf (T.behaviour source.now.tasks.now) (asking source.now.setting)
-            source.now.text.now (IsRunFault self.now.workers self.now.turns.now)
-            self.now.manner.form self.now.manner.fails again a) }
+            → IfOk result (IsByTurns (T.behaviour source.now.tasks.now)
+            (asking source.now.setting) source.now.text.now self.now.workers self.now.turns.now
+            self.now.steps self.now.manner.form self.now.manner.fails) }
     {
         let Some(list) = names else {
-            return self.shown(alloc, plans, source);
+            return self.told(alloc, plans, source);
         };
         let again = named_entries(alloc, &plans.shown, list)?;
         let by = ByTurns {
@@ -150,9 +198,10 @@ impl ByTurns<'_> {
             turns: self.turns,
             again: &again,
             counts: true,
+            steps: self.steps,
             manner: self.manner,
         };
-        by.shown(alloc, plans, source)
+        by.told(alloc, plans, source)
     }
 
     fn answer<T: Tasks>(
@@ -161,34 +210,36 @@ impl ByTurns<'_> {
         names: Option<&str>,
         source: &Source<'_, T>,
     ) -> Result<Answer, Refusal>
-        ensures { IfOk result (λ a. (again : Option ℕ)
-            × IsRunOf (T.behaviour source.now.tasks.now) (asking source.now.setting)
-            source.now.text.now (IsRunFault self.now.workers self.now.turns.now)
-            self.now.manner.form self.now.manner.fails again a) }
+        ensures { IfOk result (IsByTurns (T.behaviour source.now.tasks.now)
+            (asking source.now.setting) source.now.text.now self.now.workers self.now.turns.now
+            self.now.steps self.now.manner.form self.now.manner.fails) }
     {
         let plans = lasting(source.checked_plans(alloc)?);
-        self.shown_named(alloc, names, &plans, source)
+        self.told_named(alloc, names, &plans, source)
     }
 }
 
-/// The report of a run by turns, with what is delivered again, where that is asked for.
+/// The report of a run by turns, with what is delivered again, where that is asked for; or its
+/// steps.
 pub(crate) fn answer_turns<T: Tasks>(
     alloc: Global,
     workers: u32,
     turns: &[u32],
     again: &Again<'_>,
+    steps: bool,
     manner: Manner,
     source: &Source<'_, T>,
 ) -> Result<Answer, Refusal>
-    ensures { IfOk result (λ a. (again : Option ℕ)
-        × IsRunOf (T.behaviour source.now.tasks.now) (asking source.now.setting)
-        source.now.text.now (IsRunFault workers turns.now) manner.form manner.fails again a) }
+    ensures { IfOk result (IsByTurns (T.behaviour source.now.tasks.now)
+        (asking source.now.setting) source.now.text.now workers turns.now steps manner.form
+        manner.fails) }
 {
     let once = ByTurns {
         workers,
         turns,
         again: &[],
         counts: false,
+        steps,
         manner,
     };
     match again {

@@ -5,6 +5,7 @@ pub mod Texts
 pub mod steps
 pub use Rattle.canvas_backend.specs.Plain
 pub use Rattle.canvas_by_turns.specs.Correct
+pub use Rattle.canvas_by_turns.specs.Noted
 pub use Rattle.canvas_by_turns.specs.Traced
 pub use Rattle.canvas_by_turns.specs.TurnFaults
 pub use Rattle.canvas_history.specs.Callers

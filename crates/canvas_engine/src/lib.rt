@@ -7,7 +7,8 @@ mod threads;
 ghost use Rattle.canvas_engine.specs.RecordLaws.{FewEntries, AllArePlain};
 
 pub use canvas_by_turns::{
-    RunFault, read_turns, run_turns, run_turns_again, run_turns_traced, run_turns_within,
+    Did, RunFault, Step, read_turns, run_turns, run_turns_again, run_turns_stepped,
+    run_turns_traced, run_turns_within,
 };
 pub use canvas_report::{Report, report_text};
 pub use canvas_semantics::MOST_WORKERS;

@@ -92,6 +92,13 @@ impl Letter {
         }
     }
 
+    /// Borrows the envelope's properties.
+    pub fn properties(&self) -> &[u8]
+        ensures { result.now ≡ self.now.properties }
+    {
+        self.held.sheets.properties()
+    }
+
     /// The envelope, written once more.
     pub fn envelope(&self, alloc: Global) -> Result<Envelope, Memory>
         ensures { IfOk result (λ e. e ≡ self.now) }

@@ -237,6 +237,15 @@ impl Sheets {
         }
     }
 
+    pub(crate) fn properties(&self) -> &[u8]
+        ensures { result.now ≡ (envelope_seen self.now).properties }
+    {
+        match self {
+            Sheets::Whole(envelope) => envelope.properties.get(),
+            Sheets::Pieced(pieces) => pieces.properties(),
+        }
+    }
+
     pub(crate) fn copy(&self) -> Result<Sheets, Memory>
         ensures { IfOk result (λ s. envelope_seen s ≡ envelope_seen self.now) }
     {

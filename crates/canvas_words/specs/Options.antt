@@ -74,11 +74,13 @@ prefix = text (codes "prefix")
 
 abbrev pub options : Subcommand → List Rule
 options Run =
-    file ∷ workers ∷ adapt ∷ task ∷ tasks ∷ json ∷ flag (codes "explain") ∷ flag (codes "each")
-    ∷ flag (codes "null") ∷ flag (codes "with-tasks") ∷ fail ∷ []
+    file ∷ workers ∷ adapt ∷ task ∷ tasks ∷ json ∷ flag (codes "explain")
+    ∷ text (codes "failures") ∷ flag (codes "each") ∷ flag (codes "null")
+    ∷ flag (codes "with-tasks") ∷ fail ∷ []
 options Turns =
-    file ∷ workers ∷ turns ∷ text (codes "again") ∷ adapt ∷ task ∷ tasks ∷ json ∷ fail ∷ []
-options Normal = file ∷ json ∷ []
+    file ∷ workers ∷ turns ∷ text (codes "again") ∷ flag (codes "steps") ∷ adapt ∷ task ∷ tasks
+    ∷ json ∷ fail ∷ []
+options Normal = file ∷ flag (codes "numbers") ∷ adapt ∷ json ∷ []
 options Check = file ∷ adapt ∷ task ∷ tasks ∷ json ∷ flag (codes "strict") ∷ []
 options Adapt = file ∷ texts (codes "rename") ∷ json ∷ []
 options Graph =

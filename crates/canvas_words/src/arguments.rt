@@ -10,7 +10,7 @@ use clap::builder::ValueParser;
 use clap::{Arg, ArgAction};
 use std::alloc::{AllocError, Global};
 
-/// What stands behind an argument's name.
+/// What comes after an argument's name.
 #[derive(Clone, Copy)]
 pub(crate) enum Takes {
     /// Nothing, and no name is written either: the word is the argument.
@@ -68,14 +68,14 @@ pub(crate) const TURNS: Argument = Argument {
     name: "turns",
     takes: Takes::Text("LIST"),
     given: Given::Maybe,
-    help: "Which worker goes on at each turn, as 1,2,2; behind the list they take turns from 1",
+    help: "Which worker goes on at each turn, as 1,2,2; after the list they take turns from 1",
 };
 
 pub(crate) const CALLS: Argument = Argument {
     name: "calls",
     takes: Takes::Nothing,
     given: Given::Maybe,
-    help: "Prints each message as the call that it asks for, and what that comes behind",
+    help: "Prints each message as the call that it asks for, with the tasks that it comes after",
 };
 
 pub(crate) const AGAIN: Argument = Argument {
@@ -83,6 +83,20 @@ pub(crate) const AGAIN: Argument = Argument {
     takes: Takes::Text("LIST"),
     given: Given::Maybe,
     help: "What is delivered again, as 1:early,NAME:late, or all; standard error counts stores that answer Again",
+};
+
+pub(crate) const STEPS: Argument = Argument {
+    name: "steps",
+    takes: Takes::Nothing,
+    given: Given::Maybe,
+    help: "Prints each step of the run as a JSON object in a line: who asked what, and the answer",
+};
+
+pub(crate) const FAILURES: Argument = Argument {
+    name: "failures",
+    takes: Takes::Text("WORD"),
+    given: Given::Maybe,
+    help: "Prints what becomes of it if only one task fails, for each task, as JSON; WORD is raise:CLASS",
 };
 
 pub(crate) const TASK: Argument = Argument {
@@ -96,7 +110,7 @@ pub(crate) const TASKS: Argument = Argument {
     name: "tasks",
     takes: Takes::Text("FILE"),
     given: Given::Maybe,
-    help: "The same for more tasks, one NAME=WORD a line; what --task says comes before it",
+    help: "Answers of more tasks, one NAME=WORD a line; those of --task come first",
 };
 
 pub(crate) const RENAME: Argument = Argument {
@@ -127,11 +141,18 @@ pub(crate) const FIGURES_JSON: Argument = Argument {
     help: "Prints the figures, and each warning, as a JSON object in a line; refusals too",
 };
 
+pub(crate) const NUMBERS: Argument = Argument {
+    name: "numbers",
+    takes: Takes::Nothing,
+    given: Given::Maybe,
+    help: "Names each task, group and chord in its options, as reports and messages name them",
+};
+
 pub(crate) const STRICT: Argument = Argument {
     name: "strict",
     takes: Takes::Nothing,
     given: Given::Maybe,
-    help: "Ends with status 3 where there is a warning",
+    help: "Ends with status 3 if there is a warning",
 };
 
 pub(crate) const EACH: Argument = Argument {
@@ -173,7 +194,7 @@ pub(crate) const FAIL: Argument = Argument {
     name: "fail",
     takes: Takes::Nothing,
     given: Given::Maybe,
-    help: "Ends with status 3 where the canvas's result is a failure",
+    help: "Ends with status 3 if the canvas's result is a failure",
 };
 
 pub(crate) const STATES: Argument = Argument {
@@ -222,28 +243,28 @@ pub(crate) const BROKER_DATABASE: Argument = Argument {
     name: "broker-db",
     takes: Takes::Number("N", 0, 1_000_000),
     given: Given::Maybe,
-    help: "The database of the queue, where commands are to choose it",
+    help: "The database of the queue, if the commands have to choose it",
 };
 
 pub(crate) const BACKEND_DATABASE: Argument = Argument {
     name: "backend-db",
     takes: Takes::Number("N", 0, 1_000_000),
     given: Given::Maybe,
-    help: "The database of the results, where commands are to choose it",
+    help: "The database of the results, if the commands have to choose it",
 };
 
 pub(crate) const WITHOUT_SCRIPT: Argument = Argument {
     name: "without-script",
     takes: Takes::Nothing,
     given: Given::Maybe,
-    help: "Starts it by a transaction, where Redis takes no EVAL; a run given twice then runs twice",
+    help: "Starts it by a transaction, if Redis takes no EVAL; a run given twice then runs twice",
 };
 
 pub(crate) const COMPLETE: Argument = Argument {
     name: "complete",
     takes: Takes::Nothing,
     given: Given::Maybe,
-    help: "Gives tasks that a failure reaches their state, where Celery leaves them pending",
+    help: "Gives tasks that a failure reaches their state, if Celery leaves them pending",
 };
 
 pub(crate) const RESULTS: Argument = Argument {

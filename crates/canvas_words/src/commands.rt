@@ -10,21 +10,21 @@ ghost use Rattle.canvas_words.specs.steps.Rules.{rule};
 use crate::Subcommand;
 use crate::arguments::{
     ADAPT, AGAIN, Argument, BACKEND_DATABASE, BROKER_DATABASE, CALLS, COMPLETE, EACH, EXPIRES,
-    EXPLAIN, FAIL, FIGURES_JSON, FILE, FILE_ALONE, JSON, NULL, OF, PREFIX, QUEUE, REFUSAL_JSON,
-    RENAME, RESULTS, RUN, STATES, STRICT, TASK, TASKS, TURNS, VALUES, WITH_TASKS, WITHOUT_SCRIPT,
-    WORKERS, arguments_of,
+    EXPLAIN, FAIL, FAILURES, FIGURES_JSON, FILE, FILE_ALONE, JSON, NULL, NUMBERS, OF, PREFIX,
+    QUEUE, REFUSAL_JSON, RENAME, RESULTS, RUN, STATES, STEPS, STRICT, TASK, TASKS, TURNS, VALUES,
+    WITH_TASKS, WITHOUT_SCRIPT, WORKERS, arguments_of,
 };
 use clap::Command;
 use std::alloc::{AllocError, Global};
 
 /// The arguments of `run`.
-static RUN_ARGUMENTS: [Argument; 11] = [
-    FILE, WORKERS, ADAPT, TASK, TASKS, JSON, EXPLAIN, EACH, NULL, WITH_TASKS, FAIL,
+static RUN_ARGUMENTS: [Argument; 12] = [
+    FILE, WORKERS, ADAPT, TASK, TASKS, JSON, EXPLAIN, FAILURES, EACH, NULL, WITH_TASKS, FAIL,
 ];
 
 /// Those of `turns`.
-static TURNS_ARGUMENTS: [Argument; 9] = [
-    FILE, WORKERS, TURNS, AGAIN, ADAPT, TASK, TASKS, JSON, FAIL,
+static TURNS_ARGUMENTS: [Argument; 10] = [
+    FILE, WORKERS, TURNS, AGAIN, STEPS, ADAPT, TASK, TASKS, JSON, FAIL,
 ];
 
 /// Those of `graph`.
@@ -69,7 +69,7 @@ static EXPORT: [Argument; 11] = [
 ];
 
 /// Those of `normal`.
-static NORMAL: [Argument; 2] = [FILE, REFUSAL_JSON];
+static NORMAL: [Argument; 4] = [FILE, NUMBERS, ADAPT, REFUSAL_JSON];
 
 /// Those of `check`.
 static CHECK: [Argument; 6] = [FILE, ADAPT, TASK, TASKS, FIGURES_JSON, STRICT];

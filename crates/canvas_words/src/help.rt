@@ -1,6 +1,6 @@
 //! What help says beside the commands.
 
-/// What stands below the commands where help is asked for in short.
+/// The text below the commands in the short help.
 pub const SHORT_NOTES: &str = "\
 `canvas --help` says what is printed, what turns are, and what each status and refusal means.";
 
@@ -13,7 +13,7 @@ result.
 
 `run` has two workers and more work on threads, each on its own where one can be made;
 under `turns` they take turns on one. At a turn a worker makes one step, such as to take a message
-or to store an outcome. Whatever the workers and their turns, the report of a canvas is the same. A
+or to store an outcome. The report of a canvas is the same for any workers and turns. A
 list of turns is decimal numbers from 1, separated by single commas, with no sign, space or leading
 zero: another is refused (BadTurn).
 
@@ -34,8 +34,8 @@ immutable. An argument of another kind, or one too many or too few, is a TypeErr
 `--task NAME=WORD` says what a task of that name answers to any call: a whole number, or
 `raise:CLASS`, an exception by its name in letters, digits and _ (but Retry, Ignore and Reject,
 which are no failures). With the word add, div, ident, log_error, mul or xsum it answers as
-tasks.add and so on. It may be given again, for another name; the name * stands for each name that
-no task has, and on `run`, `turns` and `graph` `#3` for the third task alone, whatever its name.
+tasks.add and so on. It may be given again, for another name; the name * means each name that
+no task has, and on `run`, `turns` and `graph` `#3` means only the third task, by any name.
 `--tasks FILE` has more, one a line; an empty line, and one that begins with #, says nothing, and
 what `--task` says of a name comes first. Another word or name, or a name that is there twice, is
 refused (BadTask). So is a name that `--task` says if no task of the canvas has it, unless it is *
@@ -49,15 +49,14 @@ The normal line of a canvas means the same as the canvas: some tasks, then at mo
 chord. A chain in a chain is flattened, and a group or chord that something follows is a chord
 whose body is all that follows.
 
-`check` prints what a run of a canvas takes, and behind that a warning for each thing that may
-surprise, with the JSON pointer (RFC 6901) to the first signature that has it, and its kind:
-NotRegistered, a name that no task has; TypeError, a call that is one whatever comes in;
-ignored-options; and where Celery 5 does otherwise, failure-before-group, failed-nested-chord,
-group-of-one, lost-alarm, body-without-id, pending-body, unregistered-alarm and chord-keywords
-(docs/CELERY.md). Of a canvas that is refused it prints the pointer to the first signature that has
-the refusal, what was found there, and what is wanted. With --json these are objects: one for the
-figures, one for each warning (count, name, note, pointer, task), and a refusal as `run --json`
-prints it.
+`check` prints what a run of a canvas takes, and then a warning for each thing that may surprise,
+with the JSON pointer (RFC 6901) to the first signature that has it, and its kind: NotRegistered, a
+name that no task has; TypeError, a call that is one for any input; ignored-options; and where
+Celery 5 does otherwise, failure-before-group, failed-nested-chord, group-of-one, lost-alarm,
+body-without-id, pending-body, unregistered-alarm and chord-keywords (docs/CELERY.md). For a refused
+canvas it prints the pointer to the first signature that has the refusal, what was found there, and
+what is wanted. With --json these are objects: one for the figures, one for each warning (count,
+name, note, pointer, task), and a refusal as `run --json` prints it.
 
 `adapt` prints the canvas as it is where that can be run. Else it makes short texts of arguments
 that are no whole numbers, texts or lists of whole numbers; gives the links and error callbacks of
@@ -79,8 +78,8 @@ doesn't say which tasks were called. With --json a call of a built-in task that 
 has parameter: the one at fault, or null where there are too many arguments. `run --each` reads a
 canvas a line, and prints a JSON object a line for each, before it reads the next: canvas (the last
 line of `run --json`) and rows (a list of the others), or what --json prints of one that is refused.
-With --null a canvas ends with a NUL byte in place of its line. With --with-tasks it then has lines
-before it, each as --task takes them, and an empty line. They are for this canvas alone, and come
+With --null a canvas ends with a NUL byte and not with its line. With --with-tasks it then has lines
+before it, each as --task takes them, and an empty line. They are only for this canvas, and come
 before --task and --tasks.
 
 With --json each command prints a refusal as an object on standard error: of a canvas with code,
@@ -103,10 +102,10 @@ these results on standard input, one a line:
 A run's number is used once (another is refused as BadRun). `collect --complete` gives tasks that a
 failure reaches their state, where Celery leaves them pending. A result that is no whole number is
 shown as JSON, and an exception of another name by that. `graph FILE --results FILE --of HEX22`
-draws results from a file. Of a canvas with options that are ignored, as queue and countdown,
-`export` says on standard error how many signatures have each. With `export --values VALUES` each
+draws results from a file. `export` says on standard error how many signatures
+have each option that it ignores, as queue and countdown. With `export --values VALUES` each
 argument that is a place, the text ~0, ~1 and so on, goes to the workers as the item of that number
-of the JSON array in VALUES, whatever it is. There a text that begins with ~ and is no place of an
+of the JSON array in VALUES, of any kind. There a text that begins with ~ and is no place of an
 item, also as a task's name, is refused as BadPlace, and what is no such array, or more than
 1,048,576 bytes, as BadValue. Results are refused by a name:
 BadCount (fewer or more than tasks), TooLarge (more than 67,108,864 bytes), and of a task's result

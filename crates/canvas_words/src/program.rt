@@ -56,7 +56,7 @@ fn first_of(words: &[String]) -> &str
     }
 }
 
-/// Parses the words behind the program's name. Where they begin with a command, the others aren't
+/// Parses the words after the program's name. If they begin with a command, the others aren't
 /// made, since none of them is asked.
 fn matches_of<'w>(alloc: Global, words: &'w [String]) -> Result<ArgMatches<'w>, Error>
     ensures ok { IfOk result (λ m. subcommand_rows_of m
@@ -69,7 +69,7 @@ fn matches_of<'w>(alloc: Global, words: &'w [String]) -> Result<ArgMatches<'w>, 
     program.try_get_matches_from(words)
 }
 
-/// The command that the words behind the program's name ask for, with its arguments. Help, the
+/// The command that the words after the program's name ask for, with its arguments. Help, the
 /// version and a mistake are what the parser says, and that an option is there without the one that
 /// it belongs to, or beside one that it can't be given with.
 pub fn read_words<'w>(
@@ -107,7 +107,7 @@ fn check_ties(alloc: Global, command: Subcommand, given: &ArgMatches<'_>) -> Res
     }
 }
 
-/// What is said where no command is asked for, which the parser says before.
+/// The text if no command is asked for, which the parser says before.
 fn no_command(alloc: Global) -> Error
     ensures { IsMistake (kind_of result) }
 {
@@ -118,7 +118,7 @@ fn no_command(alloc: Global) -> Error
     )
 }
 
-/// What is said of words that aren't UTF-8.
+/// The refusal of words that aren't UTF-8.
 pub fn bad_text(alloc: Global) -> Error {
     refused(
         alloc,

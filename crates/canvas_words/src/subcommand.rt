@@ -34,7 +34,7 @@ impl Subcommand {
         Subcommand::Collect,
     ];
 
-    /// The word that stands for it.
+    /// The word for it.
     pub fn name<'a>(self) -> &'a str
         ensures { result.now ≡ command_name self }
     {

@@ -1,4 +1,4 @@
-//! Options that are given with another alone, or without it.
+//! Options that are given only with another, or only without it.
 
 use crate::Subcommand;
 use clap::ArgMatches;
@@ -41,6 +41,12 @@ pub(crate) fn broken_tie(command: Subcommand, given: &ArgMatches<'_>) -> Option<
         Subcommand::Run if has(given, "with-tasks") && !has(given, "null") => {
             Some(Tie::Lacks("the argument '--with-tasks' requires '--null'"))
         }
+        Subcommand::Run if has(given, "failures") && has(given, "each") => Some(Tie::Excludes(
+            "the argument '--failures <WORD>' cannot be used with '--each'",
+        )),
+        Subcommand::Run if has(given, "failures") && has(given, "explain") => Some(Tie::Excludes(
+            "the argument '--failures <WORD>' cannot be used with '--explain'",
+        )),
         Subcommand::Graph => broken_tie_of_picture(given),
         _ => None,
     }

@@ -3,10 +3,8 @@
 from __future__ import annotations
 
 import functools
-import hashlib
 import json
 import os
-import re
 import shutil
 import subprocess
 from pathlib import Path
@@ -14,8 +12,9 @@ from typing import Any, NamedTuple
 
 from . import VERSION
 from .errors import BadCall, CanvasError, Refused, hidden
+from .wheel import compare, own_program, record_of
 
-__all__ = ["Program", "ask", "ask_once", "failure", "forget_path", "has_option", "path_of_program",
+__all__ = ["Program", "ask", "ask_once", "failure", "forget_path", "path_of_program",
            "program", "refusal_of"]
 
 __tracebackhide__ = hidden
@@ -39,23 +38,20 @@ class Program(NamedTuple):
 def program() -> Program:
     """The program that is called: of $CANVAS, the wheel, the build in this checkout, or the PATH.
     Raises CanvasError where it isn't there, or isn't the right one."""
-    path = Path(path_of_program())
-    record = Path(__file__).resolve().with_name("program.json")
+    path = path_of_program()
+    digest, record = record_of(path)
     try:
-        digest = hashlib.sha256(path.read_bytes()).hexdigest()
-        if path.parent != record.parent or not record.exists():
-            return Program(str(path), VERSION, digest)
-        told = json.loads(record.read_text())
-        if told.pop("digest") != digest:
-            raise CanvasError(f"{path} isn't the program that was put into this package")
-        return Program(str(path), VERSION, digest, **told)
-    except (OSError, ValueError, TypeError, LookupError) as error:
+        return Program(path, VERSION, digest, **record)
+    except TypeError as error:
         raise CanvasError(f"{path} can't be compared with its record: {error}") from error
 
 
 def path_of_program() -> str:
-    """The path of the program, which is looked for once."""
-    return _path_of_program(os.environ.get("CANVAS"), os.environ.get("PATH"))
+    """The path of the program, which is looked for once. If it is the wheel's, it is compared with
+    the wheel's record once, and again if it was changed. Raises CanvasError."""
+    path = _path_of_program(os.environ.get("CANVAS"), os.environ.get("PATH"))
+    compare(path)
+    return path
 
 
 def forget_path() -> None:
@@ -67,15 +63,15 @@ def forget_path() -> None:
 @functools.lru_cache(maxsize=None)
 def _path_of_program(named: str | None, _path: str | None) -> str:
     """The path of the program, which is of the right version, with these in the environment."""
-    here = Path(__file__).resolve()
-    top = here.parent.parent.parent.parent
-    own = [here.with_name("canvas")] + [top / "canvas"] * (top / "crates.txt").exists()
+    top = Path(__file__).resolve().parent.parent.parent.parent
+    own = [own_program()] + [top / "canvas"] * (top / "crates.txt").exists()
     there = next((str(it) for it in own if it.is_file()), None)
     found = named or there or shutil.which("canvas")
     if not found:
         raise CanvasError("there is no program `canvas`: install the wheel, which has it; or name"
                           " it in $CANVAS; or build it, by `./canvas run FILE` in a checkout")
     path = Path(found).resolve()
+    compare(str(path))
     top = path.parent
     if (top / "crates.txt").exists():
         words = ["check", str(top / "examples" / "chord.json")]
@@ -98,16 +94,6 @@ def _ended(path: str, words: list[str], given: bytes = b"",
         raise CanvasError(f"{path} can't be called: {error}") from error
     except subprocess.TimeoutExpired as error:
         raise CanvasError(f"{path} took more than {SECONDS} seconds") from error
-
-
-def has_option(command: str, option: str) -> bool:
-    """Whether the help of one of the program's commands names an option."""
-    return re.search(rf"{option}\b", _help_of(path_of_program(), command)) is not None
-
-
-@functools.lru_cache(maxsize=None)
-def _help_of(path: str, command: str) -> str:
-    return _ended(path, [command, "--help"]).stdout.decode(errors="replace")
 
 
 def ask(words: list[str], given: bytes) -> tuple[str, str]:

@@ -1,6 +1,6 @@
 """Which tasks of a started canvas still come, once some have ended.
 
-The program says which tasks are called if those without a result succeed. Of these some come on no
+The program says which tasks are called if those without a result succeed. Some of these come on no
 worker, or leave no result there: the error callbacks that Celery calls in place or not at all, what
 follows these, and tasks whose results are ignored (docs/CELERY.md).
 """
@@ -23,7 +23,7 @@ __all__ = ["Coming", "IN_PLACE"]
 
 __tracebackhide__ = hidden
 
-#: What a task raises to the program that failed, whatever it was.
+#: What a task raises to the program that failed with any exception.
 RAISES = "raise:NotRegistered"
 #: Why a task that is called has no result.
 IN_PLACE, IGNORED = "Celery calls it in place, without a result", "its results are ignored"
@@ -115,7 +115,7 @@ class Coming:
         return f"{stored}, eta={date_of(options['eta'])}" if "eta" in options else stored
 
     def passed(self, begun: Set[int], called: Set[int]) -> Set[int]:
-        """The tasks before those that have begun: they have ended, whatever is stored of them."""
+        """The tasks before those that have begun: they have ended, even if nothing is stored of them."""
         found: Set[int] = set()
         for number in sorted(called, reverse=True):
             if number in begun or number in found:

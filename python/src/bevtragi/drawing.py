@@ -5,7 +5,6 @@ from __future__ import annotations
 import json
 from typing import Any, Dict, List, NamedTuple, Optional
 
-from .calling import ask
 from .errors import CanvasError, hidden
 from .texts import values
 
@@ -32,31 +31,13 @@ class Drawn(NamedTuple):
 
 def drawn(text: bytes) -> Drawn:
     """The line of a canvas, which is adapted first. Raises Refused."""
-    adapted, _ = ask(["adapt", "-"], text)
-    (signature,) = values(["normal", "-"], adapted.encode())
-    numbers = _Numbers()
+    (signature,) = values(["normal", "-", "--numbers", "--adapt"], text)
+    tasks: Dict[int, List[str]] = {}
     try:
-        line = _line(signature, numbers)
+        line = _line(signature, tasks)
     except (LookupError, TypeError, ValueError) as error:
         raise CanvasError(f"`canvas normal` answered what can't be drawn: {error}") from error
-    return Drawn(line, numbers.tasks)
-
-
-class _Numbers:
-    """Numbers tasks, and groups and chords, in the order of the line, as the program does: a task,
-    its links, its error callbacks, what follows; a group or chord before its members."""
-
-    def __init__(self) -> None:
-        self.tasks: List[List[str]] = []
-        self.groups = 0
-
-    def task(self, name: str, arguments: str) -> int:
-        self.tasks.append([name, arguments])
-        return len(self.tasks)
-
-    def group(self) -> int:
-        self.groups += 1
-        return self.groups
+    return Drawn(line, [tasks[number] for number in sorted(tasks)])
 
 
 def number_of(identifier: Optional[str]) -> int:
@@ -64,25 +45,26 @@ def number_of(identifier: Optional[str]) -> int:
     return int(identifier[-8:], 16) if identifier else 0
 
 
-def _line(signature: Dict[str, Any], numbers: _Numbers) -> Line:
+def _line(signature: Dict[str, Any], tasks: Dict[int, List[str]]) -> Line:
     line: Line = {"tasks": []}
     is_chain = signature["subtask_type"] == "chain"
     for it in signature["kwargs"]["tasks"] if is_chain else [signature]:
         if it["subtask_type"] is None:
-            line["tasks"].append(_task(it, numbers))
+            line["tasks"].append(_task(it, tasks))
             continue
         inner = it["kwargs"]
         members = inner["header"] if "body" in inner else inner["tasks"]
-        line["group"] = numbers.group()
-        line["members"] = [_line(member, numbers) for member in members]
+        line["group"] = number_of(it["options"]["group_id"])
+        line["members"] = [_line(member, tasks) for member in members]
         if "body" in inner:
-            line["body"] = _line(inner["body"], numbers)
+            line["body"] = _line(inner["body"], tasks)
     return line
 
 
-def _task(it: Dict[str, Any], numbers: _Numbers) -> List[Any]:
-    number = numbers.task(it["task"], _arguments(it))
-    return [number, *([_task(one, numbers) for one in it["options"].get(key) or ()]
+def _task(it: Dict[str, Any], tasks: Dict[int, List[str]]) -> List[Any]:
+    number, options = number_of(it["options"]["task_id"]), it["options"]
+    tasks[number] = [it["task"], _arguments(it)]
+    return [number, *([_task(one, tasks) for one in options.get(key) or ()]
                       for key in ("link", "link_error"))]
 
 

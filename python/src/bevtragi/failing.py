@@ -5,7 +5,6 @@ from __future__ import annotations
 from typing import Any, Iterator, Mapping
 
 from .asking import answered, judge_of, runs_of
-from .calling import has_option
 from .celery_run import Judge
 from .comparing import Question
 from .errors import hidden
@@ -32,7 +31,7 @@ def failures_of(judge: Judge, tasks: dict[Any, Any], error: Any) -> Failures:
     well = answered(judge, tasks)
     several = {row.number: {**tasks, row.number: error} for row in well.rows}
     word = lines_of({"*": error})[0].partition("=")[2]
-    if len(several) > FEW and word.startswith("raise:") and has_option("run", "--failures"):
+    if len(several) > FEW and word.startswith("raise:"):
         reports = _by_one_call(judge.text, well, tasks, word, several)
     else:
         reports = runs_of(judge.text, [*several.values()])

@@ -24,7 +24,7 @@ Text = Union[str, bytes]
 
 
 class Heard:
-    """What is told on some channels from now on. Without a connection nothing is heard: what is
+    """The messages of some channels from now on. Without a connection nothing is heard: what is
     stored counts, and this only adds to it. The connection is given back by close(), and at the
     latest as soon as nobody has this object."""
 

@@ -20,7 +20,7 @@ class Failure(NamedTuple):
 
     @staticmethod
     def of(value: Any) -> Any:
-        """The failure that the result of a failed task stands for, or the result as it is."""
+        """The failure that the result of a failed task means, or the result as it is."""
         if not isinstance(value, dict) or value.keys() != {"exc_message", "exc_type"}:
             return value
         message = value["exc_message"]

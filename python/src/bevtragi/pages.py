@@ -90,8 +90,6 @@ def page(canvas: Canvas, tasks: Answers = {}, error: Any = Exception, title: str
     given = named(tasks)
     answers = {**_own(names), **given}
     failures = failures_of(judge, answers, error)
-    if [row.name for row in failures.well] != list(names):
-        raise CanvasError("`canvas normal` and `canvas run` number the tasks differently")
     rows = Shown(failures, _answered(names, answers))
     failing = [number for number, report in failures.items() if failures.well[number].ran]
     celery = celery_part(failures, judge)

@@ -4,7 +4,6 @@ from __future__ import annotations
 
 from typing import Any, Dict, Iterator, List, Sequence
 
-from .calling import has_option
 from .drawing import number_of
 from .errors import BadCall, hidden
 from .texts import Answers, values, words_of
@@ -34,9 +33,8 @@ def check_workers(workers: Any) -> None:
 def plays(text: bytes, tasks: Answers, error: Any, workers: Sequence[int], failing: Sequence[int]
           ) -> List[Play]:
     """The runs by these numbers of workers, each also with all messages delivered again; and if
-    they are short, by two workers the run in which each of these tasks fails. None if the program
-    doesn't tell steps."""
-    if not workers or not has_option("turns", "--steps"):
+    they are short, by two workers the run in which each of these tasks fails."""
+    if not workers:
         return []
     found = [_play(text, tasks, count, again) for count in workers for again in (False, True)]
     count = 2 if 2 in workers else min(workers)

@@ -1,7 +1,7 @@
 """The calls of one rehearsal, one after the other, each when a worker may make it.
 
 The program lists the messages of the run with the failures so far, each with the tasks that it comes
-behind. It may be taken once these have ended, and after each failure the list is asked for again.
+after. It may be taken once these have ended, and after each failure the list is asked for again.
 So the last list is that of the run with these answers, and the calls are held against it. This module chooses
 the order of the calls and makes them. It decides nothing else.
 """

@@ -128,9 +128,9 @@ def _messages_of(told: List[Dict[str, Any]]) -> Dict[int, Message]:
     """The messages by their numbers."""
     found = {}
     for it in told[:-1]:
-        number, behind = number_of(it["task_id"]), it["header_after"]
+        number, header = number_of(it["task_id"]), it["header_after"]
         found[number] = Message(number, it["args"], it["kwargs"], _numbers(it["after"]),
-                                None if behind is None else _numbers(behind))
+                                None if header is None else _numbers(header))
     return found
 
 

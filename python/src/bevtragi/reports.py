@@ -179,7 +179,7 @@ class Report:
         return found[0]
 
     def differences(self, other: Report) -> list[str]:
-        """The rows and results that differ: this report's behind `-`, the other's behind `+`."""
+        """The rows and results that differ: this report's after `-`, the other's after `+`."""
         pairs: list[tuple[Any, Any]] = [it for it in zip_longest(self.rows, other.rows)
                                         if None in it or it[0][:4] != it[1][:4]]
         if (self.status, self.result) != (other.status, other.result):
@@ -207,7 +207,7 @@ def pytest_assertrepr_compare(op: str, left: Any, right: Any) -> list[str] | Non
 
 
 class Failures(Dict[int, Report]):
-    """By each task's number the Report of the run in which it alone fails, shown in a line: the
+    """By each task's number the Report of the run in which only it fails, shown in a line: the
     result, what is called that isn't where all goes `well`, and what isn't any more; and where
     Celery is installed, what it does otherwise."""
     well: Report

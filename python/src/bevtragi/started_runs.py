@@ -1,4 +1,4 @@
-"""A canvas on Celery's workers: its report so far, the end of it, and what Celery is told of it."""
+"""A canvas on Celery's workers: its report so far, the end of it, and what Celery stores of it."""
 
 from __future__ import annotations
 
@@ -231,7 +231,7 @@ def _told(text: Found) -> Told:
 
 
 def _readable(told: Told) -> Found:
-    """What the program is told: one that is revoked failed, and a state of the user's own is that
+    """What the program gets: one that is revoked failed, and a state of the user's own is that
     of a task that still runs."""
     if told.state == "REVOKED":
         return json.dumps({**json.loads(told.text or ""), "status": "FAILURE"})

@@ -1,7 +1,7 @@
 """Results that workers stored, as lines that the program reads.
 
 The program reads strict JSON. Celery's workers also store what only Python reads: NaN, infinities
-and texts with lone surrogates. In a line another text stands for such a value.
+and texts with lone surrogates. In a line such a value is another text.
 """
 
 from __future__ import annotations
@@ -65,7 +65,7 @@ class Stored:
         self._lines[place] = json.dumps(told).encode()
 
     def value(self, result: Any) -> Any:
-        """A result that the program tells, or what it stands for."""
+        """A result that the program tells, or what it means."""
         if isinstance(result, list):
             return [self.value(it) for it in result]
         return self._values.get(result, result) if isinstance(result, str) else result
@@ -106,7 +106,7 @@ def _read(text: bytes) -> dict[str, Any] | None:
 
 
 def _plain(value: Any) -> Any:
-    """A copy of dictionaries and lists in which texts stand for what JSON doesn't have."""
+    """A copy of dictionaries and lists in which texts replace what JSON doesn't have."""
     if isinstance(value, dict):
         return {_plain(key): _plain(it) for key, it in value.items()}
     if isinstance(value, list):

@@ -1,11 +1,11 @@
 -- What a run by turns with entries leaves, of at most so many answered asks.
 --     IsAgainWithin l n turns es most rows m    the rows of one that went on until all workers had
 --                                               ended, and how many of its stores answered Again
---     IsKeptWithin .. keeps .. sent             the same, with what it kept of what it published
+--     IsNotedWithin .. keeps .. steps           the same, with what it noted of its steps
 --     IsCutAgain l n turns es most rows         the rows of one that was cut off, with some worker
 --                                               that had not ended
 --     IsAgainFault                              why there is no whole report
-use Rattle.std.specs.Prelude.{◌≡◌, ◌≤◌, ◌+◌, ℕ, Bool, List, length, Some, None, IfSome}
+use Rattle.std.specs.Prelude.{◌≡◌, ◌≤◌, ◌+◌, ◌++◌, ℕ, List, length, Some, None, IfSome}
 use Rattle.canvas_task.specs.Apply.{Behaviour}
 use Rattle.canvas_semantics.specs.Evaluation.{State}
 use Rattle.canvas_semantics.specs.Line.{Line, tree_of}
@@ -15,9 +15,9 @@ use Rattle.canvas_turns.specs.TurnLaws.{held_rows}
 use Rattle.canvas_turns.specs.Turns.{Step, IsWorker, HasEnded, Begins, redeliveries_in}
 use Rattle.canvas_core.specs.declared.cause.Cause.TheVariants.{Memory, Stopped}
 use Rattle.canvas_by_turns.specs.Correct.{AreWorkers, AreTurns, IsAsked, IsWholeAgain}
-use Rattle.canvas_envelope.specs.declared.envelope.Envelope.{Envelope}
-use Rattle.canvas_by_turns.specs.Traced.{sent_after}
+use Rattle.canvas_by_turns.specs.Noted.{opening_steps}
 use Rattle.canvas_by_turns.specs.steps.Noting.{kept}
+use Rattle.canvas_by_turns.specs.declared.notes.Keeps.{Keeps}
 use Rattle.canvas_by_turns.specs.declared.fault.RunFault.{RunFault}
 use Rattle.canvas_by_turns.specs.declared.fault.RunFault.TheVariants.{BadWorkers, BadTurn, Halted}
 
@@ -27,11 +27,11 @@ IsAgainWithin behaviour l n turns es most rows m =
     (whole : IsWholeAgain behaviour l n turns es rows m)
     × (length whole.run.steps ≤ most + redeliveries_in whole.run.steps)
 
-abbrev pub IsKeptWithin : (behaviour : Behaviour) → Line → ℕ → List ℕ → List Entry → ℕ → Bool
-    → List State → ℕ → List Envelope → Type 0
-IsKeptWithin behaviour l n turns es most keeps rows m sent =
+abbrev pub IsNotedWithin : (behaviour : Behaviour) → Line → ℕ → List ℕ → List Entry → ℕ → Keeps
+    → List State → ℕ → List Step → Type 0
+IsNotedWithin behaviour l n turns es most keeps rows m steps =
     (within : IsAgainWithin behaviour l n turns es most rows m)
-    × (sent ≡ kept keeps (sent_after l within.0.run.steps))
+    × (steps ≡ kept keeps (opening_steps l ++ within.0.run.steps))
 
 pub record IsCutAgain (behaviour : Behaviour) (l : Line) (n : ℕ) (turns : List ℕ) (es : List Entry)
     (most : ℕ) (rows : List State) : Type 0 where

@@ -1,14 +1,26 @@
--- What a stage has noted of the envelopes that were published.
-use Rattle.std.specs.Prelude.{◌≡◌, Bool, true, false, List, [], ◌++◌}
+-- What a stage has noted of the steps of a run.
+use Rattle.std.specs.Prelude.{◌≡◌, Bool, true, false, List, [], ◌++◌, map, filter}
 use Rattle.canvas_envelope.specs.declared.envelope.Envelope.{Envelope}
-use Rattle.canvas_by_turns.specs.declared.sent.Sent.{Sent}
+use Rattle.canvas_history.specs.Queue as queue
+use Rattle.canvas_runs.specs.Core.{Ask, to_queue}
+use Rattle.canvas_turns.specs.Turns.{Step}
+use Rattle.canvas_by_turns.specs.Noted.{step_seen}
+use Rattle.canvas_by_turns.specs.declared.notes.Keeps.{Keeps}
+use Rattle.canvas_by_turns.specs.declared.notes.Keeps.TheVariants.{Nothing, Published, All}
+use Rattle.canvas_by_turns.specs.declared.notes.Notes.{Notes}
 
--- of these envelopes it keeps all, or none
-abbrev pub kept : Bool → List Envelope → List Envelope
-kept true es = es
-kept false es = []
+abbrev pub publishes : Ask Envelope → Bool
+publishes (to_queue (queue.publish e)) = true
+publishes a = false
+
+-- of these steps it keeps none, those that publish, or all
+abbrev pub kept : Keeps → List Step → List Step
+kept Nothing xs = []
+kept Published xs = filter (λ x. publishes x.1.0) xs
+kept All xs = xs
 
 -- these were noted behind those that were there
-abbrev pub Noted : Sent → List Envelope → Sent → Type 0
-Noted s es t =
-    (t.keeps ≡ s.keeps) × (t.letters.items ≡ s.letters.items ++ kept s.keeps es)
+abbrev pub Noted : Notes → List Step → Notes → Type 0
+Noted s xs t =
+    (t.keeps ≡ s.keeps)
+    × (map step_seen t.steps.items ≡ map step_seen s.steps.items ++ kept s.keeps xs)

@@ -19,7 +19,7 @@ use Rattle.canvas_history.specs.Lists.{by}
 use Rattle.canvas_runs.specs.Tally.{greatest_count}
 use Rattle.canvas_runs.specs.Worker.{read_envelope, sealed}
 use Rattle.canvas_turns.specs.Spending.{Entry, TurnedAgain, wanted, spent, agains_in}
-use Rattle.canvas_turns.specs.Turns.{Step, HasEnded, IsWorker, AllEnded, Begins, round, rounds, queue_after, queue_next, results_after, results_next, redeliveries_in}
+use Rattle.canvas_turns.specs.Turns.{Step, redelivery, HasEnded, IsWorker, AllEnded, Begins, round, rounds, queue_after, queue_next, results_after, results_next, redeliveries_in}
 use Rattle.canvas_turns.specs.TurnLaws.{ByTurns}
 use Rattle.canvas_envelope.specs.Content.{Content}
 use Rattle.canvas_core.specs.Asks.{Asked, Answer, FoundOf, replied}
@@ -33,8 +33,9 @@ use Rattle.canvas_core.specs.declared.ask.Ask.TheVariants.{Read}
 use Rattle.canvas_core.specs.declared.ask.Reply.{Reply}
 use Rattle.canvas_core.specs.declared.cause.Cause.{Cause}
 use Rattle.canvas_core.specs.declared.cause.Cause.TheVariants.{Memory, Stopped}
-use Rattle.canvas_by_turns.specs.Traced.{sent_after}
-use Rattle.canvas_by_turns.specs.steps.Noting.{kept}
+use Rattle.canvas_by_turns.specs.Noted.{opening_steps, step_seen}
+use Rattle.canvas_by_turns.specs.steps.Noting.{Noted, kept}
+use Rattle.canvas_by_turns.specs.declared.notes.Keeps.{Keeps}
 use Rattle.canvas_by_turns.specs.declared.stage.Stage.{Stage}
 
 -- the outcome of each of so many tasks, by number
@@ -60,6 +61,17 @@ AnswersNow plan queued results more (to_table c) (from_table r) = r ≡ reply_of
 AnswersNow plan queued results more rest (rested m) = m ≡ more
 AnswersNow plan queued results more ack acked = Unit {0}
 AnswersNow plan queued results more a r = ⊥
+
+-- the answer that it is
+abbrev pub answer_now : Roster → List Envelope → Results → Bool → Asked → Answer
+answer_now plan queued results more (to_queue c) = from_queue (queue.answer_of queued c)
+answer_now plan queued results more (to_table c) = from_table (reply_of plan results c)
+answer_now plan queued results more rest = rested more
+answer_now plan queued results more a = acked
+
+-- the step of worker p that asks this
+abbrev pub step_now : ℕ → Roster → List Envelope → Results → Bool → Asked → Step
+step_now p plan queued results more a = (p, (a, answer_now plan queued results more a))
 
 -- the ask is one that the queue and the table take
 abbrev pub MayAsk : Roster → Results → Asked → Type 0
@@ -113,18 +125,18 @@ counted_on m Again = min greatest_count (m + 1)
 
 -- ---- a redelivery
 
--- Before a core's ask is answered the envelope that it holds is delivered again, where an entry for
--- its point is unspent. That entry is spent.
-pub record Redelivers (core : Standing) (s s' : Stage) : Type 0 where
+-- Before the ask of worker p's core is answered, the envelope that it holds is delivered again if
+-- an entry for its point is unspent. That entry is spent, and the redelivery noted.
+pub record Redelivers (p : ℕ) (core : Standing) (s s' : Stage) : Type 0 where
   pub envelope :
       ((wanted (point_at core) s.again.items ≡ false) × (s'.queue ≡ s.queue)
-      × (s'.again.items ≡ s.again.items))
+      × (s'.again.items ≡ s.again.items) × (s'.notes ≡ s.notes))
       ⊎ ((wanted (point_at core) s.again.items ≡ true)
-      × ((e : Envelope) × (standing.held core ≡ Some e) × (s'.queue ≡ s.queue ++ e ∷ []))
+      × ((e : Envelope) × (standing.held core ≡ Some e) × (s'.queue ≡ s.queue ++ e ∷ [])
+      × Noted s.notes (redelivery p e ∷ []) s'.notes)
       × (s'.again.items ≡ spent (point_at core) s.again.items))
   pub others : (s'.table ≡ s.table) × (s'.cores ≡ s.cores) × (s'.steps ≡ s.steps)
       × (s'.repeats ≡ s.repeats)
-  pub sent : s'.sent ≡ s.sent
 
 -- ---- a run
 
@@ -151,21 +163,21 @@ pub record LeadsTo (behaviour : Behaviour) (l : Line) (n : ℕ) (us : List ℕ) 
   pub cores_are : (i : ℕ) (c : Standing) → slice_get s.cores.items i ≡ Some c
       → IsCoreAt behaviour l (by (suc i) xs) c
 
--- what a run is given: the entries that say what is delivered again, and whether it is to keep
--- copies of what it publishes
+-- what a run is given: the entries that say what is delivered again, and which of its steps it
+-- notes
 abbrev pub Given : Type 0
-Given = List Entry × Bool
+Given = List Entry × Keeps
 
 -- the same between two turns, where these were the entries: of the answered asks there are at most
--- so many. What was published is noted
+-- so many. They are noted behind those of the first messages
 pub record Reached (behaviour : Behaviour) (l : Line) (n most : ℕ) (given : Given) (us : List ℕ)
     (xs : List Step) (s : Stage) : Type 0 where
   pub leads : LeadsTo behaviour l n us xs s
   pub turned : TurnedAgain behaviour l n [] given.0 us xs s.again.items
   pub agains : s.repeats ≡ min greatest_count (agains_in xs)
   pub count : length xs + s.steps ≡ most + redeliveries_in xs
-  pub keeps : s.sent.keeps ≡ given.1
-  pub sent : s.sent.letters.items ≡ kept given.1 (sent_after l xs)
+  pub keeps : s.notes.keeps ≡ given.1
+  pub noted : map step_seen s.notes.steps.items ≡ kept given.1 (opening_steps l ++ xs)
 
 -- after some steps that these turns make
 abbrev pub HasReached : (behaviour : Behaviour) → Line → ℕ → ℕ → Given → List ℕ → Stage
@@ -252,7 +264,7 @@ AreNew cores = All (λ c. c ≡ begun) cores
 -- a stage before its first publish
 pub record IsNew (l : Line) (n : ℕ) (s : Stage) : Type 0 where
   pub repeats_is : s.repeats ≡ 0
-  pub sent_is : s.sent.letters.items ≡ []
+  pub notes_is : s.notes.steps.items ≡ []
   pub plan_is : s.table.plan ≡ roster_of l
   pub table_is : held s.table ≡ no_results
   pub queue_is : s.queue ≡ []

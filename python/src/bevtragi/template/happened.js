@@ -1,6 +1,6 @@
 
 // What happened in a run on Celery's workers, as far as results are stored. A row is a state and
-// what is told of it.
+// what is shown of it.
 
 const HAPPENED_WORDS = {
   succeeded: "succeeded",

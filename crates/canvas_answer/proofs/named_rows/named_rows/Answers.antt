@@ -12,5 +12,6 @@ returns-then-is_empty-clause-shown c = λ n numbered.
     let ss = c.args.report.now.rows in
     let class : ℕ → Option Text = λ k. class_of c.args.fates.now (own_class stubs errors c.args.plan.now) k in
     IfOk-weaker c.known_rows.result _ _
-    (λ rows is. subst (λ rs. AreShown class ss rs) (sym is) (plain_rows stubs errors c.args.fates.now c.args.plan.now ss (sym c.is_empty.ensures ∙ c.if-is_empty.true)))
+    (λ rows is. subst (λ rs. AreShown class ss rs) (sym is)
+    (plain_rows stubs errors c.args.fates.now c.args.plan.now ss (sym c.is_empty.ensures ∙ c.if-is_empty.true)))
     c.known_rows.ensures

@@ -26,7 +26,8 @@ loop-state-preserved c =
     subst (λ n. IsShown class (suc n) c.state-item.result c.in_ok-row.row) place c.in_ok-row.ensures in (
       c.loop-state.invariant.0,
       subst (λ xs. AreSoFar class ss xs (i + 1)) (sym c.in_ok-push.ensures.items)
-          (one_more class ss rows c.in_ok-row.row i c.state-item.result so_far (got_some ss i c.state-item.result c.loop-state-test.true c.state-item.is) shows),
+          (one_more class ss rows c.in_ok-row.row i c.state-item.result so_far
+          (got_some ss i c.state-item.result c.loop-state-test.true c.state-item.is) shows),
     )
 
 pub returns : goal.returns

@@ -5,36 +5,36 @@ use Rattle.canvas_by_turns.proofs.running.run_stage.Goals as goal
 pub run_list-requires-clause-reached : goal.run_list-requires-clause-reached
 run_list-requires-clause-reached g c = (
   c.args.stage.now.steps,
-  (c.args.stage.now.again.items, c.args.stage.now.sent.keeps),
-  starts (g.T.Tasks.behaviour c.args.tasks.now) c.args.plan.now c.args.workers c.args.stage.now c.open.new.self c.requires.planned c.requires.new c.in-Ok.ensures.queue c.in-Ok.ensures.back c.open.ensures.others.0 c.open.ensures.others.1 c.open.ensures.others.2 c.open.ensures.entries.0 c.open.ensures.entries.1 c.in-Ok.ensures.sent,
+  (c.args.stage.now.again.items, c.args.stage.now.notes.keeps),
+  starts (g.T.Tasks.behaviour c.args.tasks.now) c.args.plan.now c.args.workers c.args.stage.now c.open.new.self c.requires.planned c.requires.new c.in-Ok.ensures.queue c.in-Ok.ensures.back c.open.ensures.others.0 c.open.ensures.others.1 c.open.ensures.others.2 c.open.ensures.entries.0 c.open.ensures.entries.1 c.in-Ok.ensures.noted,
 )
 
 pub run_rounds-requires : goal.run_rounds-requires
 run_rounds-requires g c = (
   c.args.stage.now.steps,
-  (c.args.stage.now.again.items, c.args.stage.now.sent.keeps),
-  c.in-Ok-run_list.ensures.ok c.args.stage.now.steps (c.args.stage.now.again.items, c.args.stage.now.sent.keeps)
-      (starts (g.T.Tasks.behaviour c.args.tasks.now) c.args.plan.now c.args.workers c.args.stage.now c.open.new.self c.requires.planned c.requires.new c.in-Ok.ensures.queue c.in-Ok.ensures.back c.open.ensures.others.0 c.open.ensures.others.1 c.open.ensures.others.2 c.open.ensures.entries.0 c.open.ensures.entries.1 c.in-Ok.ensures.sent),
+  (c.args.stage.now.again.items, c.args.stage.now.notes.keeps),
+  c.in-Ok-run_list.ensures.ok c.args.stage.now.steps (c.args.stage.now.again.items, c.args.stage.now.notes.keeps)
+      (starts (g.T.Tasks.behaviour c.args.tasks.now) c.args.plan.now c.args.workers c.args.stage.now c.open.new.self c.requires.planned c.requires.new c.in-Ok.ensures.queue c.in-Ok.ensures.back c.open.ensures.others.0 c.open.ensures.others.1 c.open.ensures.others.2 c.open.ensures.entries.0 c.open.ensures.entries.1 c.in-Ok.ensures.noted),
 )
 
 pub returns-in-Ok-run_list-clause-ok : goal.returns-in-Ok-run_list-clause-ok
 returns-in-Ok-run_list-clause-ok g c =
     ok_at c.run_rounds.result
     (λ m es. HasReached (g.T.Tasks.behaviour c.args.tasks.now) c.args.plan.now c.args.workers m es c.args.turns.now c.run_list.new.stage)
-    (λ m es. IsRunThrough (g.T.Tasks.behaviour c.args.tasks.now) c.args.plan.now c.args.workers m es c.args.turns.now c.run_rounds.new.stage) c.args.stage.now.steps (c.args.stage.now.again.items, c.args.stage.now.sent.keeps)
-    (c.in-Ok-run_list.ensures.ok c.args.stage.now.steps (c.args.stage.now.again.items, c.args.stage.now.sent.keeps)
-    (starts (g.T.Tasks.behaviour c.args.tasks.now) c.args.plan.now c.args.workers c.args.stage.now c.open.new.self c.requires.planned c.requires.new c.in-Ok.ensures.queue c.in-Ok.ensures.back c.open.ensures.others.0 c.open.ensures.others.1 c.open.ensures.others.2 c.open.ensures.entries.0 c.open.ensures.entries.1 c.in-Ok.ensures.sent)) c.run_rounds.ensures.ok
+    (λ m es. IsRunThrough (g.T.Tasks.behaviour c.args.tasks.now) c.args.plan.now c.args.workers m es c.args.turns.now c.run_rounds.new.stage) c.args.stage.now.steps (c.args.stage.now.again.items, c.args.stage.now.notes.keeps)
+    (c.in-Ok-run_list.ensures.ok c.args.stage.now.steps (c.args.stage.now.again.items, c.args.stage.now.notes.keeps)
+    (starts (g.T.Tasks.behaviour c.args.tasks.now) c.args.plan.now c.args.workers c.args.stage.now c.open.new.self c.requires.planned c.requires.new c.in-Ok.ensures.queue c.in-Ok.ensures.back c.open.ensures.others.0 c.open.ensures.others.1 c.open.ensures.others.2 c.open.ensures.entries.0 c.open.ensures.entries.1 c.in-Ok.ensures.noted)) c.run_rounds.ensures.ok
 
 pub returns-in-Ok-run_list-clause-err : goal.returns-in-Ok-run_list-clause-err
 returns-in-Ok-run_list-clause-err g c =
     err_at c.run_rounds.result
     (λ m es. HasReached (g.T.Tasks.behaviour c.args.tasks.now) c.args.plan.now c.args.workers m es c.args.turns.now c.run_list.new.stage)
     (λ cause m es. IsEarlyEnd (g.T.Tasks.behaviour c.args.tasks.now) cause c.args.plan.now c.args.workers m es c.args.turns.now c.run_rounds.new.stage)
-    c.args.stage.now.steps (c.args.stage.now.again.items, c.args.stage.now.sent.keeps)
-    (c.in-Ok-run_list.ensures.ok c.args.stage.now.steps (c.args.stage.now.again.items, c.args.stage.now.sent.keeps)
-    (starts (g.T.Tasks.behaviour c.args.tasks.now) c.args.plan.now c.args.workers c.args.stage.now c.open.new.self c.requires.planned c.requires.new c.in-Ok.ensures.queue c.in-Ok.ensures.back c.open.ensures.others.0 c.open.ensures.others.1 c.open.ensures.others.2 c.open.ensures.entries.0 c.open.ensures.entries.1 c.in-Ok.ensures.sent)) c.run_rounds.ensures.err
+    c.args.stage.now.steps (c.args.stage.now.again.items, c.args.stage.now.notes.keeps)
+    (c.in-Ok-run_list.ensures.ok c.args.stage.now.steps (c.args.stage.now.again.items, c.args.stage.now.notes.keeps)
+    (starts (g.T.Tasks.behaviour c.args.tasks.now) c.args.plan.now c.args.workers c.args.stage.now c.open.new.self c.requires.planned c.requires.new c.in-Ok.ensures.queue c.in-Ok.ensures.back c.open.ensures.others.0 c.open.ensures.others.1 c.open.ensures.others.2 c.open.ensures.entries.0 c.open.ensures.entries.1 c.in-Ok.ensures.noted)) c.run_rounds.ensures.err
 
 pub returns-in-Err-run_list-clause-err : goal.returns-in-Err-run_list-clause-err
 returns-in-Err-run_list-clause-err g c =
-    c.in-Err-run_list.ensures.err c.args.stage.now.steps (c.args.stage.now.again.items, c.args.stage.now.sent.keeps)
-    (starts (g.T.Tasks.behaviour c.args.tasks.now) c.args.plan.now c.args.workers c.args.stage.now c.open.new.self c.requires.planned c.requires.new c.in-Ok.ensures.queue c.in-Ok.ensures.back c.open.ensures.others.0 c.open.ensures.others.1 c.open.ensures.others.2 c.open.ensures.entries.0 c.open.ensures.entries.1 c.in-Ok.ensures.sent)
+    c.in-Err-run_list.ensures.err c.args.stage.now.steps (c.args.stage.now.again.items, c.args.stage.now.notes.keeps)
+    (starts (g.T.Tasks.behaviour c.args.tasks.now) c.args.plan.now c.args.workers c.args.stage.now c.open.new.self c.requires.planned c.requires.new c.in-Ok.ensures.queue c.in-Ok.ensures.back c.open.ensures.others.0 c.open.ensures.others.1 c.open.ensures.others.2 c.open.ensures.entries.0 c.open.ensures.entries.1 c.in-Ok.ensures.noted)

@@ -1,12 +1,14 @@
-use Rattle.std.proofs.Common.{[]}
+use Rattle.std.proofs.Common.{[], map}
+use Rattle.canvas_by_turns.specs.Noted.{step_seen}
 use Rattle.canvas_by_turns.proofs.WholeRuns.{never_stopped, traced_run}
 use Rattle.canvas_by_turns.proofs.running.run_turns_traced.Goals as goal
 
-pub returns-in-Ok-clause-ok : goal.returns-in-Ok-clause-ok
-returns-in-Ok-clause-ok g c = (
+pub returns-in-Ok-letters_of-clause-ok : goal.returns-in-Ok-letters_of-clause-ok
+returns-in-Ok-letters_of-clause-ok g c = (
   c.in-Ok.ensures.ok.0,
   traced_run (g.T.Tasks.behaviour c.args.tasks.now) c.args.plan.now c.args.workers c.more_than_all-steps.result c.args.turns.now
-      c.in-Ok.ran.report.rows c.in-Ok.ran.repeats c.in-Ok.ran.sent.items c.in-Ok.ensures.ok.1,
+      c.in-Ok.ran.report.rows c.in-Ok.ran.repeats (map step_seen c.in-Ok.ran.steps.items) c.in-Ok-letters_of.letters.items c.in-Ok.ensures.ok.1
+      c.in-Ok-letters_of.ensures,
 )
 
 pub returns-in-Err-clause-err : goal.returns-in-Err-clause-err

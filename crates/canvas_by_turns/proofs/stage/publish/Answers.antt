@@ -1,14 +1,14 @@
-use Rattle.std.proofs.Common.{◌≡◌, OnOk, refl, sym, ap, ◌∙◌, subst}
+use Rattle.std.proofs.Common.{◌≡◌, OnOk, [], ◌∷◌, None, refl, sym, ap, ◌∙◌, subst}
+use Rattle.canvas_backend.specs.Plain.{held}
 use Rattle.canvas_history.specs.Queue as queue
 use Rattle.canvas_runs.specs.Core as C
 use Rattle.canvas_runs.specs.Book.{book_on}
 use Rattle.canvas_core.specs.CoreState.{after_reply}
 use Rattle.canvas_core.specs.declared.ask.Reply.TheVariants as R
 use Rattle.canvas_core.proofs.Cores.ShownAsks.{handed_out, handed_same}
-use Rattle.canvas_by_turns.specs.Traced.{sent_by}
+use Rattle.canvas_by_turns.specs.steps.Stages.{Stepped, asks_of, step_now}
 use Rattle.canvas_by_turns.specs.steps.Noting.{Noted}
-use Rattle.canvas_by_turns.specs.steps.Stages.{Stepped}
-use Rattle.canvas_by_turns.proofs.Sending.{on_ok}
+use Rattle.canvas_by_turns.proofs.Noting.{on_ok, noted_as}
 use Rattle.canvas_by_turns.proofs.StageAsks.{answered_ok, of_each}
 use Rattle.canvas_by_turns.proofs.stage.publish.Goals as goal
 
@@ -27,7 +27,12 @@ returns-in-Ok-clause-ok g c =
     (C.to_queue (queue.publish c.in-Some.envelope)) R.Published asks refl tt c.requires.reads_back c.in-Ok.ensures.call refl refl
     (subst (λ s. OnOk c.answer.result (c.answer.new.self ≡ s)) same c.answer.ensures.ok))
 
-pub returns-in-Ok-clause-sent : goal.returns-in-Ok-clause-sent
-returns-in-Ok-clause-sent g c =
-    let asks = handed_out (book_on c.args.table.now.plan) c.in-Some.envelope c.args.core.now c.requires.inside (sym c.in-Some.ensures.value) in
-    on_ok _ (subst (λ a. Noted c.args.sent.now (sent_by a) c.note.new.self) (sym asks) c.in_ok-note-in-Some.ensures)
+pub returns-in-Ok-clause-noted : goal.returns-in-Ok-clause-noted
+returns-in-Ok-clause-noted g c =
+    let table = c.args.table.now in
+    let asks = handed_out (book_on table.plan) c.in-Some.envelope c.args.core.now c.requires.inside (sym c.in-Some.ensures.value) in
+    of_each c.answer.result
+    (λ more. Noted c.args.notes.now (step_now c.args.worker table.plan c.args.queue.now (held table) more (asks_of table.plan c.args.core.now) ∷ []) c.published.new.self)
+    (λ more. on_ok c.answer.result
+    (noted_as table.plan c.args.queue.now (held table) more c.args.worker c.args.notes.now c.published.new.self
+    (asks_of table.plan c.args.core.now) (C.to_queue (queue.publish c.in-Some.envelope)) (C.from_queue None) asks refl c.in_ok-published-in-Some.ensures))

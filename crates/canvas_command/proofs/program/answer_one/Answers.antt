@@ -1,8 +1,7 @@
-use Rattle.std.proofs.Common.{ℕ, Option, IfOk, sym, subst}
+use Rattle.std.proofs.Common.{IfOk, sym, subst}
 use Rattle.canvas_answer.specs.Asking.{asking}
-use Rattle.canvas_by_turns.specs.Correct.{IsRunFault}
 use Rattle.canvas_command.specs.Asked.{IsAnswerTo}
-use Rattle.canvas_command.specs.Runs.{IsRunOf}
+use Rattle.canvas_command.specs.Runs.{IsByTurns}
 use Rattle.canvas_command.proofs.program.answer_one.Goals as goal
 
 pub returns-in-Run : goal.returns-in-Run
@@ -25,6 +24,6 @@ returns-in-Turns g c =
     let run =
     subst
     (λ ts. IfOk c.answer_turns.result
-    (λ a. (told : Option ℕ) × IsRunOf behaviour (asking source.setting) source.text.now (IsRunFault c.in-Turns.workers ts) manner.form manner.fails told a))
+    (IsByTurns behaviour (asking source.setting) source.text.now c.in-Turns.workers ts c.in-Turns.steps manner.form manner.fails))
     c.deref.ensures.value c.answer_turns.ensures in
     subst (λ v. IfOk c.answer_turns.result (IsAnswerTo behaviour (asking source.setting) source.text.now v)) (sym c.in-Turns.is) run

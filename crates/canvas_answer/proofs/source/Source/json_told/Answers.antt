@@ -23,6 +23,7 @@ returns g c = λ n numbered.
     let its = c.args.self.now.setting in
     let rows = c.in_ok-rows.rows.items in
     let shows = c.in_ok-rows.ensures.shown n numbered in
-    let all = all_show (class_of c.args.told.fates.now (own_class its.stubs.now its.errors.now (run_line c.args.plans.now))) c.args.report.now.rows rows shows in
+    let all = all_show (class_of c.args.told.fates.now (own_class its.stubs.now its.errors.now (run_line c.args.plans.now)))
+    c.args.report.now.rows rows shows in
     let given = subst (λ xs. AllShow xs (seen_at rows)) (sym c.deref.ensures.value) all in
     (rows, shows, (seen_at rows, all, c.in_ok-stored_rows_text.ensures.json (seen_at rows) given))

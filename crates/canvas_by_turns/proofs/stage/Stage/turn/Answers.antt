@@ -138,7 +138,7 @@ returns-in-Ok-step-clause-ok g c = λ n most es us xs reached.
     (g.met.T.Tasks.in_range c.args.tasks.now) c.args.plan.now c.args.worker c.args.self.now c.requires core now n most es us xs reached t
     (c.in-Ok.ensures.ok core now) c.tells_more-more.result (c.tells_more-more.ensures core then)
     _ c.step.new.core c.in-Ok-step.ensures.ok refl (one_fewer t.steps (λ e. c.if-self-eq0.false (sym kept.2 ∙ e))) c.in-Ok-step.ensures.again refl
-    c.in-Ok-step.ensures.sent
+    c.in-Ok-step.ensures.noted
 
 pub returns-in-Err-step-clause-err : goal.returns-in-Err-step-clause-err
 returns-in-Err-step-clause-err g c = λ n most es us xs reached.

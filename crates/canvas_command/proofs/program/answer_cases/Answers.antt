@@ -1,0 +1,31 @@
+use Rattle.std.proofs.Common.{subst}
+use Rattle.std.proofs.lemmas.Result.{IfOk-weaker}
+use Rattle.canvas_stubs.specs.Stubs.{stubs_behaviour}
+use Rattle.canvas_answer.specs.Asking.{asked_of}
+use Rattle.canvas_answer.specs.Plans.{IsCanvasOf}
+use Rattle.canvas_command.specs.Failing.{IsFailuresDone}
+use Rattle.canvas_command.proofs.program.answer_cases.Goals as goal
+
+pub returns-in-Ok : goal.returns-in-Ok
+returns-in-Ok g c =
+    let cases = c.in-Ok.cases in
+    let adapts = c.args.request.now.adapts in
+    let answers = c.args.answers in
+    let behaviour = g.T.Tasks.behaviour c.args.tasks.now in
+    let (read, adapted, worded, called) = c.in-Ok.ensures in
+    let bytes = subst (λ x. IsCanvasOf adapts x cases.canvas) c.deref.ensures.value read in
+    IfOk-weaker c.answer_failures.result _ _
+    (λ a done. (
+      c.in_ok-text-2.text.items,
+      c.in_ok-text-2.ensures.read,
+      (
+        cases.canvas,
+        bytes,
+        subst (λ t. IsFailuresDone (stubs_behaviour answers.stubs.items (g.T.Tasks.behaviour t))
+            (asked_of adapts answers) cases.canvas c.args.failures.fails a) called
+            (subst (λ b. IsFailuresDone (stubs_behaviour answers.stubs.items (g.T.Tasks.behaviour cases.tasks.now)) (asked_of b answers) cases.canvas
+            c.args.failures.fails a)
+            adapted done),
+      ),
+    ))
+    c.answer_failures.ensures.status

@@ -1,0 +1,117 @@
+//! The parts of a step's line.
+
+ghost use Rattle.std.specs.Prelude.{◌≡◌, ◌++◌, OnOk, take, drop, decimal};
+ghost use Rattle.canvas_steps.specs.Lines.{ask_text, group_member, identifier, more_text, named_text, stored_text, task_member};
+
+use canvas_backend::Stored;
+use canvas_task::{GroupNo, TaskNo, group_text, task_text};
+use std::alloc::{AllocError, Global};
+
+/// What stands in the properties of a message before the identifier of its task.
+const BEFORE_IDENTIFIER: usize = 79;
+
+pub(crate) fn put(text: &mut Vec<u8>, piece: &[u8]) -> Result<(), AllocError>
+    ensures { OnOk result (text.new.items ≡ text.old.items ++ piece.now) }
+{
+    text.extend_from_slice(piece)
+}
+
+/// The bytes before an index.
+fn up_to(bytes: &[u8], end: usize) -> &[u8]
+    ensures { result.now ≡ take end bytes.now }
+{
+    &bytes[..end.min(bytes.len())]
+}
+
+/// The bytes from an index on.
+fn from(bytes: &[u8], start: usize) -> &[u8]
+    ensures { result.now ≡ drop start bytes.now }
+{
+    &bytes[start.min(bytes.len())..]
+}
+
+/// The identifier that the properties of a message name, in its quotes.
+pub(crate) fn identifier(properties: &[u8]) -> &[u8]
+    ensures { result.now ≡ identifier properties.now }
+{
+    let rest = from(properties, BEFORE_IDENTIFIER);
+    up_to(rest, rest.len().saturating_sub(1))
+}
+
+/// Adds the beginning of a line, up to what was asked.
+pub(crate) fn put_ask(text: &mut Vec<u8>, ask: &[u8]) -> Result<(), AllocError>
+    ensures { OnOk result (text.new.items ≡ text.old.items ++ ask_text ask.now) }
+{
+    put(text, b"{\"ask\":\"")?;
+    put(text, ask)?;
+    put(text, b"\"")
+}
+
+/// Adds the identifier of a task, or null, as a member.
+pub(crate) fn put_named(text: &mut Vec<u8>, identifier: &[u8]) -> Result<(), AllocError>
+    ensures { OnOk result (text.new.items ≡ text.old.items ++ named_text identifier.now) }
+{
+    put(text, b",\"task_id\":")?;
+    put(text, identifier)
+}
+
+/// Adds the identifier of a task as a member.
+pub(crate) fn put_task(text: &mut Vec<u8>, task: TaskNo) -> Result<(), AllocError>
+    ensures { OnOk result (text.new.items ≡ text.old.items ++ task_member task) }
+{
+    put(text, b",\"task_id\":\"")?;
+    put(text, &task_text(task))?;
+    put(text, b"\"")
+}
+
+/// Adds the identifier of a chord as a member.
+pub(crate) fn put_group(text: &mut Vec<u8>, group: GroupNo) -> Result<(), AllocError>
+    ensures { OnOk result (text.new.items ≡ text.old.items ++ group_member group) }
+{
+    put(text, b",\"group_id\":\"")?;
+    put(text, &group_text(group))?;
+    put(text, b"\"")
+}
+
+/// Adds a number.
+fn put_decimal(text: &mut Vec<u8>, alloc: Global, number: u64) -> Result<(), AllocError>
+    ensures { OnOk result (text.new.items ≡ text.old.items ++ decimal number) }
+{
+    let digits = format!(in alloc; "{number}")?;
+    put(text, digits.as_bytes())
+}
+
+/// Adds a number as a member.
+pub(crate) fn put_number(
+    text: &mut Vec<u8>,
+    alloc: Global,
+    name: &[u8],
+    number: u64,
+) -> Result<(), AllocError>
+    ensures { OnOk result (text.new.items
+        ≡ text.old.items ++ (name.now ++ decimal number)) }
+{
+    put(text, name)?;
+    put_decimal(text, alloc, number)
+}
+
+/// What a store answered, as a member.
+pub(crate) fn stored_member(stored: Stored) -> &'static [u8]
+    ensures { result.now ≡ stored_text stored }
+{
+    match stored {
+        Stored::First => b",\"stored\":\"First\"",
+        Stored::Again => b",\"stored\":\"Again\"",
+    }
+}
+
+/// Whether more may come, as a member.
+pub(crate) fn more_member(more: bool) -> &'static [u8]
+    ensures { result.now ≡ more_text more }
+{
+    if more {
+        b",\"more\":true"
+    } else {
+        b",\"more\":false"
+    }
+}
