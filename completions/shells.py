@@ -50,7 +50,7 @@ class NoAnswer(Exception):
 
 
 def noted_in(noted: Path, count: int, terminal: int, shell: str) -> list[str]:
-    """The lines of a file, when it has so many. What the terminal gets is read meanwhile."""
+    """The lines of a file, once there are `count`. What the terminal gets is read meanwhile."""
     end, shown = time.monotonic() + SECONDS, b""
     while time.monotonic() < end:
         if select.select([terminal], [], [], 0.005)[0]:

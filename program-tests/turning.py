@@ -170,7 +170,8 @@ def steps(canvas, workers, turns, entries=(), stubs=None):
 
 
 def by_words(canvas, turns, entries, stubs):
-    """The same by words such as `--workers 2 --turns=1,2` and `--again=1:early`."""
+    """Like `steps`, but with the turns as words: `--workers 2 --turns=1,2`, and
+    the entries as `--again=1:early`."""
     workers = int(turns[turns.index("--workers") + 1])
     listed = [word.partition("=")[2] for word in [turns[-1], entries[0]]]
     numbers = [int(it) for it in listed[0].split(",") if it]
