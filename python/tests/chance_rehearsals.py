@@ -2,7 +2,7 @@
 
     python3 chance_rehearsals.py COUNT    with the program that $CANVAS names
 
-The canvases are those of program-tests/chance. Each is rehearsed in the order of one worker and in
+The canvases are those of tests/program/chance. Each is rehearsed in the order of one worker and in
 two that are drawn, with a message delivered again. The report has to be that of run(); the order of
 one worker, that of the program's messages; and no message of a run by turns of up to eight workers
 may come before one that it has to come after. The status is 1 if something isn't so.
@@ -21,7 +21,7 @@ from uuid import UUID
 sys.dont_write_bytecode = True
 
 TOP = Path(__file__).resolve().parent.parent.parent
-sys.path[:0] = [str(TOP / "program-tests"), str(TOP / "python" / "src")]
+sys.path[:0] = [str(TOP / "tests/program"), str(TOP / "python" / "src")]
 
 import rules
 from bevtragi import Refused, rehearse, run
@@ -87,8 +87,8 @@ TASKS = {f"tasks.{it.__name__}": it for it in (add, mul, div, ident, xsum, log_e
 
 @functools.lru_cache(maxsize=None)
 def module_of(name):
-    """A script of program-tests, as a module."""
-    loader = SourceFileLoader(name, str(TOP / "program-tests" / name))
+    """A script of tests/program, as a module."""
+    loader = SourceFileLoader(name, str(TOP / "tests/program" / name))
     module = module_from_spec(spec_from_loader(name, loader))
     loader.exec_module(module)
     return module

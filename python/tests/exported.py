@@ -1,5 +1,5 @@
 """Runs the five flows on a real Celery worker, with no task failing and with each failing in turn,
-and compares what it calls and stores with what_if(). `./try-celery` starts it.
+and compares what it calls and stores with what_if(). `tools/try-celery` starts it.
 
     python3 exported.py PLACE    a Redis of its own: the path of its socket, or a port of 127.0.0.1
 """

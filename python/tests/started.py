@@ -1,5 +1,5 @@
 """Starts the flows of `user_flows` by `apply_async()` on real workers, well and with tasks failing,
-each as it is and as `cured()` gives it, and says what became of each run. `./try-celery` calls it.
+each as it is and as `cured()` gives it, and says what became of each run. `tools/try-celery` calls it.
 
     python3 started.py PLACE [--write]    a Redis of its own: a socket's path, or a port of 127.0.0.1
     python3 started.py PLACE --of FLOW    a JSON object for each run of one flow

@@ -1,6 +1,6 @@
 //! Calls that may be refused memory, each once and, where a growth was refused, once more.
-//! `./refuse-memory` runs each of these tests with each growth refused in turn, one in a run; in
-//! the gate there is none. So a call that is refused for no growth fails both.
+//! `tools/refuse-memory` runs each of these tests with each growth refused in turn, one in a run;
+//! in the gate there is none. So a call that is refused for no growth fails both.
 
 mod again;
 mod objects;
