@@ -18,7 +18,7 @@ use std::rt::Files;
 const MOST_RESULTS: usize = 67_108_864;
 
 /// How many bytes are read at a time.
-const CHUNK: usize = 4096;
+const CHUNK: usize = 2048;
 
 /// The greatest block that malloc is made to keep, in bytes.
 const KEPT: usize = 4_194_304;
@@ -33,7 +33,12 @@ pub fn keep_blocks(alloc: Global) {
 
 /// Reads once, as far as there is room for more, and says whether that was the end. A read that is
 /// interrupted finds nothing.
-fn read_more<R: Read>(reader: &mut R, text: &mut Vec<u8>, most: usize) -> io::Result<bool>
+fn read_more<R: Read>(
+    reader: &mut R,
+    chunk: &mut [u8; CHUNK],
+    text: &mut Vec<u8>,
+    most: usize,
+) -> io::Result<bool>
     requires { length text.old.items < most }
     ensures read { IfOk result (λ is_end. (bytes : Text)
         × (text.new.items ≡ text.old.items ++ bytes)
@@ -41,7 +46,6 @@ fn read_more<R: Read>(reader: &mut R, text: &mut Vec<u8>, most: usize) -> io::Re
         × (is_end ≡ true → IsAtEnd (R.remaining reader.new))) }
     ensures within { OnOk result (length text.new.items ≤ most) }
 {
-    let mut chunk = [0u8; CHUNK];
     let room = (most - text.len()).min(CHUNK);
     match reader.read(&mut chunk[..room]) {
         Ok(count) => {
@@ -60,8 +64,10 @@ fn read_at_most<R: Read>(alloc: Global, reader: &mut R, most: usize) -> io::Resu
         (λ bytes. text.items ≡ take most bytes)) }
 {
     let mut text = Vec::new(alloc);
+    // One for all reads, since it is filled with zeros when it is made.
+    let mut chunk = [0u8; CHUNK];
     for _ in 0..most {
-        if read_more(reader, &mut text, most)? || text.len() == most {
+        if read_more(reader, &mut chunk, &mut text, most)? || text.len() == most {
             return Ok(text);
         }
     }
