@@ -151,7 +151,7 @@ class Template(unittest.TestCase):
     def test_each_part_is_in_the_page(self):
         made = page(s("a"), workers=())
         for it in TEMPLATE.iterdir():
-            if it.suffix != ".html":
+            if it.name not in ("page.html", "answers.js"):
                 self.assertIn(it.read_text("utf-8"), made, it.name)
         self.assertIsNone(re.search(r"\{\{[a-z ]+\}\}", made))
 

@@ -1,7 +1,7 @@
 # What ./canvas and ./try answer while there is no program: help, the version, an unknown command, and a FILE that can't be read. The program answers
 # everything else. Whoever reads this has set `top`.
 
-commands=(run turns normal check adapt graph messages export keys collect help)
+commands=(run turns normal check adapt graph page messages export keys collect help)
 
 # Sets `command`, and from the words after it `files` and `options`, each with its value.
 read_words() {

@@ -1,5 +1,5 @@
 -- What a command asks for with what is given for its options.
-use Rattle.std.specs.Prelude.{◌≡◌, ℕ, Bool, true, false, if◌then◌else◌, List, Option, None, Some, codes, option_map, unwrap_or, not}
+use Rattle.std.specs.Prelude.{◌≡◌, ◌≢◌, ℕ, Bool, true, false, if◌then◌else◌, List, Option, None, Some, codes, option_map, unwrap_or, not}
 use Rattle.clap.specs.Walk.{Row, first_of}
 use Rattle.canvas_adapt.specs.RenameTexts.{AreRenameTexts}
 use Rattle.canvas_celery.specs.declared.run_number.Run as run_number
@@ -9,7 +9,7 @@ use Rattle.canvas_lists.specs.declared.entry_list.EntryFault.TheVariants.{BadAga
 use Rattle.canvas_lists.specs.TurnList.{IsTurnList}
 use Rattle.canvas_task.specs.Text.{Text}
 use Rattle.canvas_words.specs.declared.subcommand.Subcommand.{Subcommand}
-use Rattle.canvas_words.specs.declared.subcommand.Subcommand.TheVariants.{Run, Turns, Normal, Check, Adapt, Graph, Messages, Export, Keys, Collect}
+use Rattle.canvas_words.specs.declared.subcommand.Subcommand.TheVariants.{Run, Turns, Normal, Check, Adapt, Graph, Page, Messages, Export, Keys, Collect}
 use Rattle.canvas_answer.specs.Given.{IsFlag, IsNumber, IsNumberOf, text_of, texts_of}
 use Rattle.canvas_answer.specs.declared.again.Again.{Again}
 use Rattle.canvas_answer.specs.declared.again.Again.TheVariants as again
@@ -101,6 +101,8 @@ module _ (given : List Row) where
       × IsAgain (first_of (codes "again") given) again × IsFlag given (codes "steps") steps
       × IsManner (codes "fail") manner
   IsVerb Normal (verb.Normal numbers) = IsFlag given (codes "numbers") numbers
+  -- of a page without a word for failures, but it has one, given or not
+  IsVerb Page (verb.Normal numbers) = IsFlag given (codes "numbers") numbers
   IsVerb Check (verb.Check manner) = IsManner (codes "strict") manner
   IsVerb Adapt (verb.Adapt renames) =
       AreRenameTexts (texts_of given (codes "rename")) renames.items
@@ -128,13 +130,20 @@ module _ (given : List Row) where
   abbrev pub AreFailures : (word : Option Text) → failures.Failures → Type 0
   AreFailures word f = (word ≡ Some f.word.now) × IsFlag given (codes "fail") f.fails
 
+  -- in lines, or by the command for that in a page
+  abbrev pub AreFailuresBy : Subcommand → (word : Option Text) → Work → Type 0
+  AreFailuresBy command word (work.Failures f) = (command ≢ Page) × AreFailures word f
+  AreFailuresBy command word (work.Page f) = (command ≡ Page) × AreFailures word f
+  AreFailuresBy command word other = ⊥
+
   abbrev pub IsWork : Subcommand → Work → Type 0
   IsWork command (One v) =
       IsFlag given (codes "each") false × (first_of (codes "failures") given ≡ None)
       × IsVerb command v
   IsWork command (Each e) = IsFlag given (codes "each") true × IsEach e
-  IsWork command (work.Failures f) =
-      IsFlag given (codes "each") false × AreFailures (first_of (codes "failures") given) f
+  IsWork command work =
+      IsFlag given (codes "each") false
+      × AreFailuresBy command (first_of (codes "failures") given) work
 
   pub record IsRequest (command : Subcommand) (r : Request) : Type 0 where
     pub work : IsWork command r.work

@@ -76,7 +76,7 @@ impl Answer {
     }
 
     /// The same for a program, of which each byte is printed as it is.
-    pub(crate) fn raw(bytes: Vec<u8>) -> Answer
+    pub fn raw(bytes: Vec<u8>) -> Answer
         ensures { AnswersAll bytes.items 0 result }
     {
         Answer::of(Output::Bytes(bytes))
@@ -198,7 +198,8 @@ impl Answer {
         }
     }
 
-    fn write_out<W: Write>(&self, alloc: Global, out: &mut W) -> io::Result<()>
+    /// Writes what goes to standard output.
+    pub fn write_out<W: Write>(&self, alloc: Global, out: &mut W) -> io::Result<()>
         ensures { OnOk result (Appends (W.contents out.old) (W.contents out.new)
             (printed_out self.now)) }
     {

@@ -67,18 +67,20 @@ pub(crate) fn check_raise(alloc: Global, word: &str) -> Result<(), Refusal> {
 /// A canvas, and what all its cases have in common.
 #[derive(Drop)]
 pub struct Cases<'a, T> {
-    canvas: Canvas,
-    text: &'a [u8],
-    adapts: bool,
-    word: &'a str,
-    tasks: &'a T,
+    pub canvas: Canvas,
+    pub text: &'a [u8],
+    pub adapts: bool,
+    /// What the task fails with.
+    pub word: &'a str,
+    /// What tasks answer that have no stub.
+    pub tasks: &'a T,
 }
 
 /// What is made anew for each case: the plans, and what tasks answer.
 #[derive(Drop)]
 pub struct Ready {
-    plans: Plans,
-    answers: Answers,
+    pub plans: Plans,
+    pub answers: Answers,
 }
 
 impl Ready {
@@ -108,8 +110,8 @@ impl<'a, T: Tasks> Cases<'a, T> {
         tasks: &'a T,
     ) -> Result<Cases<'a, T>, Refusal>
         ensures { IfOk result (λ cases. IsCanvasOf adapts text.now cases.canvas
-            × (cases.adapts ≡ adapts) × (cases.word.now ≡ word.now)
-            × (cases.tasks.now ≡ tasks.now)) }
+            × (cases.text.now ≡ text.now) × (cases.adapts ≡ adapts)
+            × (cases.word.now ≡ word.now) × (cases.tasks.now ≡ tasks.now)) }
     {
         let Prepared { canvas, .. } = Prepared::of(alloc, text, adapts)?;
         Ok(Cases {

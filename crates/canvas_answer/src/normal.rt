@@ -39,7 +39,7 @@ fn line_text(alloc: Global, canvas: &Canvas) -> Result<String, Memory>
 }
 
 /// The line of a plan as JSON, which names its tasks, groups and chords, with a line feed.
-fn numbered_line(alloc: Global, plan: &Plan) -> Result<String, AllocError>
+pub fn numbered_line(alloc: Global, plan: &Plan) -> Result<String, AllocError>
     ensures { IfOk result (λ text. string_bytes text ≡ numbered_line plan.now) }
 {
     let mut text = numbered_text(alloc, plan.line())?;

@@ -2,3 +2,4 @@ pub mod Pictures
 pub mod Wording
 pub mod Printed
 pub mod Cases
+mod Paging

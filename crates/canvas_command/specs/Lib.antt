@@ -4,3 +4,4 @@ pub mod Asked
 pub mod Worded
 pub mod Each
 pub mod Failing
+pub mod Paged

@@ -16,12 +16,13 @@ use Rattle.canvas_answer.specs.Stubbing.{AreAnswers}
 use Rattle.canvas_answer.specs.declared.answer.Answer.{Answer}
 use Rattle.canvas_answer.specs.declared.asked.Request.{Request}
 use Rattle.canvas_answer.specs.declared.asked.Work.{Work}
-use Rattle.canvas_answer.specs.declared.asked.Work.TheVariants.{One, Each, Failures}
+use Rattle.canvas_answer.specs.declared.asked.Work.TheVariants.{One, Each, Failures, Page}
 use Rattle.canvas_answer.specs.declared.refusal.Refusal.{Refusal}
 use Rattle.canvas_answer.specs.declared.stubs.Answers.{Answers}
 use Rattle.canvas_command.specs.Asked.{IsAnswerTo}
 use Rattle.canvas_command.specs.Each.{IsEachDone}
 use Rattle.canvas_command.specs.Failing.{IsFailuresDone}
+use Rattle.canvas_command.specs.Paged.{IsPaged}
 
 -- why there is nothing
 abbrev pub IsRefused : Answer → Type 0
@@ -40,19 +41,22 @@ module _ (behaviour : Behaviour) (input : Option Text) where
   abbrev pub IsWorkDone : Asking → (file : Text) → Work → Answer → Type 0
   IsWorkDone its file (One verb) a =
       (bytes : Text) × IsCanvasRead file input bytes
-      × IsAnswerTo behaviour its bytes verb a
+      × IsAnswerTo (stubs_behaviour its.stubs behaviour) its bytes verb a
   IsWorkDone its file (Each each) a = IsEachDone each.fails a
   IsWorkDone its file (Failures failures) a =
       (bytes : Text) × IsCanvasRead file input bytes
       × ((c : Tree) × IsCanvasOf its.adapts bytes c
-      × IsFailuresDone behaviour its c failures.fails a)
+      × IsFailuresDone (stubs_behaviour its.stubs behaviour) its c failures.fails a)
+  IsWorkDone its file (Page failures) a =
+      (bytes : Text) × IsCanvasRead file input bytes
+      × IsPaged behaviour its failures.word.now bytes a
 
 module _ (behaviour : Behaviour) (input : Option Text) where
   -- where some tasks answer so
   abbrev pub IsAnswerWith : Request → Answers → Answer → Type 0
   IsAnswerWith request answers a =
-      IsWorkDone (stubs_behaviour answers.stubs.items behaviour) input
-      (asked_of request.adapts answers) request.file.now request.work a
+      IsWorkDone behaviour input (asked_of request.adapts answers) request.file.now
+      request.work a
 
   -- what the words ask for is done
   abbrev pub IsDoneFor : (words : List Text) → Answer → Type 0

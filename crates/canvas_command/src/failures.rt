@@ -24,7 +24,7 @@ use canvas_task::Tasks;
 use std::alloc::Global;
 use std::io::Write;
 
-fn print<W: Write>(out: &mut W, line: &str) -> Result<(), Refusal>
+pub(crate) fn print<W: Write>(out: &mut W, line: &str) -> Result<(), Refusal>
     ensures { OnOk result (Appends (W.contents out.old) (W.contents out.new) (printed line.now)) }
 {
     match print_line(out, line) {
@@ -34,7 +34,7 @@ fn print<W: Write>(out: &mut W, line: &str) -> Result<(), Refusal>
 }
 
 /// Prints the line of each case, in the order of the tasks' numbers.
-fn print_cases<T: Tasks, W: Write>(
+pub(crate) fn print_cases<T: Tasks, W: Write>(
     alloc: Global,
     cases: &Cases<'_, T>,
     ready: Ready,

@@ -1,5 +1,5 @@
 //! `canvas run` and `canvas turns`.
-ghost use Rattle.std.specs.Prelude.{◌≡◌, IfErr, IfOk, None, Option, ℕ};
+ghost use Rattle.std.specs.Prelude.{◌≡◌, [], false, IfErr, IfOk, None, Option, ℕ};
 ghost use Rattle.canvas_answer.specs.Asking.{asking};
 ghost use Rattle.canvas_answer.specs.Plans.{ArePlansOf, run_line};
 ghost use Rattle.canvas_semantics.specs.Line.{tree_of};
@@ -14,7 +14,7 @@ use canvas_answer::answer::{Answer, Remark};
 use canvas_answer::plan::lasting;
 use canvas_answer::prepared::Plans;
 use canvas_answer::refusal::Refusal;
-use canvas_answer::reporting::Manner;
+use canvas_answer::reporting::{Form, Manner};
 use canvas_answer::source::Source;
 use canvas_engine::{
     OpenGate, Report, RunFault, Stop, When, run, run_turns_again, run_turns_stepped,
@@ -217,6 +217,34 @@ impl ByTurns<'_> {
         let plans = lasting(source.checked_plans(alloc)?);
         self.told_named(alloc, names, &plans, source)
     }
+}
+
+/// The steps of a run by some workers that take turns from 1, where all is delivered again if that
+/// is asked for.
+pub(crate) fn answer_steps<T: Tasks>(
+    alloc: Global,
+    workers: u32,
+    again: bool,
+    plans: &Plans,
+    source: &Source<'_, T>,
+) -> Result<Answer, Refusal>
+    ensures { ArePlansOf (asking source.now.setting) source.now.text.now plans.now.shown
+        (run_line plans.now)
+        → IfOk result (IsSteppedOf (T.behaviour source.now.tasks.now)
+        (asking source.now.setting) source.now.text.now workers [] false) }
+{
+    let by = ByTurns {
+        workers,
+        turns: &[],
+        again: &[],
+        counts: false,
+        steps: true,
+        manner: Manner {
+            form: Form::Json,
+            fails: false,
+        },
+    };
+    by.told_named(alloc, again.then_some("all"), plans, source)
 }
 
 /// The report of a run by turns, with what is delivered again, where that is asked for; or its

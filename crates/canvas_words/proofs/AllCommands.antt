@@ -7,7 +7,7 @@ use Rattle.std.proofs.lemmas.Slice.Eq.{bytes_eq-Decides}
 use Rattle.canvas_words.specs.Names.{command_name}
 use Rattle.canvas_words.specs.Options.{all, named_among}
 use Rattle.canvas_words.specs.declared.subcommand.Subcommand.{Subcommand}
-use Rattle.canvas_words.specs.declared.subcommand.Subcommand.TheVariants.{Run, Turns, Normal, Check, Adapt, Graph, Messages, Export, Keys, Collect}
+use Rattle.canvas_words.specs.declared.subcommand.Subcommand.TheVariants.{Run, Turns, Normal, Check, Adapt, Graph, Page, Messages, Export, Keys, Collect}
 
 abbrev pub Has : Subcommand → List Subcommand → Type 0
 Has c [] = ⊥
@@ -24,10 +24,11 @@ all_there Normal = inr (inr (inl refl))
 all_there Check = inr (inr (inr (inl refl)))
 all_there Adapt = inr (inr (inr (inr (inl refl))))
 all_there Graph = inr (inr (inr (inr (inr (inl refl)))))
-all_there Messages = inr (inr (inr (inr (inr (inr (inl refl))))))
-all_there Export = inr (inr (inr (inr (inr (inr (inr (inl refl)))))))
-all_there Keys = inr (inr (inr (inr (inr (inr (inr (inr (inl refl))))))))
-all_there Collect = inr (inr (inr (inr (inr (inr (inr (inr (inr (inl refl)))))))))
+all_there Page = inr (inr (inr (inr (inr (inr (inl refl))))))
+all_there Messages = inr (inr (inr (inr (inr (inr (inr (inl refl)))))))
+all_there Export = inr (inr (inr (inr (inr (inr (inr (inr (inl refl))))))))
+all_there Keys = inr (inr (inr (inr (inr (inr (inr (inr (inr (inl refl)))))))))
+all_there Collect = inr (inr (inr (inr (inr (inr (inr (inr (inr (inr (inl refl))))))))))
 
 pub all_left : (name : List ℕ) → Left name all
 all_left name c is = all_there c
@@ -37,7 +38,7 @@ other name c d ds is differs (inl same) = absurd (differs (sym (is ∙ ap comman
 other name c d ds is differs (inr has) = has
 
 -- one that has another name is none of those left
-pub still_left : (name told : List ℕ) (i : ℕ) (same : Bool) → i < 10 → Left name (drop i all) → told ≡ command_name (get_or all i Run)
+pub still_left : (name told : List ℕ) (i : ℕ) (same : Bool) → i < 11 → Left name (drop i all) → told ≡ command_name (get_or all i Run)
     → same ≡ bytes_eq told name → same ≡ false → Left name (drop (i + 1) all)
 still_left name told i same short left is test fails =
     let differs : told ≢ name = not_from_Decides (bytes_eq told name) (bytes_eq-Decides told name) (sym test ∙ fails) in
@@ -49,13 +50,13 @@ still_left name told i same short left is test fails =
 abbrev first_or : List ℕ → Subcommand → Option Subcommand → Bool → Option Subcommand
 first_or name c rest same = if same then Some c else rest
 
-at_place : (name : List ℕ) (i : ℕ) (same : Bool) → i < 10 → same ≡ bytes_eq (command_name (get_or all i Run)) name
+at_place : (name : List ℕ) (i : ℕ) (same : Bool) → i < 11 → same ≡ bytes_eq (command_name (get_or all i Run)) name
     → named_among (drop i all) name ≡ first_or name (get_or all i Run) (named_among (drop (i + 1) all) name) same
 at_place name i same short test =
     ap (λ cs. named_among cs name) (drop_more all i Run short)
     ∙ ap (first_or name (get_or all i Run) (named_among (drop (i + 1) all) name)) (sym test)
 
-pub not_here : (name told : List ℕ) (i : ℕ) (same : Bool) → i < 10 → named_among all name ≡ named_among (drop i all) name
+pub not_here : (name told : List ℕ) (i : ℕ) (same : Bool) → i < 11 → named_among all name ≡ named_among (drop i all) name
     → told ≡ command_name (get_or all i Run) → same ≡ bytes_eq told name → same ≡ false
     → named_among all name ≡ named_among (drop (i + 1) all) name
 not_here name told i same short so_far is test fails =

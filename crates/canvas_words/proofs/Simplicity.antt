@@ -3,7 +3,7 @@ use Rattle.std.proofs.Common.{◌≡◌, [], Option, Some, None, map, true, code
 use Rattle.clap.specs.Simple.{App, is_simple, new_shape}
 use Rattle.canvas_words.specs.Options.{command, offered, program}
 use Rattle.canvas_words.specs.declared.subcommand.Subcommand.{Subcommand}
-use Rattle.canvas_words.specs.declared.subcommand.Subcommand.TheVariants.{Run, Turns, Normal, Check, Adapt, Graph, Messages, Export, Keys, Collect}
+use Rattle.canvas_words.specs.declared.subcommand.Subcommand.TheVariants.{Run, Turns, Normal, Check, Adapt, Graph, Page, Messages, Export, Keys, Collect}
 use Rattle.canvas_words.proofs.Added.{with_commands}
 
 abbrev pub no_commands : App
@@ -26,6 +26,7 @@ simple (Some Normal) = refl
 simple (Some Check) = refl
 simple (Some Adapt) = refl
 simple (Some Graph) = refl
+simple (Some Page) = refl
 simple (Some Messages) = refl
 simple (Some Export) = refl
 simple (Some Keys) = refl

@@ -10,7 +10,7 @@ use Rattle.clap.specs.declared.error.kind.ErrorKind.{ErrorKind}
 use Rattle.clap.specs.declared.error.kind.ErrorKind.TheVariants.{DisplayHelp, DisplayVersion}
 use Rattle.canvas_words.specs.Names.{command_name}
 use Rattle.canvas_words.specs.declared.subcommand.Subcommand.{Subcommand}
-use Rattle.canvas_words.specs.declared.subcommand.Subcommand.TheVariants.{Run, Turns, Normal, Check, Adapt, Graph, Messages, Export, Keys, Collect}
+use Rattle.canvas_words.specs.declared.subcommand.Subcommand.TheVariants.{Run, Turns, Normal, Check, Adapt, Graph, Page, Messages, Export, Keys, Collect}
 
 -- ---- kinds of options
 
@@ -86,6 +86,9 @@ options Adapt = file ∷ texts (codes "rename") ∷ json ∷ []
 options Graph =
     file ∷ flag (codes "run") ∷ workers ∷ adapt ∷ task ∷ tasks ∷ text (codes "results")
     ∷ text (codes "of") ∷ flag (codes "complete") ∷ json ∷ []
+options Page =
+    file ∷ or_else (codes "raise:Exception") (text (codes "failures")) ∷ adapt ∷ task ∷ tasks
+    ∷ json ∷ []
 options Messages =
     file ∷ workers ∷ turns ∷ flag (codes "calls") ∷ adapt ∷ task ∷ tasks ∷ json ∷ []
 options Export =
@@ -114,7 +117,8 @@ program cs =
     }
 
 abbrev pub all : List Subcommand
-all = Run ∷ Turns ∷ Normal ∷ Check ∷ Adapt ∷ Graph ∷ Messages ∷ Export ∷ Keys ∷ Collect ∷ []
+all =
+    Run ∷ Turns ∷ Normal ∷ Check ∷ Adapt ∷ Graph ∷ Page ∷ Messages ∷ Export ∷ Keys ∷ Collect ∷ []
 
 -- the first of these commands that has the name
 abbrev pub named_among : List Subcommand → List ℕ → Option Subcommand

@@ -99,6 +99,14 @@ pub(crate) const FAILURES: Argument = Argument {
     help: "Prints what becomes of it if only one task fails, for each task, as JSON; WORD is raise:CLASS",
 };
 
+/// The same, where there is such a word even if none is given.
+pub(crate) const PAGE_FAILURES: Argument = Argument {
+    name: "failures",
+    takes: Takes::Text("WORD"),
+    given: Given::Else("raise:Exception"),
+    help: "What a task fails with, as raise:CLASS",
+};
+
 pub(crate) const TASK: Argument = Argument {
     name: "task",
     takes: Takes::Texts("NAME=WORD"),

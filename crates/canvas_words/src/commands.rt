@@ -10,9 +10,9 @@ ghost use Rattle.canvas_words.specs.steps.Rules.{rule};
 use crate::Subcommand;
 use crate::arguments::{
     ADAPT, AGAIN, Argument, BACKEND_DATABASE, BROKER_DATABASE, CALLS, COMPLETE, EACH, EXPIRES,
-    EXPLAIN, FAIL, FAILURES, FIGURES_JSON, FILE, FILE_ALONE, JSON, NULL, NUMBERS, OF, PREFIX,
-    QUEUE, REFUSAL_JSON, RENAME, RESULTS, RUN, STATES, STEPS, STRICT, TASK, TASKS, TURNS, VALUES,
-    WITH_TASKS, WITHOUT_SCRIPT, WORKERS, arguments_of,
+    EXPLAIN, FAIL, FAILURES, FIGURES_JSON, FILE, FILE_ALONE, JSON, NULL, NUMBERS, OF,
+    PAGE_FAILURES, PREFIX, QUEUE, REFUSAL_JSON, RENAME, RESULTS, RUN, STATES, STEPS, STRICT, TASK,
+    TASKS, TURNS, VALUES, WITH_TASKS, WITHOUT_SCRIPT, WORKERS, arguments_of,
 };
 use clap::Command;
 use std::alloc::{AllocError, Global};
@@ -40,6 +40,9 @@ static GRAPH: [Argument; 10] = [
     COMPLETE,
     REFUSAL_JSON,
 ];
+
+/// Those of `page`.
+static PAGE: [Argument; 6] = [FILE, PAGE_FAILURES, ADAPT, TASK, TASKS, REFUSAL_JSON];
 
 /// Those of `messages`.
 static MESSAGES: [Argument; 8] = [
@@ -100,6 +103,9 @@ impl Subcommand {
             Subcommand::Graph => {
                 "Prints a canvas as a picture, in the language of Graphviz's `dot`"
             }
+            Subcommand::Page => {
+                "Prints an HTML page that shows a canvas, what becomes of it if a task fails, and its runs"
+            }
             Subcommand::Messages => {
                 "Prints each message that a run by turns publishes, as JSON with its three texts"
             }
@@ -123,6 +129,7 @@ impl Subcommand {
             Subcommand::Check => &CHECK,
             Subcommand::Adapt => &ADAPT_ARGUMENTS,
             Subcommand::Graph => &GRAPH,
+            Subcommand::Page => &PAGE,
             Subcommand::Messages => &MESSAGES,
             Subcommand::Export => &EXPORT,
             Subcommand::Keys => &KEYS,

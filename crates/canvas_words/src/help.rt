@@ -35,7 +35,7 @@ immutable. An argument of another kind, or one too many or too few, is a TypeErr
 `raise:CLASS`, an exception by its name in letters, digits and _ (but Retry, Ignore and Reject,
 which are no failures). With the word add, div, ident, log_error, mul or xsum it answers as
 tasks.add and so on. It may be given again, for another name; the name * means each name that
-no task has, and on `run`, `turns` and `graph` `#3` means only the third task, by any name.
+no task has, and on `run`, `turns`, `graph` and `page` `#3` means only the third task, by any name.
 `--tasks FILE` has more, one a line; an empty line, and one that begins with #, says nothing, and
 what `--task` says of a name comes first. Another word or name, or a name that is there twice, is
 refused (BadTask). So is a name that `--task` says if no task of the canvas has it, unless it is *
@@ -88,6 +88,10 @@ file that can't be read or of bad words, with name and note.
 
 `graph` prints a picture for Graphviz, as in `canvas graph FILE --run | dot -Tsvg -o canvas.svg`:
 from left to right in time, groups and chords as frames, links and error callbacks dashed.
+`page` prints an HTML page, as in `canvas page FILE > canvas.html`, which needs no other file and
+contacts nothing. It shows what becomes of the canvas if a task fails, with the exception that
+--failures says, and its runs by 1, 2 and 4 workers; of more than 200 tasks only what becomes of it
+as it is.
 `messages` prints what a worker would get: the body, the headers and the properties of each
 message, as texts. `messages --calls` prints the call that each asks for as a JSON object in a line
 (after, args, header_after, kwargs, name, parent_id, task_id), and then the names of all tasks. A

@@ -13,6 +13,7 @@ pub enum Subcommand {
     Check,
     Adapt,
     Graph,
+    Page,
     Messages,
     Export,
     Keys,
@@ -21,13 +22,14 @@ pub enum Subcommand {
 
 impl Subcommand {
     /// All of them, in the order in which help names them.
-    pub(crate) const ALL: [Subcommand; 10] = [
+    pub(crate) const ALL: [Subcommand; 11] = [
         Subcommand::Run,
         Subcommand::Turns,
         Subcommand::Normal,
         Subcommand::Check,
         Subcommand::Adapt,
         Subcommand::Graph,
+        Subcommand::Page,
         Subcommand::Messages,
         Subcommand::Export,
         Subcommand::Keys,
@@ -45,6 +47,7 @@ impl Subcommand {
             Subcommand::Check => "check",
             Subcommand::Adapt => "adapt",
             Subcommand::Graph => "graph",
+            Subcommand::Page => "page",
             Subcommand::Messages => "messages",
             Subcommand::Export => "export",
             Subcommand::Keys => "keys",

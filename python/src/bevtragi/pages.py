@@ -5,11 +5,8 @@ All that the page shows is what the program and the installed Celery answered.
 
 from __future__ import annotations
 
-import base64
-import hashlib
 import html
 import os
-import re
 import tempfile
 import webbrowser
 from pathlib import Path
@@ -20,6 +17,7 @@ from .calling import program
 from .drawing import Drawn, drawn
 from .errors import BadCall, CanvasError, hidden
 from .failing import failures_of
+from .layout import framed
 from .page_celery import CeleryPart, celery_part
 from .page_data import Shown, as_block, happened, notes
 from .playing import check_workers, plays
@@ -29,13 +27,6 @@ from .texts import OWN, Answers, Canvas, lines_of, named
 __all__ = ["Page", "page"]
 
 __tracebackhide__ = hidden
-
-TEMPLATE = Path(__file__).resolve().with_name("template")
-
-#: The parts of the style and of the script, in their order.
-STYLES = ("page.css", "picture.css", "beside.css")
-SCRIPTS = ("text.js", "picture.js", "failures.js", "celery.js", "happened.js", "player.js",
-           "page.js")
 
 
 class Page(str):
@@ -95,13 +86,14 @@ def page(canvas: Canvas, tasks: Answers = {}, error: Any = Exception, title: str
     celery = celery_part(failures, judge)
     word = lines_of({"*": error})[0].partition("=")[2]
     stored = None if results is None else happened(results, line)
-    return Page(_filled({
+    head, tail = framed("data.js")
+    return Page(head + as_block({
         "title": title if title is not None else _title_of(canvas), "tasks": line.tasks,
         "line": line.line, "groups": _groups(line.line), "well": rows.well(),
         "failures": rows.failures(), "values": rows.values,
         "plays": plays(judge.text, answers, error, workers, failing),
         "notes": notes(failures.well.warnings), "celery": celery, "happened": stored,
-        "foot": _foot(word, celery, stored is not None)}))
+        "foot": _foot(word, celery, stored is not None)}) + tail)
 
 
 def _own(names: Sequence[str]) -> Dict[Any, Any]:
@@ -137,22 +129,3 @@ def _foot(word: str, celery: CeleryPart | None, has_happened: bool) -> List[str]
     if has_happened:
         said.append("What happened is what workers stored.")
     return [*said, "No task was called for this page, and it contacts nothing."]
-
-
-def _filled(data: Mapping[str, Any]) -> str:
-    """The template with its style, its script and these data. The page's policy lets only this
-    style and this script in, by their digests."""
-    style = "".join(map(_part, STYLES))
-    script = '\n"use strict";\n(() => {' + "".join(map(_part, SCRIPTS)) + "})();\n"
-    given = {"style": style, "script": script, "data": as_block(data),
-             "hash of style": _hash(style), "hash of script": _hash(script)}
-    return re.sub(r"\{\{([a-z ]+)\}\}", lambda found: given[found[1]],
-                  _part("page.html"))
-
-
-def _part(name: str) -> str:
-    return (TEMPLATE / name).read_text(encoding="utf-8")
-
-
-def _hash(text: str) -> str:
-    return f"sha256-{base64.b64encode(hashlib.sha256(text.encode()).digest()).decode()}"

@@ -4,7 +4,7 @@
 
 function rowsOf(failing) {
   const rows = data.well.rows.slice();
-  if (failing) {
+  if (failing && !data.omitted) {
     const { changes } = data.failures[failing - 1];
     for (const [from, to, ...row] of changes) rows.fill(row, from - 1, to);
   }
@@ -13,7 +13,7 @@ function rowsOf(failing) {
 
 const well = rowsOf(0);
 const isCalled = (row) => row[0] < 2;
-const endOf = (failing) => (failing ? data.failures[failing - 1] : data.well).end;
+const endOf = (failing) => (failing && !data.omitted ? data.failures[failing - 1] : data.well).end;
 const isSame = (one, other) => one === other || one.join() === other.join();
 
 function becomes([state, place, due]) {
@@ -61,7 +61,7 @@ function asItIs() {
   return [
     end,
     paragraph(uncalled ? `${called} called, ${uncalled} not.` : all),
-    paragraph("Choose a task to see what becomes of the canvas if it fails."),
+    paragraph(data.omitted || "Choose a task to see what becomes of the canvas if it fails."),
   ];
 }
 
@@ -69,6 +69,7 @@ function ifItFails(failing) {
   if (!isCalled(well[failing - 1])) {
     return [paragraph("It isn't called, so it can't fail. ", ...ending("The", endOf(failing)))];
   }
+  if (data.omitted) return [paragraph(data.omitted)];
   const { called, lost, unneeded, other, same } = changesOf(failing);
   const isLikeBefore = isSame(endOf(failing), endOf(0));
   const said = [paragraph(...ending(isLikeBefore ? "Even then the" : "Then the", endOf(failing)))];
@@ -86,6 +87,7 @@ function ifItFails(failing) {
 // What a row of the table says of the task's failure.
 function inShort(failing) {
   if (!isCalled(well[failing - 1])) return ["isn't called"];
+  if (data.omitted) return ["isn't kept"];
   const { called, lost } = changesOf(failing);
   const fails = endOf(failing)[0] === "FAILURE";
   const words = fails ? "canvas fails" : "canvas succeeds";

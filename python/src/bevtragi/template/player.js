@@ -155,7 +155,9 @@ function tellStep(last, total) {
   const said = [paragraph(last ? sentenceOf(last) : begun)];
   if (run.failing) said.push(paragraph("In this run ", ...references([run.failing]), " fails."));
   else if (chosen) said.push(paragraph(`No run in which #${chosen} fails is kept on this page.`));
-  else if (!step) said.push(paragraph("Choose a task to play a run in which it fails."));
+  else if (!step && data.plays.some((it) => it.failing)) {
+    said.push(paragraph("Choose a task to play a run in which it fails."));
+  }
   if (step === total) said.push(paragraph(...ending("All is done: the", endOf(run.failing))));
   byId("answer").replaceChildren(...said);
 }

@@ -1,7 +1,6 @@
 
 // Texts, signs and elements. Text of the canvas enters the document as text only.
 
-const data = JSON.parse(document.getElementById("data").textContent);
 const taskCount = data.tasks.length;
 const byId = (id) => document.getElementById(id);
 

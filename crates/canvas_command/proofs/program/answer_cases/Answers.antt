@@ -12,12 +12,12 @@ returns-in-Ok g c =
     let adapts = c.args.request.now.adapts in
     let answers = c.args.answers in
     let behaviour = g.T.Tasks.behaviour c.args.tasks.now in
-    let (read, adapted, worded, called) = c.in-Ok.ensures in
+    let (read, texted, adapted, worded, called) = c.in-Ok.ensures in
     let bytes = subst (λ x. IsCanvasOf adapts x cases.canvas) c.deref.ensures.value read in
     IfOk-weaker c.answer_failures.result _ _
     (λ a done. (
-      c.in_ok-text-2.text.items,
-      c.in_ok-text-2.ensures.read,
+      c.in_ok-text.text.items,
+      c.in_ok-text.ensures.read,
       (
         cases.canvas,
         bytes,

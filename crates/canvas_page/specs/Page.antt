@@ -1,0 +1,20 @@
+-- A page: an HTML file of what comes before its block of data, the block, and what comes after.
+use Rattle.std.specs.Prelude.{◌==◌, ◌++◌, ◌∷◌, ℕ, [], codes, flat_map, if◌then◌else◌}
+use Rattle.canvas_task.specs.Text.{Text}
+use Rattle.canvas_page.specs.declared.template.TheConstants.{HEAD, TAIL}
+
+-- How a byte is written in the block. In JSON these three, `<`, `>` and `&`, are in texts only,
+-- where each may be written by its number (RFC 8259, 7). HTML would read them as its own.
+abbrev pub escaped_byte : ℕ → Text
+escaped_byte b =
+    if b == 60 then codes "\\u003c"
+    else if b == 62 then codes "\\u003e"
+    else if b == 38 then codes "\\u0026"
+    else b ∷ []
+
+abbrev pub escaped : Text → Text
+escaped text = flat_map escaped_byte text
+
+-- the page whose block is this text
+abbrev pub page_of : Text → Text
+page_of text = HEAD.now ++ escaped text ++ TAIL.now

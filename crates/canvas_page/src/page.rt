@@ -1,0 +1,19 @@
+//! The page: what comes before its block, the block, and what comes after.
+
+ghost use Rattle.std.specs.Prelude.{◌≡◌, IfOk};
+ghost use Rattle.canvas_page.specs.Page.{page_of};
+
+use crate::escaping::push_escaped;
+use crate::template::{HEAD, TAIL};
+use std::alloc::{AllocError, Global};
+
+/// The page whose block is a text of JSON.
+pub fn page_text(alloc: Global, text: &[u8]) -> Result<Vec<u8>, AllocError>
+    ensures { IfOk result (λ page. page.items ≡ page_of text.now) }
+{
+    let mut page = Vec::new(alloc);
+    page.extend_from_slice(HEAD.as_bytes())?;
+    push_escaped(&mut page, text)?;
+    page.extend_from_slice(TAIL.as_bytes())?;
+    Ok(page)
+}
