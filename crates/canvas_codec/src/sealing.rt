@@ -8,12 +8,13 @@ ghost use Rattle.canvas_envelope.specs.Wire.{properties_wire, headers_wire, body
 
 use crate::decode;
 use crate::encoding::pieces_of;
-use canvas_envelope::{Envelope, Letter, Message, MessageFault, following};
+use canvas_envelope::{Envelope, Letter, Message, MessageFault, Unplaced, following};
 use canvas_task::Memory;
 use canvas_writing::line_text;
 use std::alloc::{AllocError, Global};
 
-/// Writes the text of what follows a message, where something does and it isn't written already.
+/// Writes the text of what follows a message, and finds which tasks come first there, where
+/// something follows and it isn't written already.
 fn write_rest(alloc: Global, message: &mut Message) -> Result<(), AllocError>
     ensures { message.new ≡ message.old }
 {
@@ -22,6 +23,7 @@ fn write_rest(alloc: Global, message: &mut Message) -> Result<(), AllocError>
     }
     if let Some(rest) = following(&message.rest) {
         let text = line_text(alloc, rest, &message.texts.carried)?;
+        message.texts.unplaced = Unplaced::of(rest.tasks.get());
         message.texts.line = Some(text);
     }
     Ok(())

@@ -22,6 +22,10 @@ impl Book for Roster {
         self.knows(task)
     }
 
+    fn knows_up_to(&self, greatest: TaskNo) -> bool {
+        self.knows(greatest)
+    }
+
     fn size(&self, group: GroupNo) -> Option<u32> {
         self.size(group)
     }
@@ -42,6 +46,10 @@ impl Book for PlainBackend {
         self.knows(task)
     }
 
+    fn knows_up_to(&self, greatest: TaskNo) -> bool {
+        self.knows(greatest)
+    }
+
     fn size(&self, group: GroupNo) -> Option<u32> {
         self.size(group)
     }
@@ -60,6 +68,10 @@ impl Book for Backend {
 
     fn knows(&self, task: TaskNo) -> bool {
         self.knows(task)
+    }
+
+    fn knows_up_to(&self, greatest: TaskNo) -> bool {
+        self.knows(greatest)
     }
 
     fn size(&self, group: GroupNo) -> Option<u32> {

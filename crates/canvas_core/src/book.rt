@@ -1,6 +1,6 @@
 //! What a worker knows of its plan.
 
-ghost use Rattle.std.specs.Prelude.{◌≡◌, ℕ, false};
+ghost use Rattle.std.specs.Prelude.{◌≡◌, ◌≤◌, ℕ, true, false};
 ghost use Rattle.canvas_runs.specs.Book.{Book as Known};
 ghost use Rattle.canvas_core.specs.Books.{HasMembers};
 
@@ -14,6 +14,14 @@ pub trait Book {
     /// Whether the plan has the task.
     fn knows(&self, task: TaskNo) -> bool
         ensures { result ≡ (book self.now).knows task };
+
+    /// Whether the plan is sure to have each task up to this one, so that a worker need not ask for
+    /// them one by one. A book that does not say so is asked for each.
+    fn knows_up_to(&self, _greatest: TaskNo) -> bool
+        ensures { result ≡ true → (k : ℕ) → k ≤ _greatest → (book self.now).knows k ≡ true }
+    {
+        false
+    }
 
     /// How many members a chord has; None of a plain group or an unknown number.
     fn size(&self, group: GroupNo) -> Option<u32>

@@ -1,15 +1,17 @@
 //! Whether a message names only what a book knows.
 
-ghost use Rattle.std.specs.Prelude.{◌≡◌, map};
+ghost use Rattle.std.specs.Prelude.{◌≡◌, true, map, drop};
 ghost use Rattle.canvas_rewrite.specs.FrozenView.{p_tasks_of, p_lines_of, p_task_view, p_line_view, p_end_view};
+ghost use Rattle.canvas_semantics.specs.PlacedLine.{PLine};
 ghost use Rattle.canvas_envelope.specs.Fits.{how_many};
+ghost use Rattle.canvas_envelope.specs.Unplaced.{AreUnplaced, EachFirst};
 ghost use Rattle.canvas_effects.specs.Placing.{last_task};
 ghost use Rattle.canvas_envelope.specs.MessageView.{place_seen, rest_seen};
 ghost use Rattle.canvas_runs.specs.Book.{task_known, tasks_known, place_known, line_known, members_known, message_known, parent_known, has_size};
 ghost use Rattle.canvas_core.specs.steps.Lasts.{or_zero, last_number};
 
 use crate::Book;
-use canvas_envelope::Message;
+use canvas_envelope::{Message, Unplaced};
 use canvas_rewrite::{FrozenEnd, FrozenLine, FrozenTask, Place};
 use canvas_task::{GroupNo, TaskNo};
 
@@ -95,6 +97,20 @@ fn tasks_known<B: Book>(book: &B, tasks: &[FrozenTask]) -> bool
     true
 }
 
+/// The tasks from an index on.
+#[cycle(known)]
+fn known_from<B: Book>(book: &B, tasks: &[FrozenTask], start: usize) -> bool
+    ensures { result ≡ tasks_known (B.book book.now)
+        (p_tasks_of (map p_task_view (drop start tasks.now))) }
+{
+    for index in start..tasks.len() {
+        if !task_known(book, &tasks[index]) {
+            return false;
+        }
+    }
+    true
+}
+
 /// The place of a task.
 #[cycle(known)]
 fn place_known<B: Book>(book: &B, task: TaskNo, place: &Option<Place>) -> bool
@@ -107,19 +123,21 @@ fn place_known<B: Book>(book: &B, task: TaskNo, place: &Option<Place>) -> bool
             Some(carried) => {
                 book.is_member(place.group, task)
                     && has_size(book, place.group, carried.size as usize)
-                    && line_known(book, &carried.body)
+                    && line_known(book, &carried.body, 0)
             }
         },
     }
 }
 
+/// A line of which so many tasks come first that are sure to be known.
 #[cycle(known)]
-fn line_known<B: Book>(book: &B, line: &FrozenLine) -> bool
+fn line_known<B: Book>(book: &B, line: &FrozenLine, sure: usize) -> bool
+    requires { EachFirst (λ t. task_known (B.book book.now) t ≡ true) sure (p_line_view line.now) }
     ensures { result ≡ line_known (B.book book.now) (p_line_view line.now) }
 {
     match &line.tail {
-        Some(end) => tasks_known(book, line.tasks.get()) && end_known(book, end),
-        None => tasks_known(book, line.tasks.get()),
+        Some(end) => known_from(book, line.tasks.get(), sure) && end_known(book, end),
+        None => known_from(book, line.tasks.get(), sure),
     }
 }
 
@@ -132,7 +150,7 @@ fn end_known<B: Book>(book: &B, end: &FrozenEnd) -> bool
         Some(body) => {
             has_size(book, end.group, members.len())
                 && members_known(book, end.group, members)
-                && line_known(book, body)
+                && line_known(book, body, 0)
         }
         None => members_known(book, end.group, members),
     }
@@ -144,18 +162,30 @@ fn members_known<B: Book>(book: &B, group: GroupNo, members: &[FrozenLine]) -> b
         ≡ members_known (B.book book.now) group (p_lines_of (map p_line_view members.now)) }
 {
     for member in members {
-        if !ends_member(book, group, member) || !line_known(book, member) {
+        if !ends_member(book, group, member) || !line_known(book, member, 0) {
             return false;
         }
     }
     true
 }
 
-fn rest_known<B: Book>(book: &B, rest: &Option<FrozenLine>) -> bool
+/// How many of the first tasks of a line are sure to be known.
+fn sure<B: Book>(book: &B, unplaced: &Unplaced) -> usize
+    ensures { (line : PLine) → AreUnplaced unplaced.now line
+        → EachFirst (λ t. task_known (B.book book.now) t ≡ true) result line }
+{
+    match TaskNo::new(unplaced.greatest) {
+        Some(greatest) if book.knows_up_to(greatest) => unplaced.count,
+        _ => 0,
+    }
+}
+
+fn rest_known<B: Book>(book: &B, rest: &Option<FrozenLine>, unplaced: &Unplaced) -> bool
+    requires { AreUnplaced unplaced.now (rest_seen rest.now) }
     ensures { result ≡ line_known (B.book book.now) (rest_seen rest.now) }
 {
     match rest {
-        Some(line) => line_known(book, line),
+        Some(line) => line_known(book, line, sure(book, unplaced)),
         None => true,
     }
 }
@@ -169,5 +199,5 @@ pub(crate) fn message_known<B: Book>(book: &B, message: &Message) -> bool
         && tasks_known(book, message.links.get())
         && tasks_known(book, message.errbacks.get())
         && place_known(book, message.task, &message.place)
-        && rest_known(book, &message.rest)
+        && rest_known(book, &message.rest, &message.texts.unplaced)
 }

@@ -12,6 +12,7 @@ use Rattle.canvas_rewrite.specs.declared.frozen.Place.{Place, out-Place}
 use Rattle.canvas_effects.proofs.Ended.{carried_seen}
 use Rattle.canvas_semantics.specs.PlacedLine.{PTask, PPlace, p_nowhere, p_chord, PLine, p_stop, p_step, p_group_end, p_chord_end}
 use Rattle.canvas_envelope.specs.SharedTexts.{AreEnds, AreTexts, IsLineText, SaysRinged, SaysCarried, core_of, inner_place, place_behind, rings_of}
+use Rattle.canvas_envelope.specs.Unplaced.{AreUnplaced}
 use Rattle.canvas_envelope.specs.declared.texts.Texts.{Texts}
 use Rattle.canvas_envelope.specs.declared.carried_text.CarriedText.{CarriedText}
 use Rattle.canvas_envelope.specs.steps.Parts.{is_stop}
@@ -94,6 +95,7 @@ pub anywhere : (texts : Texts) (own : PPlace) (r l : PLine) → r ≡ l → is_s
 anywhere texts own r l same h are = record {
   line = subst (λ z. IfSome texts.line (λ t. IsLineText t z)) same are.line;
   carried = of_same texts.carried _ _ (ap (place_behind own) same ∙ place_at_end own l h ∙ sym (place_at_end p_nowhere l h)) are.carried;
+  unplaced = subst (AreUnplaced texts.unplaced) same are.unplaced;
 }
 
 pub next_end : (head text old new : List ℕ) (r : Option ℕ) (t : PTask) (l : PLine) → old ≡ new ++ option_to_list r → (r ≡ None → new ≡ [])

@@ -24,6 +24,7 @@ use Rattle.canvas_envelope.proofs.texts.ElementsText.TheSendSync.{the_send as el
 use Rattle.canvas_envelope.proofs.texts.Head.TheSendSync.{the_send as head_send, the_sync as head_sync}
 use Rattle.canvas_envelope.proofs.texts.LineText.TheSendSync.{the_send as line_text_send}
 use Rattle.canvas_envelope.proofs.texts.Texts.TheSendSync.{the_send as texts_send}
+use Rattle.canvas_envelope.proofs.unplaced.Unplaced.TheSendSync.{the_send as unplaced_send}
 
 ruleset plain = (
   arg_send,
@@ -62,6 +63,7 @@ ruleset written = (
   elements_sync,
   line_text_send,
   texts_send,
+  unplaced_send,
   line_piece_send,
   piece_send,
   pieces_send,

@@ -17,6 +17,7 @@ use Rattle.canvas_envelope.specs.declared.carried_text.Ring.{Ring}
 use Rattle.canvas_envelope.specs.declared.texts.Head.{Head}
 use Rattle.canvas_envelope.specs.declared.texts.LineText.{LineText}
 use Rattle.canvas_envelope.specs.declared.texts.Texts.{Texts}
+use Rattle.canvas_envelope.specs.Unplaced.{AreUnplaced}
 
 -- the text of the items of a list, without its brackets
 abbrev pub IsListed : List ℕ → Items → Type 0
@@ -108,3 +109,4 @@ pub record AreTexts (texts : Texts) (place : PPlace) (rest : PLine) : Type 0 whe
   pub line : IfSome texts.line (λ t. IsLineText t rest)
   pub carried : IfSome texts.carried
       (λ t. SaysCarried t.value (place_behind place rest))
+  pub unplaced : AreUnplaced texts.unplaced rest

@@ -12,6 +12,7 @@ mod letter;
 mod message;
 mod pieces;
 mod texts;
+mod unplaced;
 
 pub use carried::share_carried;
 pub use carried_text::{CarriedText, Ring};
@@ -23,3 +24,4 @@ pub use letter::Letter;
 pub use message::Message;
 pub use pieces::{LinePiece, Piece, Pieces};
 pub use texts::{ElementsText, Head, LineText, Texts, share_text};
+pub use unplaced::Unplaced;

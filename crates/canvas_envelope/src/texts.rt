@@ -3,7 +3,7 @@
 ghost use Rattle.std.specs.Prelude.{◌≡◌, IfOk, None};
 ghost use Rattle.std.specs.Option.{option_map};
 
-use crate::CarriedText;
+use crate::{CarriedText, Unplaced};
 use std::alloc::AllocError;
 use std::sync::Arc;
 
@@ -38,25 +38,29 @@ pub struct LineText {
     pub ends: Vec<usize>,
 }
 
-/// What is written already of what a message carries. It changes no message, and saves writing it
-/// once more.
+/// What is known already of what a message carries. It changes no message, and saves writing it or
+/// going through it once more.
 #[derive(Drop)]
 pub struct Texts {
-    /// Of what follows on its line.
+    /// The text of what follows on its line.
     pub line: Option<LineText>,
-    /// Of the body that the place at the end of its line carries.
+    /// The text of the body that the place at the end of its line carries.
     pub carried: Option<Arc<CarriedText>>,
+    /// The tasks that come first of what follows on its line, as far as none has a place.
+    pub unplaced: Unplaced,
 }
 
 impl Texts {
-    /// Nothing is written.
+    /// Nothing is known.
     pub fn none() -> Texts
         ensures line { result.line ≡ None }
         ensures carried { result.carried ≡ None }
+        ensures unplaced { result.unplaced ≡ record { count = 0; greatest = 0 } }
     {
         Texts {
             line: None,
             carried: None,
+            unplaced: Unplaced::none(),
         }
     }
 }

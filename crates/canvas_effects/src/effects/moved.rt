@@ -102,7 +102,7 @@ fn line_of(alloc: Global, rest: Option<FrozenLine>) -> FrozenLine
     }
 }
 
-/// What follows the task of a message, and what is written of that.
+/// What follows the task of a message, and what is known of that.
 fn line_left(alloc: Global, message: Message) -> (FrozenLine, Texts)
     ensures line { p_line_view result.0 ≡ message.rest }
     ensures texts { AreTexts result.1 (place_of message.own) message.rest }
@@ -130,24 +130,32 @@ fn carried_by(texts: Texts) -> Option<Arc<CarriedText>>
     let Texts {
         line: _line,
         carried,
+        unplaced: _unplaced,
     } = texts;
     carried
 }
 
-/// What is written of a line, when its next task is taken.
+/// What is known of a line, when its next task is taken.
 fn texts_behind(texts: Texts) -> Texts
     ensures { (own : PPlace) (t : PTask) (rest : PLine) → AreTexts texts own (p_step t rest)
         → AreTexts result (place_of t) rest }
 {
-    let Texts { line, carried } = texts;
+    let Texts {
+        line,
+        carried,
+        unplaced,
+    } = texts;
+    let unplaced = unplaced.after_first();
     match line {
         Some(text) => Texts {
             line: Some(text_behind(text)),
             carried,
+            unplaced,
         },
         None => Texts {
             line: None,
             carried,
+            unplaced,
         },
     }
 }

@@ -15,7 +15,7 @@ ghost use Rattle.canvas_effects.specs.steps.Walks.{input_seen};
 
 use crate::copies::{copy_task, share_if_some};
 use crate::input::Input;
-use canvas_envelope::{CarriedText, Message, Texts};
+use canvas_envelope::{CarriedText, Message, Texts, Unplaced};
 use canvas_rewrite::{FrozenLine, FrozenTask};
 use canvas_task::{Arg, ListOf, TaskNo};
 use std::alloc::{AllocError, Global};
@@ -137,5 +137,6 @@ pub(super) fn texts_of(carried: Option<Arc<CarriedText>>) -> Texts
     Texts {
         line: None,
         carried,
+        unplaced: Unplaced::none(),
     }
 }

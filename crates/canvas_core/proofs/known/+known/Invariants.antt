@@ -12,3 +12,8 @@ abbrev pub invariant-tasks_known-loop-task : goal.invariant-tasks_known-loop-tas
 invariant-tasks_known-loop-task g l =
     tasks_known (g.B.Book.book l.book) (p_tasks_of (map p_task_view l.tasks))
     ≡ tasks_known (g.B.Book.book l.book) (p_tasks_of (map p_task_view (drop l.task-index l.tasks)))
+
+abbrev pub invariant-known_from-loop-index : goal.invariant-known_from-loop-index
+invariant-known_from-loop-index g l =
+    tasks_known (g.B.Book.book l.book) (p_tasks_of (map p_task_view (drop l.start l.tasks)))
+    ≡ tasks_known (g.B.Book.book l.book) (p_tasks_of (map p_task_view (drop l.index l.tasks)))
