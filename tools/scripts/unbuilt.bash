@@ -1,21 +1,23 @@
 # What ./canvas and ./try answer while there is no program: help, the version, an unknown command, and a FILE that can't be read. The program answers
 # everything else. Whoever reads this has set `top`.
 
-commands=(run turns normal check adapt graph page messages export keys collect help)
+# shellcheck source=/dev/null
+source "$top/tools/scripts/words.bash" || return 1
 
 # Sets `command`, and from the words after it `files` and `options`, each with its value.
 read_words() {
   command="${1:-}" files=() options=()
   while (($# > 1)); do
     shift
-    case "$command $1" in
-      *' --') files+=("${@:2}") && return 0 ;;
-      *' --workers' | *' --turns' | *' --again' | *' --failures' | *' --task' | *' --tasks' | *' --rename' | *' --results' | *' --of' | *' --values' | *' --queue' | *' --prefix' | \
-        *' --expires' | *' --broker-db' | *' --backend-db' | 'export --run' | 'keys --run' | 'collect --run')
-        options+=("${@:1:2}")
-        if (($# > 1)); then shift; fi
+    case "$1" in
+      --) files+=("${@:2}") && return 0 ;;
+      -?*)
+        options+=("$1")
+        if takes_value "$command $1" && (($# > 1)); then
+          options+=("$2")
+          shift
+        fi
         ;;
-      *' -'?*) options+=("$1") ;;
       *) files+=("$1") ;;
     esac
   done
