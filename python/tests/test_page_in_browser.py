@@ -102,6 +102,14 @@ class InBrowser(unittest.TestCase):
         """The state of each task."""
         return self.js(SHOWN + "return looks().map((it) => it[1])")
 
+    def go(self, address):
+        """Goes to an address in the page, and waits until the page has heard of it."""
+        self.js("""return new Promise((done) => {
+            if (location.hash === arguments[0]) return done();
+            addEventListener("hashchange", () => setTimeout(done), {once: true});
+            location.hash = arguments[0];
+        })""", address)
+
     def wait(self, milliseconds):
         self.js("return new Promise((done) => setTimeout(done, arguments[0]))", milliseconds)
 
@@ -286,8 +294,7 @@ class Celery(InBrowser):
             fails = {number: Exception} if number else {}
             report = what_if(ORDER, fails)
             with self.subTest(number):
-                self.js("location.hash = arguments[0]", f"#fails={number}")
-                self.wait(50)
+                self.go(f"#fails={number}")
                 note = self.js("const it = document.querySelector('#answer .other');"
                                " return it && it.textContent")
                 self.assertEqual(note, f"\u2260 {report.note}." if report.note else None)
@@ -296,8 +303,7 @@ class Celery(InBrowser):
 
     def paints(self, run, number, order):
         """Which tasks are shown as called on Celery, and how get() ends."""
-        self.js("location.hash = arguments[0]", f"#celery={number}")
-        self.wait(50)
+        self.go(f"#celery={number}")
         at = {"first": 0, "last": 1}[order]
         self.js("const it = document.querySelectorAll('#orders button')[arguments[0]];"
                 " if (it) it.click()", at)
@@ -379,8 +385,7 @@ class Keys(InBrowser):
         self.open(page(ORDER, workers=()), "#fails=2")
         self.assertEqual(self.text("#question"), "What if #2 shop.charge fails?")
         for where in ("#fails=99", "#fails=0", "#run=1,2", "#<b>", "#fails=1,2,3x"):
-            self.js("location.hash = arguments[0]", where)
-            self.wait(50)
+            self.go(where)
             self.assertEqual(self.text("#question"), "When nothing fails", where)
         self.is_quiet()
 

@@ -55,7 +55,7 @@ module _ (end : ℕ) where
   next_none None b c done p q at none = tt
   next_none (Some x) None c done p q at none = absurd p
   next_none (Some x) (Some y) None done p q at none = absurd q
-  next_none (Some x) (Some y) (Some z) done p q at none = whole x y z done p q at ∙ none
+  next_none (Some x) (Some y) (Some z) done p q at none = (whole x y z done p q at ∙ none, ap Some at)
 
   pub next_last : (a b c : Option (List ℕ)) (done item : List ℕ) → Consumes a b done → All (λ x. x ≢ end) done → Consumes b c [] → OnSome b (IsAtEnd c)
       → 0 < length done → item ≡ take most_item done → IfSome a (λ xs. IsNext end xs c (Some item))

@@ -23,7 +23,7 @@ before end (x ∷ xs) = if x == end then [] else x ∷ before end xs
 -- Of an input whose bytes are known: the next item, as far as it is kept, and what is left behind
 -- it; none where the input is at its end.
 abbrev pub IsNext : (end : ℕ) → Text → (left : Option Text) → Option Text → Type 0
-IsNext end xs left None = xs ≡ []
+IsNext end xs left None = (xs ≡ []) × (left ≡ Some [])
 IsNext end xs left (Some item) =
     (0 < length xs) × (item ≡ take most_item (before end xs)) × (left ≡ Some (drop_through end xs))
 

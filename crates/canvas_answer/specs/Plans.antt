@@ -3,6 +3,7 @@
 use Rattle.std.specs.Prelude.{◌≡◌, Bool, true, false, List, [], Ok, Err, option_map, unwrap_or}
 use Rattle.canvas_task.specs.Text.{Text}
 use Rattle.canvas_values.specs.CanvasText.{text_reading}
+use Rattle.canvas_values.specs.declared.fault.SigFault.{SigFault}
 use Rattle.canvas_semantics.specs.Line.{Line, tree_of}
 use Rattle.canvas_semantics.specs.NormalLine.{normal}
 use Rattle.canvas_semantics.specs.SameMeaning.{IsSame}
@@ -62,3 +63,13 @@ abbrev pub IsReadRefusal : Text → Refusal → Type 0
 IsReadRefusal bytes (Canvas e) = text_reading bytes ≡ Err e
 IsReadRefusal bytes Memory = Unit {0}
 IsReadRefusal bytes refusal = ⊥
+
+-- no canvas is spelled
+abbrev pub IsNoCanvas : Text → Type 0
+IsNoCanvas bytes = (fault : SigFault) × (text_reading bytes ≡ Err fault)
+
+-- Why there are no plans of a text. Where no task gets another name for the run, a canvas that is
+-- refused is one that the text doesn't spell.
+abbrev pub IsPlanRefusal : List Rename → Text → Refusal → Type 0
+IsPlanRefusal renames bytes refusal =
+    (fault : SigFault) → refusal ≡ Canvas fault → renames ≡ [] → IsNoCanvas bytes

@@ -1,7 +1,13 @@
 //! A canvas that is made ready: read once, adapted where that is asked for, and planned.
-ghost use Rattle.std.specs.Prelude.{◌≡◌, IfOk, IfSome, None};
+ghost use Rattle.std.specs.Prelude.{◌≡◌, ◌≢◌, [], IfErr, IfOk, IfSome, None, true};
 ghost use Rattle.canvas_adapt.specs.Renamed.{renamed};
-ghost use Rattle.canvas_answer.specs.Plans.{IsCanvasOf, IsPlanOf, IsSpelled, run_line, spelled_text};
+ghost use Rattle.canvas_task.specs.Text.{Text};
+ghost use Rattle.canvas_task.specs.declared.TaskNo.{TaskNo};
+ghost use Rattle.canvas_answer.specs.Plans.{IsCanvasOf, IsPlanOf, IsPlanRefusal, IsSpelled, run_line, spelled_text};
+ghost use Rattle.canvas_answer.specs.declared.refusal.Refusal.TheVariants.{Memory, NoTaskToAnswer};
+ghost use Rattle.canvas_answer.specs.declared.refusal.Refusal.TheVariants as refusal;
+ghost use Rattle.canvas_values.specs.declared.fault.SigFault.{SigFault};
+ghost use Rattle.canvas_values.specs.declared.fault.SigFault.TheVariants as sig_fault;
 
 use crate::plan::canvas_of;
 use crate::refusal::Refusal;
@@ -9,7 +15,7 @@ use canvas_adapt::{
     Adapted, AdaptedText, Changes, Rename, adapt, adapted_text, law_of_renames, renamed,
 };
 use canvas_rewrite::Plan;
-use canvas_sig::Canvas;
+use canvas_sig::{Canvas, SigFault};
 use std::alloc::Global;
 
 /// A canvas, and what was changed for it.
@@ -19,14 +25,36 @@ pub struct Prepared {
     pub changes: Changes,
 }
 
+/// The refusal of a canvas for a fault.
+fn refused(fault: SigFault) -> Refusal
+    ensures { (e : SigFault) → result ≡ refusal.Canvas e
+        → (e ≡ fault) × (fault ≢ sig_fault.Memory) }
+{
+    match fault {
+        SigFault::Memory => Refusal::Memory,
+        other => Refusal::Canvas(other),
+    }
+}
+
+/// The canvas of a text, adapted.
+fn adapted(alloc: Global, text: &[u8]) -> Result<Prepared, Refusal>
+    ensures ok { IfOk result (λ p. IsCanvasOf true text.now p.canvas) }
+    ensures err { IfErr result (IsPlanRefusal [] text.now) }
+{
+    match adapt(alloc, text) {
+        Ok(Adapted { canvas, changes }) => Ok(Prepared { canvas, changes }),
+        Err(fault) => Err(refused(fault)),
+    }
+}
+
 impl Prepared {
     /// The canvas of a text, adapted where that is asked for. The text is read once.
     pub fn of(alloc: Global, text: &[u8], adapts: bool) -> Result<Prepared, Refusal>
-        ensures { IfOk result (λ p. IsCanvasOf adapts text.now p.canvas) }
+        ensures ok { IfOk result (λ p. IsCanvasOf adapts text.now p.canvas) }
+        ensures err { IfErr result (IsPlanRefusal [] text.now) }
     {
         if adapts {
-            let Adapted { canvas, changes } = adapt(alloc, text)?;
-            return Ok(Prepared { canvas, changes });
+            return adapted(alloc, text);
         }
         let canvas = canvas_of(alloc, text)?;
         Ok(Prepared {
@@ -93,7 +121,9 @@ pub struct Plans {
 }
 
 /// The first of these numbers that a canvas of so many tasks doesn't have is refused.
-fn check_numbers(renames: &[Rename], tasks: u32) -> Result<(), Refusal> {
+fn check_numbers(renames: &[Rename], tasks: u32) -> Result<(), Refusal>
+    ensures { IfErr result (λ e. (task : TaskNo) × (e ≡ NoTaskToAnswer task)) }
+{
     for rename in renames {
         if rename.task.get() > tasks {
             return Err(Refusal::NoTaskToAnswer(rename.task));
@@ -103,22 +133,29 @@ fn check_numbers(renames: &[Rename], tasks: u32) -> Result<(), Refusal> {
 }
 
 fn plan_of(alloc: Global, canvas: Canvas) -> Result<Plan, Refusal>
-    ensures { IfOk result (IsPlanOf canvas) }
+    ensures ok { IfOk result (IsPlanOf canvas) }
+    ensures err { IfErr result (λ e. e ≡ Memory) }
 {
-    Ok(Plan::of(alloc, canvas)?)
+    match Plan::of(alloc, canvas) {
+        Ok(plan) => Ok(plan),
+        Err(_) => Err(Refusal::Memory),
+    }
 }
 
 /// The plan of a canvas some of whose tasks have other names, where there are any.
 fn named_plan(alloc: Global, canvas: &Canvas, renames: &[Rename]) -> Result<Option<Plan>, Refusal>
     ensures some { IfOk result (λ plan. IfSome plan (IsPlanOf (renamed renames.now canvas.now))) }
     ensures none { IfOk result (λ plan. plan ≡ None → renamed renames.now canvas.now ≡ canvas.now) }
+    ensures err { IfErr result (λ e. (bytes : Text) → IsPlanRefusal renames.now bytes e) }
 {
     if renames.is_empty() {
         law_of_renames();
         return Ok(None);
     }
-    let named = renamed(alloc, canvas, renames)?;
-    Ok(Some(plan_of(alloc, named)?))
+    match renamed(alloc, canvas, renames) {
+        Ok(named) => Ok(Some(plan_of(alloc, named)?)),
+        Err(fault) => Err(refused(fault)),
+    }
 }
 
 impl Plans {
@@ -127,6 +164,7 @@ impl Plans {
         ensures shown { IfOk result (λ plans. IsPlanOf canvas plans.shown) }
         ensures run { IfOk result
             (λ plans. IsPlanOf (renamed renames.now canvas) (run_line plans)) }
+        ensures err { IfErr result (λ e. (bytes : Text) → IsPlanRefusal renames.now bytes e) }
     {
         let named = named_plan(alloc, &canvas, renames)?;
         let shown = plan_of(alloc, canvas)?;

@@ -1,11 +1,12 @@
 //! What a run is of: a canvas's text, and what answers its calls.
-ghost use Rattle.std.specs.Prelude.{◌≡◌, [], IfOk, List, ℕ, map, string_bytes};
+ghost use Rattle.std.specs.Prelude.{◌≡◌, [], IfErr, IfOk, List, ℕ, map, string_bytes};
 ghost use Rattle.canvas_report.specs.declared.row.Row.{Row};
-ghost use Rattle.canvas_semantics.specs.Line.{tree_of};
+ghost use Rattle.canvas_semantics.specs.Line.{names, tree_of};
 ghost use Rattle.canvas_semantics.specs.States.{numbers_from, states};
 ghost use Rattle.canvas_task.specs.Apply.{Behaviour};
 ghost use Rattle.canvas_answer.specs.Asking.{asking};
-ghost use Rattle.canvas_answer.specs.Plans.{ArePlansOf, run_line};
+ghost use Rattle.canvas_answer.specs.Names.{IsUnknownName, first_unknown};
+ghost use Rattle.canvas_answer.specs.Plans.{ArePlansOf, IsPlanRefusal, run_line};
 ghost use Rattle.canvas_answer.specs.Raised.{AreShown, class_of, own_class};
 ghost use Rattle.canvas_answer.specs.Told.{AreRows, IsJsonOf, IsTold, known_states};
 ghost use Rattle.canvas_answer.specs.declared.reporting.Form.TheVariants.{Json};
@@ -109,26 +110,35 @@ fn foreseen_by(
 impl<'a, T> Source<'a, T> {
     /// The plans of the canvas, whose text is read for them once.
     pub fn plans(&self, alloc: Global) -> Result<Plans, Refusal>
-        ensures { IfOk result (λ plans. ArePlansOf (asking self.now.setting)
+        ensures ok { IfOk result (λ plans. ArePlansOf (asking self.now.setting)
             self.now.text.now plans.shown (run_line plans)) }
+        ensures err { IfErr result
+            (IsPlanRefusal self.now.setting.renames.now self.now.text.now) }
     {
         let Prepared { canvas, .. } = Prepared::of(alloc, self.text, self.setting.adapts)?;
         Plans::of(alloc, canvas, self.setting.renames)
     }
 
     /// Refuses a name that the words say, where no task of the plan has it.
-    pub fn check_names(&self, alloc: Global, plan: &Plan) -> Result<(), Refusal> {
+    pub fn check_names(&self, alloc: Global, plan: &Plan) -> Result<(), Refusal>
+        ensures { IfErr result
+            (IsUnknownName (first_unknown (names plan.now) self.now.setting.said.now)) }
+    {
         check_names(alloc, plan, self.setting.said)
     }
 
     /// The plans, where each name that the words say is that of a task.
     pub fn checked_plans(&self, alloc: Global) -> Result<Plans, Refusal>
-        ensures { IfOk result (λ plans. ArePlansOf (asking self.now.setting)
+        ensures ok { IfOk result (λ plans. ArePlansOf (asking self.now.setting)
             self.now.text.now plans.shown (run_line plans)) }
+        ensures err { IfErr result
+            (IsPlanRefusal self.now.setting.renames.now self.now.text.now) }
     {
         let plans = self.plans(alloc)?;
-        self.check_names(alloc, &plans.shown)?;
-        Ok(plans)
+        match self.check_names(alloc, &plans.shown) {
+            Ok(()) => Ok(plans),
+            Err(refusal) => Err(refusal),
+        }
     }
 
     /// The rows of a run, with the exceptions that stubs raise.

@@ -3,3 +3,4 @@ pub mod Wording
 pub mod Printed
 pub mod Cases
 mod Paging
+pub mod Batches

@@ -4,7 +4,6 @@ use Rattle.std.specs.Prelude.{codes}
 use Rattle.canvas_task.specs.Apply.{Behaviour}
 use Rattle.canvas_task.specs.Text.{Text}
 use Rattle.clap.specs.Walk.{Row}
-use Rattle.canvas_stubs.specs.Stubs.{stubs_behaviour}
 use Rattle.canvas_words.specs.declared.subcommand.Subcommand.{Subcommand}
 use Rattle.canvas_answer.specs.Answers.{AnswersPart, IsKept, bytes_in}
 use Rattle.canvas_answer.specs.Asking.{Asking, asked_of}
@@ -15,7 +14,7 @@ use Rattle.canvas_answer.specs.declared.answer.Answer.{Answer}
 use Rattle.canvas_answer.specs.declared.asked.Asked.{Asked}
 use Rattle.canvas_answer.specs.declared.asked.Request.{Request}
 use Rattle.canvas_answer.specs.declared.asked.Work.{Work}
-use Rattle.canvas_answer.specs.declared.asked.Work.TheVariants.{One, Each, Failures}
+use Rattle.canvas_answer.specs.declared.asked.Work.TheVariants.{One, Each, Failures, Page}
 use Rattle.canvas_answer.specs.declared.refusal.Refusal.{Refusal}
 use Rattle.canvas_answer.specs.declared.refusal.Refusal.TheVariants.{Memory}
 use Rattle.canvas_answer.specs.declared.stubs.Answers.{Answers}
@@ -53,13 +52,15 @@ module _ (before after : Option Text) where
   work_moved behaviour its file same (Each each) a h = h
   work_moved behaviour its file same (Failures failures) a (bytes, read, h) =
       (bytes, λ is. subst (λ input. IsCanvasRead file input bytes) (same is) read is, h)
+  work_moved behaviour its file same (Page failures) a (bytes, read, h) =
+      (bytes, λ is. subst (λ input. IsCanvasRead file input bytes) (same is) read is, h)
 
   -- an answer by an input that is as it was, if that is the canvas
   pub with_stubs : (behaviour : Behaviour) (request : Request) (stubs : AskedStubs) (answers : Answers) (r : Result Answer Refusal)
       → (request.file.now ≡ codes "-" → after ≡ before) → AreAnswersOf stubs answers → IfOk r (IsAnswerWith behaviour after request answers)
       → IfOk r (λ a. (x : Answers) × AreAnswersOf stubs x × IsAnswerWith behaviour before request x a)
   with_stubs behaviour request stubs answers (Ok a) same are h =
-      (answers, are, work_moved (stubs_behaviour answers.stubs.items behaviour) (asked_of request.adapts answers) request.file.now same request.work a h)
+      (answers, are, work_moved behaviour (asked_of request.adapts answers) request.file.now same request.work a h)
   with_stubs behaviour request stubs answers (Err e) same are h = h
 
 -- ---- what words ask for

@@ -5,3 +5,4 @@ pub mod Worded
 pub mod Each
 pub mod Failing
 pub mod Paged
+pub mod steps

@@ -1,7 +1,7 @@
 -- What `canvas page` answers: an HTML page around a block of what the program answers to other
 -- words, in lines of JSON: `normal --numbers`; `run --failures`; and `turns --steps`, of some runs,
 -- each after a line that says which it is.
-use Rattle.std.specs.Prelude.{◌≡◌, ◌++◌, ◌∷◌, ◌&&◌, [], ℕ, Bool, true, false, List, None, codes, decimal, flat_map, if◌then◌else◌, length, nat_le}
+use Rattle.std.specs.Prelude.{◌≡◌, ◌++◌, ◌&&◌, [], ℕ, Bool, true, false, List, None, codes, decimal, flat_map, if◌then◌else◌, length, nat_le}
 use Rattle.canvas_task.specs.Apply.{Behaviour}
 use Rattle.canvas_task.specs.Text.{Text}
 use Rattle.canvas_adapt.specs.Renamed.{renamed}

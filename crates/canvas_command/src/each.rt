@@ -1,22 +1,25 @@
-//! `canvas run --each`: canvases one after the other, and a JSON object a line for each, which is
-//! printed before the next canvas is read.
-ghost use Rattle.std.specs.Prelude.{[], IfOk, OnOk};
+//! `canvas run --each`: a JSON object a line for each canvas of an input, in its order.
+ghost use Rattle.std.specs.Prelude.{◌≡◌, [], IfOk, OnOk, false, true};
+ghost use Rattle.std.specs.Io.Buffered.{reader_remaining};
 ghost use Rattle.std.specs.Io.KnownBytes.{Appends};
 ghost use Rattle.canvas_answer.specs.Answers.{AnswersAll};
-ghost use Rattle.canvas_answer.specs.Asking.{asking};
+ghost use Rattle.canvas_answer.specs.Asking.{asked_of, asking};
 ghost use Rattle.canvas_answer.specs.Plans.{run_line};
 ghost use Rattle.canvas_answer.specs.Printing.{printed};
-ghost use Rattle.canvas_command.specs.Each.{IsEachDone, IsLine, IsRunLine};
+ghost use Rattle.canvas_answer.specs.declared.refusal.Refusal.TheVariants.{Canvas};
+ghost use Rattle.canvas_stubs.specs.Stubs.{stubs_behaviour};
+ghost use Rattle.canvas_values.specs.declared.fault.SigFault.{SigFault};
+ghost use Rattle.canvas_command.specs.Each.{IsEachAnswered, IsEachDone, IsItemSaid, IsLine, IsOwnSaid, IsSaid};
 
+use crate::batch::print_batch;
+use crate::failures::status_of;
 use crate::runs::whole_report;
 use canvas_answer::answer::Answer;
 use canvas_answer::each::{Each, object_text};
-use canvas_answer::input::unread;
-use canvas_answer::items::{item_answers, next_item, parts_of};
+use canvas_answer::items::{item_answers, parts_of};
 use canvas_answer::prepared::Plans;
 use canvas_answer::printing::write_lines;
 use canvas_answer::refusal::Refusal;
-use canvas_answer::reporting::FAILED;
 use canvas_answer::setting::Setting;
 use canvas_answer::source::Source;
 use canvas_answer::stubs::Answers;
@@ -24,18 +27,18 @@ use canvas_report::is_failure;
 use canvas_stubs::Stubbed;
 use canvas_task::Tasks;
 use std::alloc::Global;
-use std::io::{self, BufRead, Write};
+use std::io::{self, BufReader, Read, Write};
 use std::random::RandomSource;
 use std::sync::Wait;
 use std::thread::Threads;
 
 /// What a canvas gives.
 #[derive(Drop)]
-struct Said {
+pub(crate) struct Said {
     /// Its report or its refusal, as an object in a line.
-    text: String,
+    pub text: String,
     /// Whether its result is a failure.
-    failed: bool,
+    pub failed: bool,
 }
 
 /// What the canvases of an input have in common.
@@ -48,39 +51,25 @@ pub(crate) struct Flow<'a, T> {
     pub tasks: &'a Stubbed<'a, T>,
 }
 
-/// The report of a canvas's run as an object in a line.
-fn ran<S, T>(rt: &S, workers: u32, source: &Source<'_, T>) -> Result<Said, Refusal>
-where
-    S: Threads + Wait + RandomSource + AllocGlobal + Sync,
-    T: Tasks + Sync,
-    ensures { IfOk result (IsRunLine (T.behaviour source.now.tasks.now)
-        (asking source.now.setting) source.now.text.now) }
-{
-    let plans = source.checked_plans(rt.alloc())?;
-    ran_by(rt, workers, &plans, source)
-}
-
-/// The same of a run by these plans.
-fn ran_by<S, T>(
-    rt: &S,
-    workers: u32,
-    plans: &Plans,
-    source: &Source<'_, T>,
-) -> Result<Said, Refusal>
+/// The report of a run by these plans, by one worker, as an object in a line.
+fn ran<S, T>(rt: &S, plans: &Plans, source: &Source<'_, T>) -> Result<Said, Refusal>
 where
     S: Threads + Wait + RandomSource + AllocGlobal + Sync,
     T: Tasks + Sync,
     ensures { IfOk result (IsLine (T.behaviour source.now.tasks.now)
         (asking source.now.setting) (run_line plans.now) plans.now.shown) }
 {
-    let report = whole_report(rt, plans.run(), source.tasks, workers)?;
+    let report = whole_report(rt, plans.run(), source.tasks, 1)?;
     let text = object_text(rt.alloc(), plans, &report, source)?;
     let failed = is_failure(&plans.shown, &report);
     Ok(Said { text, failed })
 }
 
 /// Whether a refusal is that of an item, behind which the others are answered.
-fn is_of_item(each: Each, refusal: &Refusal) -> bool {
+fn is_of_item(each: Each, refusal: &Refusal) -> bool
+    ensures { each.has_tasks ≡ false → result ≡ true
+        → (fault : SigFault) × (refusal.now ≡ Canvas fault) }
+{
     match refusal {
         Refusal::Canvas(_) => true,
         other => each.has_tasks && !other.is_an_end(),
@@ -88,7 +77,11 @@ fn is_of_item(each: Each, refusal: &Refusal) -> bool {
 }
 
 /// The line of an item that is refused; none where it isn't the item that is.
-fn refused_line(alloc: Global, each: Each, text: &[u8], refusal: Refusal) -> Result<Said, Refusal> {
+fn refused_line(alloc: Global, each: Each, text: &[u8], refusal: Refusal) -> Result<Said, Refusal>
+    ensures failed { IfOk result (λ said. said.failed ≡ false) }
+    ensures canvas { each.has_tasks ≡ false
+        → OnOk result ((fault : SigFault) × (refusal ≡ Canvas fault)) }
+{
     if !is_of_item(each, &refusal) {
         return Err(refusal);
     }
@@ -108,9 +101,11 @@ fn line_of<S, T>(rt: &S, each: Each, source: &Source<'_, T>) -> Result<Said, Ref
 where
     S: Threads + Wait + RandomSource + AllocGlobal + Sync,
     T: Tasks + Sync,
+    ensures { IfOk result (IsSaid (T.behaviour source.now.tasks.now)
+        (asking source.now.setting) each.has_tasks source.now.text.now) }
 {
-    match ran(rt, each.workers, source) {
-        Ok(line) => Ok(line),
+    match source.checked_plans(rt.alloc()) {
+        Ok(plans) => ran(rt, &plans, source),
         Err(refusal) => refused_line(rt.alloc(), each, source.text, refusal),
     }
 }
@@ -121,6 +116,9 @@ impl<'a, T: Tasks> Flow<'a, T> {
     where
         S: Threads + Wait + RandomSource + AllocGlobal + Sync,
         T: Sync,
+        ensures { IfOk result (IsSaid (stubs_behaviour self.now.tasks.now.stubs.items
+            (T.behaviour self.now.tasks.now.tasks.now)) (asking self.now.setting)
+            self.now.each.has_tasks text.now) }
     {
         let source = Source {
             text,
@@ -135,6 +133,9 @@ impl<'a, T: Tasks> Flow<'a, T> {
     where
         S: Threads + Wait + RandomSource + AllocGlobal + Sync,
         T: Sync,
+        ensures { IfOk result (IsSaid (stubs_behaviour answers.stubs.items
+            (T.behaviour self.now.tasks.now.tasks.now))
+            (asked_of self.now.setting.adapts answers) self.now.each.has_tasks text.now) }
     {
         let Answers {
             stubs,
@@ -166,6 +167,8 @@ impl<'a, T: Tasks> Flow<'a, T> {
     where
         S: Threads + Wait + RandomSource + AllocGlobal + Sync,
         T: Sync,
+        ensures { self.now.each.has_tasks ≡ true → IfOk result (IsOwnSaid
+            (T.behaviour self.now.tasks.now.tasks.now) self.now.setting.adapts) }
     {
         let (lines, text) = parts_of(item);
         match item_answers(rt.alloc(), lines, self.file, self.setting) {
@@ -174,38 +177,19 @@ impl<'a, T: Tasks> Flow<'a, T> {
         }
     }
 
-    fn line<S>(&self, rt: &S, item: &[u8]) -> Result<Said, Refusal>
+    /// The line of an item.
+    pub(crate) fn line<S>(&self, rt: &S, item: &[u8]) -> Result<Said, Refusal>
     where
         S: Threads + Wait + RandomSource + AllocGlobal + Sync,
         T: Sync,
+        ensures { IfOk result (IsItemSaid (T.behaviour self.now.tasks.now.tasks.now)
+            self.now.tasks.now.stubs.items (asking self.now.setting) self.now.each.has_tasks
+            item.now) }
     {
         if self.each.has_tasks {
             self.line_of_both(rt, item)
         } else {
             self.line_of_canvas(rt, item)
-        }
-    }
-
-    /// Answers the next item, and says whether its result is a failure; none where there is none.
-    fn answer_next<S, R: BufRead, W: Write>(
-        &self,
-        rt: &S,
-        reader: &mut R,
-        out: &mut W,
-    ) -> Result<Option<bool>, Refusal>
-    where
-        S: Threads + Wait + RandomSource + AllocGlobal + Sync,
-        T: Sync,
-    {
-        let item = match next_item(rt.alloc(), reader, self.each.end) {
-            Ok(Some(item)) => item,
-            Ok(None) => return Ok(None),
-            Err(error) => return Err(unread(rt.alloc(), &error, self.file)),
-        };
-        let line = self.line(rt, &item)?;
-        match print_line(out, &line.text) {
-            Ok(()) => Ok(Some(line.failed)),
-            Err(error) => Err(Refusal::of_output(&error)),
         }
     }
 }
@@ -225,30 +209,33 @@ pub(crate) fn ended(alloc: Global, status: u8) -> Answer
     Answer::whole(Vec::new(alloc)).with_status(status)
 }
 
-/// Prints a line for each canvas of an input, in its order, before the next one is read. If that is
-/// asked for, the status is that of a failure if a canvas's result is one. Lines that were made
-/// before a call ends early are printed.
-pub(crate) fn answer_each<S, T, R: BufRead, W: Write>(
+/// Prints a line for each canvas of an input, in its order. Those that are there at once are
+/// answered side by side, and their lines reach the reader before more is read. If that is asked
+/// for, the status is that of a failure if a canvas's result is one. Lines that were made before a
+/// call ends early are printed.
+#[tactic(auto, using(crate::proofs::Batches::none_done))]
+pub(crate) fn answer_each<S, T, R: Read, W: Write>(
     rt: &S,
     flow: &Flow<'_, T>,
-    reader: &mut R,
+    reader: &mut BufReader<R>,
     out: &mut W,
 ) -> Result<Answer, Refusal>
 where
     S: Threads + Wait + RandomSource + AllocGlobal + Sync,
     T: Tasks + Sync,
-    ensures { IfOk result (IsEachDone flow.now.each.fails) }
+    ensures lines { IfOk result (IsEachAnswered (T.behaviour flow.now.tasks.now.tasks.now)
+        flow.now.tasks.now.stubs.items (asking flow.now.setting) flow.now.each
+        (reader_remaining R.remaining reader.old) (W.contents out.old) (W.contents out.new)) }
+    ensures status { IfOk result (IsEachDone flow.now.each.fails) }
 {
     let mut failed = false;
     for _ in 0..u64::MAX {
-        match flow.answer_next(rt, reader, out)? {
-            Some(is_failure) => failed |= is_failure,
-            None => break,
+        let mut batch = flow.next_batch(rt.alloc(), reader)?;
+        if batch.is_empty() {
+            return Ok(ended(rt.alloc(), status_of(flow.each.fails, failed)));
         }
+        flow.answer(rt, &mut batch);
+        failed |= print_batch(out, batch)?;
     }
-    if flow.each.fails && failed {
-        Ok(ended(rt.alloc(), FAILED))
-    } else {
-        Ok(ended(rt.alloc(), 0))
-    }
+    Err(Refusal::Stopped)
 }

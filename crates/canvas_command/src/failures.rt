@@ -81,7 +81,7 @@ fn print_all<T: Tasks, W: Write>(
     Ok(base)
 }
 
-fn status_of(counts: bool, failed: bool) -> u8
+pub(crate) fn status_of(counts: bool, failed: bool) -> u8
     ensures { result ≡ report_status counts failed }
 {
     if counts && failed { FAILED } else { 0 }

@@ -173,12 +173,12 @@ fn put_short<T: Tasks>(
         ready.plans.shown base.now.told (cases_shown short ready.plans.shown) failing
         × (lines.new.items ≡ lines.old.items ++ (played ++ flat_map printed failing))) }
 {
-    if !short {
-        lasting(ready);
-        return Ok(());
+    if short {
+        let ready = put_runs_of(alloc, cases, ready, lines)?;
+        return print_cases(alloc, cases, ready, base, lines);
     }
-    let ready = put_runs_of(alloc, cases, ready, lines)?;
-    print_cases(alloc, cases, ready, base, lines)
+    lasting(ready);
+    Ok(())
 }
 
 /// The block of a page.
@@ -199,7 +199,7 @@ fn block<T: Tasks>(
     print(&mut lines, &line)?;
     let (line, base, ready) = cases.first(alloc, ready)?;
     print(&mut lines, &line)?;
-    put_short(alloc, cases, ready, short, &lasting(base), &mut lines)?;
+    put_short(alloc, cases, ready, short, &base, &mut lines)?;
     Ok(lines)
 }
 
@@ -214,6 +214,6 @@ pub(crate) fn answer_page<T: Tasks>(
         (asked_of cases.entry.adapts answers) cases.entry.word.now cases.entry.text.now) }
 {
     let cases = lasting(cases);
-    let lines = lasting(block(alloc, &cases, answers)?);
+    let lines = block(alloc, &cases, answers)?;
     Ok(Answer::raw(page_text(alloc, &lines)?))
 }

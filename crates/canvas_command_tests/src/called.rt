@@ -69,13 +69,27 @@ fn sixteen(alloc: Global) -> Result<String, AllocError> {
     )
 }
 
+/// Sixteen canvases of one call, a line each: with `--each` a canvas has one worker.
+fn sixteen_lines(alloc: Global) -> Result<String, AllocError> {
+    "{\"task\":\"tasks.add\",\"args\":[1,1]}\n".repeat(alloc, 16)
+}
+
+/// Sixteen calls, in one canvas or in as many.
+fn calls_for(alloc: Global, line: &str) -> Result<String, AllocError> {
+    if line.ends_with("--each") {
+        sixteen_lines(alloc)
+    } else {
+        sixteen(alloc)
+    }
+}
+
 /// Whether a call of all workers meets those of the others, where the words start so many.
 fn meets<S>(rt: &S, line: &str, workers: u32) -> bool
 where
     S: Files + Threads + Wait + RandomSource + AllocGlobal + Sync,
 {
     let tasks = Meeting::of(workers);
-    match sixteen(rt.alloc()) {
+    match calls_for(rt.alloc(), line) {
         Ok(text) => is_answered(rt, &tasks, line, &text) && !tasks.gave_up(),
         Err(_) => false,
     }

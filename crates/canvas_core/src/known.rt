@@ -129,7 +129,7 @@ fn place_known<B: Book>(book: &B, task: TaskNo, place: &Option<Place>) -> bool
     }
 }
 
-/// A line of which so many tasks come first that are sure to be known.
+/// A line: its first tasks need no look-up, as many as `sure` says.
 #[cycle(known)]
 fn line_known<B: Book>(book: &B, line: &FrozenLine, sure: usize) -> bool
     requires { EachFirst (λ t. task_known (B.book book.now) t ≡ true) sure (p_line_view line.now) }

@@ -16,5 +16,5 @@ abbrev pub escaped : Text → Text
 escaped text = flat_map escaped_byte text
 
 -- the page whose block is this text
-abbrev pub page_of : Text → Text
+unfoldable pub page_of : Text → Text
 page_of text = HEAD.now ++ escaped text ++ TAIL.now

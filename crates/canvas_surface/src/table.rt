@@ -41,7 +41,10 @@ fn knows(backend: &Backend) -> bool {
 
 /// Whether a book has the chord's plan.
 fn is_book<B: Book>(book: &B) -> bool {
-    book.knows(task(5)) && book.size(group(1)) == Some(3) && book.is_member(group(1), task(2))
+    book.knows(task(5))
+        && book.knows_up_to(task(5))
+        && book.size(group(1)) == Some(3)
+        && book.is_member(group(1), task(2))
 }
 
 /// A book of no tasks, as users write one of their own.

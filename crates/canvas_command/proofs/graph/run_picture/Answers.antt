@@ -13,7 +13,7 @@ returns g c =
     let plans = c.deref-2.result.now in
     of_plans behaviour (asking source.setting) source.text.now plans.shown (run_line plans) c.report_picture.result
     (subst (λ p. ArePlansOf (asking source.setting) source.text.now p.shown (run_line p)) (sym (c.deref-2.ensures ∙ c.lasting-plans.ensures))
-    c.in_ok-checked_plans.ensures)
+    c.in_ok-checked_plans.ensures.ok)
     (c.report_picture.ensures behaviour
     (c.in_ok-report.ensures ∙ ap (λ l. states behaviour (tree_of l)) c.run.ensures
     ∙ ap (λ p. states behaviour (tree_of (run_line p))) (c.deref.ensures ∙ sym c.deref-2.ensures)))

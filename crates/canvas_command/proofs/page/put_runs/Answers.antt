@@ -11,9 +11,9 @@ returns g c = λ plans.
     let so_far = third ∙ ap (λ x. x ++ again) (second ∙ ap (λ x. x ++ two) first) in
     on_ok_weaker c.put_run-4.result
     (λ last.
-        let (four, is_four, fourth) = last in (
-          one ++ two ++ again ++ four,
-          (one, is_one, (two, is_two, (again, is_again, (four, is_four, refl)))),
-          fourth ∙ ap (λ x. x ++ four) so_far ∙ after_four c.args.lines.now.items one two again four,
-        ))
+    let (four, is_four, fourth) = last in (
+      one ++ two ++ again ++ four,
+      (one, is_one, (two, is_two, (again, is_again, (four, is_four, refl)))),
+      fourth ∙ ap (λ x. x ++ four) so_far ∙ after_four c.args.lines.now.items one two again four,
+    ))
     (c.put_run-4.ensures plans)
