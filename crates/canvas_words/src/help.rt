@@ -76,8 +76,9 @@ the same, due_to is the task whose exception it shows, or that its ChordError na
 --explain` says the same in words, with #2 for the identifier of task 2. A run that ends early
 doesn't say which tasks were called. With --json a call of a built-in task that is a TypeError
 has parameter: the one at fault, or null where there are too many arguments. `run --each` reads a
-canvas a line, and prints a JSON object a line for each, before it reads the next: canvas (the last
-line of `run --json`) and rows (a list of the others), or what --json prints of one that is refused.
+canvas a line, runs as many at once as there are workers, and prints a JSON object a line for each,
+in their order, before it reads more: canvas (the last line of `run --json`) and rows (a list of the
+others), or what --json prints of one that is refused.
 With --null a canvas ends with a NUL byte and not with its line. With --with-tasks it then has lines
 before it, each as --task takes them, and an empty line. They are only for this canvas, and come
 before --task and --tasks.

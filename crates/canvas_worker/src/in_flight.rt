@@ -30,11 +30,12 @@ impl InFlight {
         self.count.fetch_add(1, Ordering::SeqCst);
     }
 
-    /// One envelope is acknowledged, unless the worker is inside its script. A count of none stays
-    /// so, where one worker alone has it.
-    pub(crate) fn done_unless(&self, is_inside: bool) {
-        if !is_inside && self.is_some() {
-            self.count.fetch_sub(1, Ordering::SeqCst);
+    /// Takes acknowledged envelopes off the count, but never more than it has, and wakes the workers
+    /// that nap if it then is 0.
+    pub(crate) fn take_off(&self, acknowledged: u64) {
+        let done = self.count.load(Ordering::SeqCst).min(acknowledged);
+        if done > 0 && self.count.fetch_sub(done, Ordering::SeqCst) == done {
+            self.count.wake_all();
         }
     }
 
@@ -42,7 +43,7 @@ impl InFlight {
         self.count.load(Ordering::SeqCst) != 0
     }
 
-    /// Sleeps for a little while, unless the count changes before.
+    /// Sleeps for a little while, unless the count changed just before, or becomes 0.
     pub(crate) fn nap<R: Wait>(&self, rt: &R) {
         let Ok(count) = u32::try_from(self.count.load(Ordering::SeqCst)) else {
             return;
