@@ -30,8 +30,8 @@ impl InFlight {
         self.count.fetch_add(1, Ordering::SeqCst);
     }
 
-    /// Takes acknowledged envelopes off the count, but never more than it has, and wakes the workers
-    /// that nap if it then is 0.
+    /// Takes acknowledged envelopes off the count, but never more than it has. If the count is 0
+    /// then, it wakes the workers that nap.
     pub(crate) fn take_off(&self, acknowledged: u64) {
         let done = self.count.load(Ordering::SeqCst).min(acknowledged);
         if done > 0 && self.count.fetch_sub(done, Ordering::SeqCst) == done {
