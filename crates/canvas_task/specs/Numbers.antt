@@ -1,4 +1,4 @@
--- Whole numbers: the range that tasks keep to, and the quotient rounded down (Python's `//`).
+-- Whole numbers: the range of tasks' numbers, and the quotient rounded down (Python's `//`).
 use Rattle.std.specs.Prelude.{◌^◌, Bool, ◌&&◌, ℤ, pos, negsuc, neg_ℤ, ◌+ℤ◌, int_le, List, fold}
 use Rattle.std.specs.Int.{int_div_euclid}
 

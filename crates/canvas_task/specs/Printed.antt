@@ -19,7 +19,7 @@ abbrev pub why_name : Why → List ℕ
 why_name (why.Plain kind) = kind_name kind
 why_name why.Chord = codes "ChordError"
 
--- a failed header is told by the member that failed first in its order
+-- a failed header is printed with the member that failed first in header order
 abbrev pub fault_text : Fault → List ℕ
 fault_text (fault.Plain kind) = kind_name kind
 fault_text (fault.Chord dep w) =
