@@ -4,7 +4,7 @@ ghost use Rattle.std.specs.Prelude.{◌≡◌};
 ghost use Rattle.json.specs.Reader.{closes_at, begins_at};
 ghost use Rattle.canvas_sig.specs.steps.Place.{as_kit};
 
-/// What may come next, as the reader of `json` has it.
+/// What may come next; the variants are those of the reader of `json`.
 #[derive(Clone, Copy, Drop)]
 pub(crate) enum Place {
     Fresh,
