@@ -1,4 +1,4 @@
--- Names whose texts are kept once where equal ones follow each other.
+-- Names of which equal ones in a row share one text.
 use Rattle.std.specs.Prelude.{◌≡◌, ◌<◌, ◌-◌, ◌++◌, ℕ, List, [], length, map, get_or}
 
 -- the texts at these indices
