@@ -6,7 +6,7 @@ use Rattle.canvas_semantics.specs.PlacedLine.{PTask, p_task, no_p_tasks, p_nowhe
 use Rattle.canvas_rewrite.specs.declared.frozen.FrozenTask.{FrozenTask, out-FrozenTask}
 use Rattle.canvas_envelope.specs.Wire.{task_id}
 
--- the text stands behind what stood there
+-- the text was appended
 abbrev pub Adds : {E : Type 0} → Result (Unit {0}) E → (old new : List ℕ) → List ℕ → Type 0
 Adds r old new text = OnOk r (new ≡ old ++ text)
 
@@ -40,7 +40,7 @@ origin_text parent =
 abbrev pub name_text : (name : List ℕ) → List ℕ
 name_text name = compact_text (string name) ++ codes "}"
 
--- ---- a task with nothing of its own behind it
+-- ---- a task without callbacks and place
 
 abbrev pub bare : FrozenTask → PTask
 bare t =
@@ -66,14 +66,14 @@ abbrev pub call_text : (size : ℕ) (args : Items) → Bool → (kwargs : Member
 call_text size args immutable kwargs =
     size_text size args ++ (flag_text immutable ++ compact_text (object kwargs))
 
--- the options, and what stands behind them but the name
+-- the options, and the part after them without the name
 abbrev pub own_text : (id : List ℕ) → List ℕ
 own_text id =
     codes ",\"options\":{\"task_id\":\"" ++ (id ++ codes "\"},\"subtask_type\":null,\"task\":")
 
 -- ---- a body
 
--- what goes with a call
+-- the embed
 abbrev pub embed_of : (callbacks chain chord errbacks : Data) → Data
 embed_of callbacks chain chord errbacks =
     object (member (codes "callbacks") callbacks
@@ -90,11 +90,11 @@ abbrev pub opening_text : (args : Items) (kwargs : Members) (callbacks : Data) �
 opening_text args kwargs callbacks =
     args_text args kwargs ++ (codes ",{\"callbacks\":" ++ compact_text callbacks)
 
--- from the error callbacks on
+-- from the error callbacks to the end
 abbrev pub closing_text : (errbacks : Data) → List ℕ
 closing_text errbacks = codes ",\"errbacks\":" ++ (compact_text errbacks ++ codes "}]")
 
--- from what follows on the line on
+-- from the rest of the line to the end
 abbrev pub behind_text : (chain chord errbacks : Data) → List ℕ
 behind_text chain chord errbacks =
     codes ",\"chain\":" ++ (compact_text chain
