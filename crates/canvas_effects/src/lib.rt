@@ -1,5 +1,5 @@
-//! What follows a message: what the start of a plan, the end of a task and the end of a header's
-//! members make a worker do.
+//! What follows a message: what a worker has to store, publish and return after the start of a
+//! plan, the end of a task, and the completion of a header.
 #![tactic(auto)]
 
 mod chord_body;
