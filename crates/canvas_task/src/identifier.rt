@@ -72,8 +72,8 @@ fn digit(value: u8) -> u8
     }
 }
 
-/// Returns the text of a number's identifier: the fixed digits, the mark and eight digits of the
-/// number.
+/// Returns the text of a number's identifier. Only the mark and the eight digits of the number
+/// vary, so it is built from constant bytes and not by `uuid`'s formatter.
 fn text_of(mark: u8, n: u32) -> [u8; 36]
     ensures { result ≡ hyphenated_text lower (identifier mark n) }
 {
