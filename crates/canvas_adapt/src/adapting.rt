@@ -1,7 +1,8 @@
 //! Adapting a text to a canvas of the engine's profile.
 //!
-//! The changes follow Celery's code and have no contract: they are tested beside Celery. Proved are
-//! the ends: the result is a canvas by its type, and a canvas of the profile is unchanged.
+//! The changes follow Celery's code and have no contract: they are tested by comparison with
+//! Celery. Proved are only the ends: the result is a canvas by its type, and a canvas of the
+//! profile is unchanged.
 
 ghost use Rattle.std.specs.Prelude.{◌≡◌, ◌≤◌, true, length, Err, IfErr, Some};
 ghost use Rattle.canvas_sig.specs.Datum.{view};

@@ -13,8 +13,8 @@ use canvas_task::Memory;
 use canvas_writing::line_text;
 use std::alloc::{AllocError, Global};
 
-/// Writes the text of what follows a message, and counts the first tasks there without a place, if
-/// anything follows and this wasn't done yet.
+/// Writes the text of the rest of a message's line, and counts the first tasks there without a
+/// place, if anything follows and this wasn't done yet.
 fn write_rest(alloc: Global, message: &mut Message) -> Result<(), AllocError>
     ensures { message.new ≡ message.old }
 {
@@ -30,8 +30,8 @@ fn write_rest(alloc: Global, message: &mut Message) -> Result<(), AllocError>
 }
 
 /// Makes a letter of the envelope that `encode` writes, with the message if memory suffices to keep
-/// it. Texts that several messages share are written once: a body that a place carries, and what
-/// follows on a line.
+/// it. Texts that several messages share are written once: a body that a place carries, and the
+/// rest of a line.
 pub fn seal(alloc: Global, message: Message) -> Result<Letter, Memory>
     ensures texts { IfOk result (λ e. (e.properties ≡ compact_text (properties_wire message))
         × (e.headers ≡ compact_text (headers_wire message))

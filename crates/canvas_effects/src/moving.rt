@@ -115,7 +115,7 @@ fn into_placed_end(
     }
 }
 
-/// Sets the place of the end of what follows a task.
+/// Sets the place of the end of a line's rest.
 pub(crate) fn into_placed_rest(
     alloc: Global,
     rest: Option<FrozenLine>,

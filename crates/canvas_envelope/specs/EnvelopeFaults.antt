@@ -114,7 +114,7 @@ abbrev pub same_task : Option ℕ → Option ℕ → Bool
 same_task (Some j) (Some k) = j == k
 same_task j k = false
 
--- a correlation's identifier, where there is one, is that of another task or of none
+-- a correlation's identifier, if there is one, is that of another task or of none
 abbrev pub other_task : (task : Option ℕ) → (correlation : Option Data) → Bool
 other_task k None = false
 other_task k (Some d) = not (same_task (task_of d) k)

@@ -1,6 +1,6 @@
 -- The contents that a message can have: those that reading three texts can give (Celery's task
 -- message protocol, version 2). They are rules about the line that begins with the message's own
--- task, so the rules for lines cover also its own place and what follows it.
+-- task, so the rules for lines cover also its own place and the rest of its line.
 use Rattle.std.specs.Prelude.{ℕ, ◌+◌, ◌^◌, max, Bool, true, false, not, ◌&&◌, List, [], ◌∷◌, Option, Some, None, nat_lt, nat_le}
 use Rattle.std.specs.Ordering.{nat_cmp}
 use Rattle.std.specs.declared.cmp.Ordering.{Ordering}

@@ -1,7 +1,7 @@
 -- The texts that messages share (Celery's task message protocol, version 2: `chain` and `chord` in
 -- the embed of a body). They are kept with the values that they encode, so that each is written
 -- once.
---    AreEnds       the ends of the text of what follows on a line, and of the text of the rest
+--    AreEnds       the ends of the text of a line's rest, and of the text of what is left of it
 --                  each time that a task is taken
 --    SaysCarried   the text of the body that a place carries; a text nested in it is that of what
 --                  the end of the body carries
@@ -104,7 +104,7 @@ place_behind own (p_step t l) = end_place (p_step t l)
 place_behind own (p_group_end g ms) = end_place (p_group_end g ms)
 place_behind own (p_chord_end g ms b) = end_place (p_chord_end g ms b)
 
--- the known texts of a task at a place, and of what follows it
+-- the known texts of a task at a place, and of the rest of its line
 pub record AreTexts (texts : Texts) (place : PPlace) (rest : PLine) : Type 0 where
   pub line : IfSome texts.line (λ t. IsLineText t rest)
   pub carried : IfSome texts.carried

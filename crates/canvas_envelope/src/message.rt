@@ -1,13 +1,13 @@
-//! Messages: a task to run, and what follows it.
+//! Messages: a task to run, with its callbacks, the rest of its line and its place.
 
 use crate::Texts;
 use canvas_rewrite::{FrozenLine, FrozenTask, Place};
 use canvas_task::{Arg, ListOf, MapOf, TaskNo, TextOf};
 use std::marker::Model;
 
-/// A call of a task, with what follows it: its links and error callbacks, the rest of its line, and
-/// the place of this line's end in a group or chord. Contracts compare two messages by their
-/// contents; there is no `PartialEq` at run time.
+/// A call of a task, with everything that follows: its links and error callbacks, the rest of its
+/// line, and the place of this line's end in a group or chord. Contracts compare two messages by
+/// their contents; there is no `PartialEq` at run time.
 ///
 /// `parent` is the task whose end published the message. A message holds only what can be read from
 /// an envelope: names and numbers are valid, only the last task of a line has a place, and
@@ -35,8 +35,8 @@ pub struct Message {
     /// The rest of the line: `chain` in the body, where the last element comes first. An empty line
     /// means the same as None.
     pub rest: Option<FrozenLine>,
-    /// Texts that are already written: of what follows, and of the body that the place at the end
-    /// of the line carries.
+    /// Texts that are already written: of the rest of the line, and of the body that the place at
+    /// the end of the line carries.
     pub texts: Texts,
 }
 

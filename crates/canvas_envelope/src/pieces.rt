@@ -23,7 +23,7 @@ pub struct LinePiece {
 pub enum Piece {
     /// A text of the body that a place carries.
     Carried(Arc<CarriedText>),
-    /// A text of what follows on a line.
+    /// A text of the rest of a line.
     Line(LinePiece),
 }
 

@@ -26,14 +26,14 @@ pub struct ElementsText {
     pub own: String,
 }
 
-/// The text of what follows on a line, its last element first, without the brackets of the list.
-/// When the line's next task is taken, the text of the rest is a prefix of it, so that the messages
+/// The text of the rest of a line, its last element first, without the brackets of the list. When
+/// the next task is taken, the text of what is left is a prefix of this one, so that the messages
 /// of a line share one text.
 #[derive(Drop)]
 pub struct LineText {
     /// The elements.
     pub text: Arc<ElementsText>,
-    /// The end of each element of what still follows, in bytes after the head. That of the next
+    /// The end of each element that still follows, in bytes after the head. That of the next
     /// element is the last.
     pub ends: Vec<usize>,
 }
@@ -42,11 +42,11 @@ pub struct LineText {
 /// invariant says that they agree with it, and they save writing or walking through it again.
 #[derive(Drop)]
 pub struct Texts {
-    /// The text of what follows on its line.
+    /// The text of the rest of its line.
     pub line: Option<LineText>,
     /// The text of the body that the place at the end of its line carries.
     pub carried: Option<Arc<CarriedText>>,
-    /// The first tasks of what follows on its line that have no place.
+    /// The first tasks of the rest of its line that have no place.
     pub unplaced: Unplaced,
 }
 

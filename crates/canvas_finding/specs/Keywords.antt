@@ -28,6 +28,6 @@ abbrev pub is_chord : Option Primitive → Bool
 is_chord (Some kind.Chord) = true
 is_chord o = false
 
--- a signature is such a chord
+-- a signature is a chord that Celery doesn't start
 abbrev pub is_unstarted : Data → Bool
 is_unstarted d = is_chord (kind_of d) && lacks_own (kwargs d)

@@ -23,8 +23,8 @@ pub struct Signature {
     pub steps: Vec<Step>,
     /// The task that it names, if that is a name.
     pub name: Option<String>,
-    /// Whether it is the group as which a header is written. A canvas has only the members of such
-    /// a group.
+    /// Whether it is the group signature of a header. The canvas has only the members of this
+    /// group.
     pub is_header_group: bool,
     /// Whether it is a chord that Celery doesn't start: it has keyword arguments besides its header
     /// and body, but not the `kwargs` that Celery writes there.

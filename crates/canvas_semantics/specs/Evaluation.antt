@@ -153,7 +153,7 @@ group_value x es = gathered es
 abbrev pub behind : Rows → Meaning → Meaning
 behind rows m = record { rows = rows ++ m.rows; out = m.out }
 
--- what goes out of the first goes into the next
+-- the flow out of the first goes into the next
 abbrev pub and_then : Meaning → (Flow → Meaning) → Meaning
 and_then first next = behind first.rows (next first.out)
 

@@ -24,7 +24,7 @@ pub data Rule : Type 0 where
   of_list : Text → (List ℤ → Answer) → Rule
   of_id : Text → (ℕ → Answer) → Rule
 
--- the meaning of such a task
+-- the meaning of a task with this rule
 abbrev pub meant : Rule → Meaning
 meant (of_two x y answer) args named = answer_two answer (two_numbers x y args named)
 meant (of_one x answer) args named = answer_given answer (one_number x args named)

@@ -20,7 +20,7 @@ pub record NamedTask : Type 0 where
   pub name : Text
   pub answers : Meaning
 
--- the behaviour of such tasks: the first task of a name answers
+-- the behaviour of named tasks: the first task of a name answers
 abbrev pub behaviour_of : List NamedTask → Behaviour
 behaviour_of [] name args named = Failure (Plain NotRegistered)
 behaviour_of (t ∷ ts) name args named =
@@ -67,6 +67,6 @@ IsAmong t (u ∷ us) = (u ≡ t) ⊎ IsAmong t us
 abbrev pub AreTheBuiltin : List NamedTask → Type 0
 AreTheBuiltin ts = AreBuiltin ts × ((task : Builtin) → IsAmong (as_named task) ts)
 
--- such a registry behaves as the built-in tasks do
+-- exactly the built-in tasks, in any order, behave as `builtin_tasks`
 abbrev pub BuiltinAnswer : Type 0
 BuiltinAnswer = (ts : List NamedTask) → AreTheBuiltin ts → behaviour_of ts ≡ builtin_tasks

@@ -89,8 +89,8 @@ fn put_closing(alloc: Global, out: &mut String, errbacks: &[FrozenTask]) -> Resu
     put(out, "}]")
 }
 
-/// Returns the text of what follows, without its brackets. A text that the message holds is shared
-/// without a comparison: the invariant of `Message` says that it is the right one.
+/// Returns the text of the rest of a line, without its brackets. A text that the message holds is
+/// shared without a comparison: the invariant of `Message` says that it is the right one.
 fn rest_piece(alloc: Global, texts: &Texts, rest: &FrozenLine) -> Result<Piece, AllocError>
     requires line { IfSome texts.now.line (λ t. IsLineText t (p_line_view rest.now)) }
     requires carried { IfSome texts.now.carried
@@ -223,8 +223,8 @@ fn alone(alloc: Global, front: String, errbacks: &[FrozenTask]) -> Result<Body, 
     })
 }
 
-/// Makes the body of a message. It shares the texts of what follows and of the carried body that
-/// the message holds.
+/// Makes the body of a message. It shares the texts of the rest of the line and of the carried body
+/// that the message holds.
 pub fn body_of(alloc: Global, message: &Message) -> Result<Body, AllocError>
     ensures value { IfOk result (λ b.
         string_bytes b.front ++ (shared_text b.shared ++ string_bytes b.back)

@@ -1,6 +1,6 @@
-//! The text of what follows on a line, which its messages share. The last element comes first in
-//! `chain`, so the text of the rest is a prefix each time a task is taken, and writing the messages
-//! of a chain takes time linear in its length.
+//! The text of the rest of a line, which its messages share. The last element comes first in
+//! `chain`, so each time a task is taken the text of what is left is a prefix, and writing the
+//! messages of a chain takes time linear in its length.
 
 ghost use Rattle.std.specs.Prelude.{◌≡◌, ◌∷◌, [], ◌++◌, ℕ, List, true, IfOk, IfSome, None, OnOk, map, string_bytes};
 ghost use Rattle.std.specs.Str.{IsUtf8};

@@ -93,7 +93,7 @@ fn members_room(members: &[FrozenLine]) -> usize {
     }
 }
 
-/// Estimates the length of what follows, if anything does.
+/// Estimates the length of the rest of a line, if there is one.
 #[cycle(rooms)]
 fn rest_room(rest: &Option<FrozenLine>) -> usize {
     match rest {

@@ -16,7 +16,7 @@ use canvas_sig::parts::{Datum, MOST_LEVELS, is_list_or_null, is_object_or_null, 
 use canvas_task::ListOf;
 use std::alloc::Global;
 
-/// Links, error callbacks, the place of the line, and what follows on it.
+/// Links, error callbacks, the place of the line, and its rest.
 #[derive(Drop)]
 pub(crate) struct Embed {
     pub(crate) links: ListOf<FrozenTask>,
@@ -56,7 +56,7 @@ fn read_reversed(
     Ok(Some(line_of(alloc, tasks, last)?))
 }
 
-/// Reads what follows on the line, its last element first.
+/// Reads the rest of the line, its last element first.
 fn read_rest(alloc: Global, values: &[Datum<'_>]) -> Result<Option<FrozenLine>, SigFault>
     ensures { Gives rest_seen result (chain_reading (map view values.now)) }
 {

@@ -19,8 +19,8 @@ fn copy_rest(alloc: Global, rest: &Option<FrozenLine>) -> Result<Option<FrozenLi
     }
 }
 
-/// Clones a message. The carried bodies are shared, but not the text of what follows on its line,
-/// which has to be written again.
+/// Clones a message. The carried bodies are shared, but not the text of the rest of its line, which
+/// has to be written again.
 pub(super) fn copy_message(alloc: Global, message: &Message) -> Result<Message, AllocError>
     ensures { IfOk result (λ copy. copy ≡ message.now) }
 {

@@ -13,8 +13,8 @@ use canvas_task::{Arg, GroupNo, TaskNo, name_ok};
 use canvas_values::{args_fit, kwargs_fit};
 use std::collections::BTreeMap;
 
-/// Returns true, since such a number is at least 1. The rule in the contract is about any number,
-/// so this checks it.
+/// Returns true, since the number of a task is at least 1. The rule in the contract is about any
+/// number, so this checks it.
 pub(super) fn is_task(task: TaskNo) -> bool
     ensures { result ≡ is_task_number task }
 {

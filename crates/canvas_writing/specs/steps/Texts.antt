@@ -85,7 +85,7 @@ abbrev pub args_text : (args : Items) (kwargs : Members) → List ℕ
 args_text args kwargs =
     codes "[[" ++ (items_text false args ++ (codes "," ++ compact_text (object kwargs)))
 
--- up to what follows on the line
+-- up to the rest of the line
 abbrev pub opening_text : (args : Items) (kwargs : Members) (callbacks : Data) → List ℕ
 opening_text args kwargs callbacks =
     args_text args kwargs ++ (codes ",{\"callbacks\":" ++ compact_text callbacks)
