@@ -30,7 +30,7 @@ pub enum Spot {
     Text,
     /// The place where a text stops being JSON: its line and column, counted from 1.
     Json { line: usize, column: usize },
-    /// A signature, given by the steps that lead to it.
+    /// A signature, given by the steps that lead to it. A missing body is a fault of its chord.
     Signature(Vec<Step>),
 }
 
@@ -212,7 +212,10 @@ fn find_at(alloc: Global, bytes: &[u8], fault: SigFault) -> Result<Finding, Memo
     find_parsed(alloc, &arena, &mut scratch, bytes, fault)
 }
 
-/// Returns the refusal of a text and its place, or None if the text is a canvas.
+/// Returns the refusal of a text and its place, or None if the text is a canvas. The place of a
+/// limit is the first signature that exceeds it: a member that ends in a group; a signature more
+/// than 8 deep, or the whole canvas if it is too deep only in a message; the task, group or chord
+/// that is one too many.
 pub fn find(alloc: Global, bytes: &[u8]) -> Result<Option<Finding>, Memory>
     ensures { IfOk result (IsFound bytes.now) }
 {

@@ -20,9 +20,10 @@ most_tasks = 1024
 abbrev pub most_groups : ℕ
 most_groups = 1024
 
--- Whether a member of a group or of a header ends in a group, anywhere in the canvas as written.
--- It holds equally for the members' normal lines, since rewriting keeps the ends of a line if no
--- chain is empty (`nested_in_lines` of proofs/NormalEnds); an empty chain is refused first.
+-- Whether a member of a group or of a header ends in a group, anywhere in the canvas as written. It
+-- holds equally for the members' normal lines, since rewriting keeps the ends of a line if no chain
+-- is empty (`nested_in_lines` of proofs/NormalEnds); an empty chain is refused first. So each
+-- member of a canvas ends in one task.
 abbrev mutual
   pub nests_group : Tree → Bool
   nests_group (one t) = false

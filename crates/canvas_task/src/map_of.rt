@@ -6,7 +6,8 @@ use std::collections::BTreeMap;
 use std::fmt;
 use std::marker::Model;
 
-/// A map that contracts see as its entries in the order of their names.
+/// A map that contracts see as the list of its entries in the order of their names, since such a
+/// list computes and std's finite maps don't.
 #[derive(Drop)]
 pub struct MapOf<T> {
     map: BTreeMap<String, T>,

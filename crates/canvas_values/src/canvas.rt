@@ -15,7 +15,8 @@ use std::marker::Model;
 /// A signature that passed every check.
 ///
 /// Its model is the tree that it spells, so in contracts `≡` compares two canvases by their
-/// content. There is no `PartialEq` at run time.
+/// content; on a bare `Node` it would also compare the pointers of boxes. There is no `PartialEq`
+/// at run time.
 #[derive(Drop)]
 pub struct Canvas {
     node: Node,
