@@ -33,7 +33,7 @@ is_of_text fault = false
 
 -- ---- canvases
 
--- this canvas, unchanged
+-- the result is this canvas, unchanged
 abbrev pub IsKept : Tree → Adapted → Type 0
 IsKept c a = (a.canvas ≡ c) × (a.changes ≡ no_changes)
 
@@ -45,11 +45,11 @@ IsSettled (Err fault) made = is_of_text fault ≡ true → IsRefused fault made
 
 -- ---- texts
 
--- it reads as a canvas, which has this number of tasks
+-- the text reads as a canvas, which has this number of tasks
 abbrev pub Reads : AdaptedText → Type 0
 Reads a = (c : Tree) × (text_reading a.text.items ≡ Ok c) × (a.tasks ≡ count c)
 
--- these bytes, unchanged
+-- the text is these bytes, unchanged
 abbrev pub IsKeptText : Text → AdaptedText → Type 0
 IsKeptText bytes a = (a.text.items ≡ bytes) × (a.changes ≡ no_changes)
 

@@ -51,7 +51,7 @@ pub record SaidByParts (d : Data) : Type 0 where
   pub last : last_in d ≡ element_from (task_in d) line_in (primitive_of (subtype d)) d
   pub line : line_in d ≡ line_by task_in last_in line_in d
 
--- both with another number of levels
+-- another number of levels gives the same refusals and contents of a signature
 pub record SameWithin (n : ℕ) (d : Data) : Type 0 where
   pub bad_task : bad_task_within n d ≡ bad_task d
   pub bad_last : bad_last_within n d ≡ bad_last d

@@ -1,5 +1,5 @@
--- What a message can carry for the end of its line (the embed of Celery's task message protocol,
--- version 2), and which lines can be walked.
+-- The places that a message can carry for the end of its line (the embed of Celery's task message
+-- protocol, version 2), and the lines that can be walked.
 use Rattle.std.specs.Prelude.{◌≡◌, suc, Bool, true, false, ◌&&◌, ◌||◌, nat_le, List, [], ◌∷◌}
 use Rattle.std.specs.List.{list_all}
 use Rattle.canvas_task.specs.Numbers.{in_range}

@@ -1,7 +1,7 @@
--- What a task's end, the completion of a header, or the start of a plan makes a worker do (Celery
--- user guide, Canvas; the chord rule of Celery's Redis backend: the member that is returned last
--- has the body applied to the results). It is defined once, as jobs in file order (`enter`), which
--- are then sorted into stores, messages and a part.
+-- The effects of a task's end, of the completion of a header, and of the start of a plan: the jobs
+-- of a worker (Celery user guide, Canvas; the chord rule of Celery's Redis backend: the member that
+-- is returned last has the body applied to the results). They are defined once, as jobs in file
+-- order (`enter`), and then sorted into stores, messages and a part.
 use Rattle.std.specs.Prelude.{ℕ, List, [], ◌∷◌, ◌++◌, map, Option, Some, None}
 use Rattle.canvas_task.specs.declared.outcome.Fault.{Fault}
 use Rattle.canvas_task.specs.declared.outcome.Fault.TheVariants as fault
@@ -69,7 +69,7 @@ abbrev pub when_empty : {A : Type 0} → PLines → List A → List A
 when_empty no_p_lines xs = xs
 when_empty (and_p_line m ms) xs = []
 
--- What is done at once if x flows into a line after task k, and the line's end goes to p, in file
+-- The jobs that are done at once if x flows into a line after task k whose end goes to p, in file
 -- order. u is the task whose end it is, if any.
 abbrev mutual
   pub enter : PLine → LineFlow → PPlace → ℕ → Option ℕ → Jobs

@@ -5,10 +5,10 @@ use Rattle.canvas_envelope.specs.Content.{Content}
 use Rattle.canvas_effects.specs.Flowing.{no_input}
 use Rattle.canvas_effects.specs.steps.Walks.{started}
 
--- those of each line; the ends of the lines go to a place
+-- the messages of each line; the ends of the lines go to a place
 abbrev pub portions : List PLine → PPlace → List (List Content)
 portions ls p = map (λ l. started l no_input p None) ls
 
--- all of them, in order
+-- the messages of all portions, in order
 abbrev pub together : List (List Content) → List Content
 together = flat_map (λ messages. messages)

@@ -1,5 +1,4 @@
-//! What a worker has to do after the start of a plan, the end of a task, and the completion of a
-//! header.
+//! The effects of the start of a plan, the end of a task, and the completion of a header.
 //!
 //! A line is walked in three ways: it is started, skipped, or an exception is raised in it.
 //! Messages that are made here fit by proof, and aren't checked again at run time. Outcomes have to

@@ -1,4 +1,4 @@
-//! What has to be done after the end of a task, or after the completion of a header.
+//! The jobs of a worker after the end of a task, or after the completion of a header.
 
 ghost use Rattle.std.specs.Prelude.{◌≡◌, true};
 ghost use Rattle.canvas_effects.specs.Carrying.{carried_ok};
@@ -26,8 +26,8 @@ pub struct PartCall {
     ghost says: { SaysBody text (carried_view chord) } by { known_prop text (carried_view chord) },
 }
 
-/// What a worker stores, publishes and returns, in this order. Stores and messages are in the order
-/// of their tasks' numbers.
+/// The jobs of a worker: it stores, publishes and returns, in this order. Stores and messages are
+/// in the order of their tasks' numbers.
 #[derive(Drop)]
 pub struct Todo {
     /// The outcomes of tasks that fail without being run. The outcome of a message's own task isn't

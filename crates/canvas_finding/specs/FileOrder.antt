@@ -40,7 +40,7 @@ in_kwargs (Some kind.Group) d = from_index field.Members 0 (listed (tasks d))
 in_kwargs (Some kind.Chord) d = some_in field.Header (header d) ++ one_in field.Body (body d)
 in_kwargs p d = []
 
--- these steps before those of a signature
+-- a signature with these steps before its own
 abbrev pub behind : List Step → Sighted → Sighted
 behind steps s = record s { steps = steps ++ s.steps }
 

@@ -20,7 +20,7 @@ is_part name = bytes_eq name (codes "header") || bytes_eq name (codes "body")
 abbrev pub has_others : Data → Bool
 has_others d = list_any (λ e. not (is_part e.0)) (object_members d)
 
--- and they don't contain Celery's own `kwargs`
+-- they do, and they don't contain Celery's own `kwargs`
 abbrev pub lacks_own : Data → Bool
 lacks_own d = not (is_some (get (codes "kwargs") d)) && has_others d
 

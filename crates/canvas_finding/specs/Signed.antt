@@ -16,7 +16,7 @@ listed s = (s.steps.items, (s.is_unstarted, map string_bytes s.ignored.items))
 abbrev pub sighted : Sighted → List Step × (Bool × List Text)
 sighted s = (s.steps, (is_unstarted s.signature, ignored_in s.signature))
 
--- those of the JSON value of a text, in file order
+-- the signatures of the JSON value of a text, in file order
 abbrev pub AreSignatures : Text → List Signature → Type 0
 AreSignatures bytes found =
     (d : Data) → json_of bytes ≡ Some d

@@ -86,7 +86,7 @@ pub fn pointer_text(alloc: Global, steps: &[Step]) -> Result<String, AllocError>
     Ok(text)
 }
 
-/// Only for the proof: reads each index, which gives the fact that it fits its type.
+/// Reads each index, which has no effect: the proof then knows that each fits its type.
 pub(crate) fn read_indices(steps: &[Step])
     ensures { AreIndices steps.now }
 {

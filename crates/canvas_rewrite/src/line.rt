@@ -9,7 +9,7 @@ use canvas_values::TaskSig;
 pub struct Line {
     /// The tasks, of which the first runs first. There may be none before a group or chord.
     pub tasks: ListOf<TaskSig>,
-    /// None if the line ends in a task.
+    /// The group or chord at the end, or None if the line ends in a task.
     pub tail: Option<Box<LineEnd>>,
 }
 

@@ -4,7 +4,8 @@ use Rattle.std.specs.Prelude.{ℕ, List, [], ◌∷◌, ◌++◌}
 use Rattle.canvas_semantics.specs.Evaluation.{all_ends}
 use Rattle.canvas_semantics.specs.Tree.{Tree, one, chain, group, chord, Trees, no_trees, and_tree}
 
--- by number, in file order: a group or chord before those inside it, a header before the body
+-- the groups and chords in file order: a group or chord before those inside it, a header before the
+-- body
 abbrev mutual
   pub groups_of : Tree → List (ℕ × List ℕ)
   groups_of (one t) = []

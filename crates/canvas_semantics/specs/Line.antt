@@ -116,7 +116,7 @@ pub record GroupEntry : Type 0 where
   pub chord : Bool
   pub members : List ℕ
 
--- in file order, so that the i-th entry has number i
+-- the entries in file order, so that the i-th has number i
 abbrev mutual
   pub group_entries : Line → List GroupEntry
   group_entries stop = []

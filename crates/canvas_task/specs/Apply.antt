@@ -38,7 +38,7 @@ filled (p ∷ ps) (a ∷ args) named =
     first_argument (either (Some a) (by_name p named)) (filled ps args named)
 filled (p ∷ ps) [] named = first_argument (either None (by_name p named)) (filled ps [] named)
 
--- these arguments, if each keyword is a parameter
+-- the arguments for the parameters, if each keyword is one of them
 abbrev pub bound_to : List Text → List Arg → List (Text × Arg) → Option (List Arg)
 bound_to ps args named =
     if list_all (λ e. list_any (bytes_eq e.0) ps) named then filled ps args named else None
@@ -63,12 +63,11 @@ outcome (Ok n) = if in_range n then Success n else Failure (Plain Overflow)
 outcome (Err kind) = Failure (Plain kind)
 
 -- a behaviour of tasks: the outcome of a call, by the task's name, its positional arguments and its
--- keyword arguments
--- evaluation, runs and their laws have it as a parameter
+-- keyword arguments; evaluation, runs and their laws have it as a parameter
 abbrev pub Behaviour : Type 0
 Behaviour = Text → List Arg → List (Text × Arg) → Outcome
 
--- a success is of a number in range
+-- a success has a number in range
 abbrev pub IsInRange : Outcome → Type 0
 IsInRange (Success n) = in_range n ≡ true
 IsInRange (Failure f) = Unit {0}

@@ -1,4 +1,4 @@
--- How an exception is printed: by the names of Python's and Celery's exceptions.
+-- The printed form of exceptions: the names of Python's and Celery's.
 use Rattle.std.specs.Prelude.{ℕ, List, ◌++◌, codes}
 use Rattle.canvas_task.specs.declared.outcome.Kind.{Kind}
 use Rattle.canvas_task.specs.declared.outcome.Kind.TheVariants.{BadCall, ZeroDivision, Overflow, NotRegistered}

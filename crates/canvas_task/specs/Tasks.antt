@@ -31,7 +31,7 @@ abbrev pub has_name : Text → List NamedTask → Bool
 has_name name [] = false
 has_name name (t ∷ ts) = bytes_eq t.name name || has_name name ts
 
--- why a task of this name is not added to these, apart from allocation failures
+-- the fault for which a task of this name is not added to these, apart from allocation failures
 abbrev pub fault_of : Text → List NamedTask → Option AddFault
 fault_of name ts =
     if not (name_ok name) then Some BadName else (if has_name name ts then Some Doubled else None)
@@ -44,7 +44,7 @@ named_task called answers b = record { name = called b; answers = answers b }
 abbrev pub named_tasks : {B : Type 0} → (B → Text) → (B → Meaning) → List B → List NamedTask
 named_tasks called answers bs = map (named_task called answers) bs
 
--- those of a registry, in the order in which they were added
+-- the tasks of a registry, in the order in which they were added
 abbrev pub tasks_in : {X : Type 0} {F : X → Type 0} → (DynBox X Global F → Text)
     → (DynBox X Global F → Meaning) → Boxes X F → List NamedTask
 tasks_in called answers r = named_tasks called answers r.tasks.items

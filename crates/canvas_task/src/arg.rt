@@ -11,7 +11,7 @@ use std::collections::BTreeMap;
 pub enum Arg {
     /// A whole number, from -2^60 to 2^60 in every canvas.
     Num(i64),
-    /// A list of whole numbers from -2^60 to 2^60, in order. It may be empty.
+    /// A list of whole numbers, also from -2^60 to 2^60 in every canvas. It may be empty.
     List(ListOf<i64>),
     /// A text in UTF-8.
     Text(TextOf),

@@ -1,4 +1,4 @@
-//! Which names a task may have.
+//! The rule for names of tasks.
 ghost use Rattle.std.specs.Prelude.{◌≡◌};
 ghost use Rattle.canvas_task.specs.Name.{name_ok, printable};
 ghost use Rattle.std.specs.List.{list_all};

@@ -36,7 +36,7 @@ impl fmt::Display for Kind {
     }
 }
 
-/// Why a member of a header failed: the exception of its last task.
+/// The reason why a member of a header failed: the exception of its last task.
 #[derive(Clone, Copy, Debug, PartialEq, Eq)]
 pub enum Why {
     /// An exception that a task raised itself.

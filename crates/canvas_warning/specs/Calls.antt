@@ -40,7 +40,7 @@ some_task = task_text 1
 abbrev pub one : Arg
 one = arg.Num (pos 1)
 
--- it accepts none, one or two numbers, a list of numbers, or the identifier of a task
+-- a task accepts none, one or two numbers, a list of numbers, or the identifier of a task
 abbrev pub takes_some : Behaviour → Text → Bool
 takes_some behaviour name =
     takes behaviour name [] || takes behaviour name (one ∷ [])

@@ -55,7 +55,7 @@ of_task e n s =
       is_missed = is_unknown_call e && (nat_lt 0 n || s.is_followed || s.is_in_header);
     }
 
--- as a body, a chain is never stored: nothing gives it an identifier
+-- a chain, which as a body is never stored: nothing gives it an identifier
 abbrev pub of_chain : Stand → Forecast
 of_chain s = record (of_call Answer) { has_no_identifier = s.is_body }
 

@@ -5,11 +5,11 @@
 pub enum Wrong {
     /// The task has no parameter of this name.
     NoParameter,
-    /// It has no argument.
+    /// The parameter has no argument.
     Missing,
-    /// It has a positional argument and a keyword argument.
+    /// The parameter has a positional argument and a keyword argument.
     Twice,
-    /// Its argument is of a kind other than the task takes.
+    /// The parameter's argument is not of the kind that the task takes.
     OtherKind,
 }
 

@@ -1,5 +1,5 @@
-//! What follows a consumed message: the next task of its line, or the part that its end returns,
-//! takes over what the message carries.
+//! The effects of the end of a task whose message is consumed: the next task of its line, or the
+//! part that its end returns, takes over what the message carries.
 
 ghost use Rattle.std.specs.Prelude.{◌≡◌, ◌++◌, true, false, IfOk, IfSome, OnOk, MatchBool, MatchOption};
 ghost use Rattle.std.specs.Option.{option_map};

@@ -39,6 +39,6 @@ BeginsBehind (e ∷ es) k = slice_cmp nat_cmp e.0.now k ≡ Greater
 abbrev pub StandsAt : List (Bor Text × Datum) → Text → ℕ → Type 0
 StandsAt es k i = (i < length es) × AllBelow (take i es) k × BeginsWith (drop i es) k
 
--- none has the name, which belongs before this index
+-- none of them has the name, which belongs before this index
 abbrev pub BelongsAt : List (Bor Text × Datum) → Text → ℕ → Type 0
 BelongsAt es k i = (i ≤ length es) × AllBelow (take i es) k × BeginsBehind (drop i es) k

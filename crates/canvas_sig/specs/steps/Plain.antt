@@ -11,7 +11,7 @@ use Rattle.canvas_sig.specs.declared.place.Place.TheVariants.{AfterValue}
 abbrev pub IsTrimmed : List ℕ → Type 0
 IsTrimmed t = is_blank (class (head t)) ≡ true → t ≡ []
 
--- what follows a value, and its comma if there was one
+-- the text after a value, and after its comma if there was one
 abbrev pub Ends : Place → List ℕ → Type 0
 Ends AfterValue t = (t ≡ []) ⊎ ((head t ≡ 93) ⊎ (head t ≡ 125))
 Ends p t = Unit {0}

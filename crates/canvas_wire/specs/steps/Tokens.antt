@@ -11,11 +11,11 @@ use Rattle.canvas_wire.specs.Writing.{tasks_wire}
 abbrev pub data_tokens : Data → List Token
 data_tokens d = json_tokens (outline d)
 
--- up to the closing bracket
+-- the items of a list, up to the closing bracket
 abbrev pub rest_tokens : Items → List Token
 rest_tokens ds = items_tokens (items_outline ds)
 
--- up to the closing brace
+-- the members of an object, up to the closing brace
 abbrev pub rest_members : Members → List Token
 rest_members ms = members_tokens (members_outline ms)
 
@@ -34,7 +34,7 @@ flag_tokens immutable = key (codes "immutable") ∷ boolean immutable ∷ []
 abbrev pub kwargs_tokens : Members → List Token
 kwargs_tokens kwargs = key (codes "kwargs") ∷ begin_object ∷ rest_members kwargs
 
--- up to the brace after the keyword arguments
+-- a task up to the brace after its keyword arguments
 abbrev pub call_tokens : (args : Items) → Bool → (kwargs : Members) → List Token
 call_tokens args immutable kwargs =
     front_tokens args ++ (flag_tokens immutable ++ kwargs_tokens kwargs)
@@ -76,10 +76,10 @@ closing_tokens kind name =
 abbrev pub member_tokens : List ℕ → Items → List Token
 member_tokens k ds = key k ∷ begin_array ∷ rest_tokens ds
 
--- from the last keyword argument to the end
+-- a chain, group or chord from its last keyword argument to the end
 abbrev pub last_tokens : List ℕ → Items → (kind : Data) → (name : List ℕ) → List Token
 last_tokens k ds kind name = member_tokens k ds ++ end_object ∷ closing_tokens kind name
 
--- up to the body of a chord
+-- a chord up to the end of its body
 abbrev pub body_tokens : Data → List Token
 body_tokens body = opening_tokens ++ key (codes "body") ∷ data_tokens body

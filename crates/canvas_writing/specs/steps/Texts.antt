@@ -27,11 +27,11 @@ headers_naming group id parent name =
     (member (codes "root_id") (task_id 1)
     (member (codes "task") (string name) no_members))))))
 
--- up to the identifier, with its opening quote
+-- the headers up to the identifier, with its opening quote
 abbrev pub front_text : (group : Data) → List ℕ
 front_text group = codes "{\"group\":" ++ (compact_text group ++ codes ",\"id\":\"")
 
--- from the identifier's closing quote up to the name
+-- the headers from the identifier's closing quote up to the name
 abbrev pub origin_text : (parent : Data) → List ℕ
 origin_text parent =
     codes "\",\"lang\":\"rs\",\"parent_id\":" ++ (compact_text parent
@@ -61,7 +61,7 @@ abbrev pub flag_text : Bool → List ℕ
 flag_text true = codes ",\"immutable\":true,\"kwargs\":"
 flag_text false = codes ",\"immutable\":false,\"kwargs\":"
 
--- up to the options
+-- a task up to its options
 abbrev pub call_text : (size : ℕ) (args : Items) → Bool → (kwargs : Members) → List ℕ
 call_text size args immutable kwargs =
     size_text size args ++ (flag_text immutable ++ compact_text (object kwargs))
@@ -85,16 +85,16 @@ abbrev pub args_text : (args : Items) (kwargs : Members) → List ℕ
 args_text args kwargs =
     codes "[[" ++ (items_text false args ++ (codes "," ++ compact_text (object kwargs)))
 
--- up to the rest of the line
+-- a body up to the rest of the line
 abbrev pub opening_text : (args : Items) (kwargs : Members) (callbacks : Data) → List ℕ
 opening_text args kwargs callbacks =
     args_text args kwargs ++ (codes ",{\"callbacks\":" ++ compact_text callbacks)
 
--- from the error callbacks to the end
+-- a body from the error callbacks to the end
 abbrev pub closing_text : (errbacks : Data) → List ℕ
 closing_text errbacks = codes ",\"errbacks\":" ++ (compact_text errbacks ++ codes "}]")
 
--- from the rest of the line to the end
+-- a body from the rest of the line to the end
 abbrev pub behind_text : (chain chord errbacks : Data) → List ℕ
 behind_text chain chord errbacks =
     codes ",\"chain\":" ++ (compact_text chain

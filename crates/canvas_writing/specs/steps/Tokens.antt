@@ -55,12 +55,12 @@ task_behind t =
     ++ ((named_tokens (codes "task_id") (task_id (number_of t)) ++ end_object ∷ [])
     ++ (kind_tokens null ++ name_tokens (call_of t).name)))
 
--- up to the keyword arguments of a chain, group or chord
+-- a chain, group or chord up to its keyword arguments
 abbrev pub opening_tokens : (size : Option ℕ) → List Token
 opening_tokens size =
     start_tokens size no_items ++ (flag_tokens false ++ key (codes "kwargs") ∷ begin_object ∷ [])
 
--- from a group's options to the end
+-- a group or chord from its options to the end
 abbrev pub group_closing : (number : ℕ) → (kind : Data) → (name : List ℕ) → List Token
 group_closing g kind name =
     (key (codes "options") ∷ begin_object ∷ named_tokens (codes "group_id") (group_id g))
