@@ -62,13 +62,10 @@ fn matches_of<'w>(alloc: Global, words: &'w [String]) -> Result<ArgMatches<'w>, 
         ≡ subcommand_of (program_for (map string_bytes words.entry.now))
         (map string_bytes words.entry.now)) }
     ensures err { IfErr result (λ e. takes (program_for (map string_bytes words.entry.now))
-        (map string_bytes words.entry.now) ≡ true → IsMistake (kind_of e)) }
+        (map string_bytes words.entry.now) ≡ true → kind_of e ≡ OutOfMemory) }
 {
     let program = program_of(alloc, first_of(words))?;
-    match program.try_get_matches_from(words) {
-        Ok(matches) => Ok(matches),
-        Err(error) => Err(with_topic(alloc, words, error)),
-    }
+    program.try_get_matches_from(words)
 }
 
 /// The topic that `help TOPIC` asks for, if there is one of this name.
@@ -127,7 +124,10 @@ pub fn read_words<'w>(
     ensures err { IfErr result (λ e. takes (program_for (map string_bytes words.entry.now))
         (map string_bytes words.entry.now) ≡ true → IsMistake (kind_of e)) }
 {
-    let mut matches = matches_of(alloc, words)?;
+    let mut matches = match matches_of(alloc, words) {
+        Ok(matches) => matches,
+        Err(error) => return Err(with_topic(alloc, words, error)),
+    };
     let Some((name, given)) = matches.remove_subcommand() else {
         return Err(no_command(alloc));
     };
