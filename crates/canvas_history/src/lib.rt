@@ -1,6 +1,6 @@
-//! Histories of an object that several callers share, whatever the object: who called, what, and
-//! what was answered, in one order; and the two objects of a run, the queue and the table of
-//! results, as one thread would have them. The only running code here is an answer of the table.
+//! Histories of any object that several callers share: who called, what, and what was answered, in
+//! one order; and the two objects of a run, the queue and the table of results, as one thread would
+//! have them. The only running code here is an answer of the table.
 #![tactic(auto)]
 
 mod laws;

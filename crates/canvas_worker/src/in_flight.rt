@@ -7,31 +7,31 @@ use std::sync::Wait;
 use std::sync::atomic::{AtomicU64, Ordering};
 use std::time::Duration;
 
-/// For how many microseconds a worker sleeps at most that has found nothing a few times in a row.
+/// The most microseconds that a worker sleeps after several takes in a row that found nothing.
 const NAP: u64 = 100;
 
-/// How many envelopes are in flight: published or delivered again, and not acknowledged yet. No
-/// claim rests on it.
+/// The count of envelopes in flight: published or redelivered, and not acknowledged yet. No claim
+/// rests on it.
 #[derive(Drop)]
 pub struct InFlight {
     count: AtomicU64,
 }
 
 impl InFlight {
-    /// With so many envelopes that are published already.
+    /// Returns a count of `count` envelopes that are published already.
     pub fn new(count: u64) -> InFlight {
         InFlight {
             count: AtomicU64::new(count),
         }
     }
 
-    // For the queue of workers alone.
+    // Only the queue of workers calls it.
     fn add(&self) {
         self.count.fetch_add(1, Ordering::SeqCst);
     }
 
-    /// One envelope is acknowledged, unless the worker is inside its script. A count of none stays
-    /// so, where one worker alone has it.
+    /// Counts one envelope as acknowledged, unless the worker is inside its script. A count of none
+    /// stays so if only one worker has it.
     pub(crate) fn done_unless(&self, is_inside: bool) {
         if !is_inside && self.is_some() {
             self.count.fetch_sub(1, Ordering::SeqCst);

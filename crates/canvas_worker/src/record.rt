@@ -5,11 +5,11 @@ use canvas_backend::BackendSeat;
 use canvas_broker::BrokerPass;
 use canvas_envelope::Letter;
 
-/// A worker's calls, counted, with its pass and its seat, and why it ended early, if it did. Each
-/// count stays at its greatest value.
+/// A worker's counts, with its pass and its seat, and why it ended early, if it did. Each count
+/// saturates.
 #[derive(Drop)]
 pub struct Record {
-    /// The number that the worker was made with; in a run 0 is the one that takes in all others.
+    /// The number that the worker was made with; in a run, 0 is the one that joins all others.
     pub number: u32,
     /// The envelopes that its core was given.
     pub taken: u64,
@@ -25,6 +25,6 @@ pub struct Record {
     pub pass: BrokerPass<Letter>,
     /// What it has seen of the table, to be joined by another seat.
     pub seat: BackendSeat,
-    /// None where it ended by itself.
+    /// None if it ended by itself.
     pub fault: Option<Cause>,
 }
