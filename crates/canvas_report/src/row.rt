@@ -2,7 +2,7 @@
 
 use canvas_task::{Outcome, TaskNo};
 
-/// What a stored result says of a task, whatever that returns or raises.
+/// The stored result of a task, for tasks that return or raise anything.
 #[derive(Debug, Drop, PartialEq, Eq)]
 pub enum Row {
     /// An outcome that the engine's own tasks have, or none yet.
@@ -11,6 +11,6 @@ pub enum Row {
     Value(String),
     /// The class of another exception.
     Raised(String),
-    /// A ChordError: the task that it names, and the class that this raised.
+    /// A ChordError: the task that it names, and the class of that task's exception.
     Blamed { dep: TaskNo, name: String },
 }

@@ -1,7 +1,7 @@
--- The lines that tell the steps of a run by turns: a JSON object (RFC 8259) in each, compact, with
--- its keys in the order of their letters.
+-- The lines of the steps of a run by turns: a JSON object (RFC 8259) in each, compact, with its
+-- keys in the order of their letters.
 --     did_text l rows held d    what a worker did that holds the envelope of this identifier
---     steps_text l rows held ss the lines of steps, where the workers hold these envelopes
+--     steps_text l rows held ss the lines of steps, if the workers hold these envelopes
 use Rattle.std.specs.Prelude.{ℕ, ◌-◌, if◌then◌else◌, Bool, List, [], ◌∷◌, ◌++◌, length, take, drop, replicate, slice_get, slice_set, Option, Some, None, unwrap_or, codes, decimal}
 use Rattle.canvas_task.specs.Identifiers.{task_text, group_text}
 use Rattle.canvas_task.specs.Text.{Text}
