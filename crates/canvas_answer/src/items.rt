@@ -157,7 +157,7 @@ pub fn item_answers(
     Ok(answers)
 }
 
-/// Appends the answers of others. Of two stubs with one name or number, the first counts.
+/// Appends the answers of others. If two stubs have one name or number, the first counts.
 fn add_others(answers: &mut Answers, others: Setting<'_>) -> Result<(), AllocError> {
     add_errors(answers, others.errors)?;
     for stub in others.stubs {

@@ -58,7 +58,7 @@ OneMoreLeads =
     → Leads behaviour book (xs ++ (asked (left_by behaviour book xs), replied r) ∷ [])
     (after_reply behaviour book s r)
 
--- The same asks and answers lead to a core that has handed out the envelope of its next publish.
+-- They also lead to a core that has handed out the envelope of its next publish.
 abbrev pub HandedLeads : Type 0
 HandedLeads =
     (behaviour : Behaviour) (book : Book) (xs : List (Asked × Answer)) (s : Standing)

@@ -15,14 +15,14 @@ use itoa::Buffer;
 use json::{Reader, Scratch, Token, Value, Writer};
 use std::alloc::Global;
 
-/// Whether a text begins with `~`.
+/// Returns whether a text begins with `~`.
 pub(crate) fn is_marked(text: &str) -> bool
     ensures { result ≡ is_marked text.now }
 {
     matches!(text.as_bytes(), [b'~', ..])
 }
 
-/// The number of a place, as it is written: `~0` and not `~00`.
+/// Parses the number of a place, as it is written: `~0` and not `~00`.
 fn number_of(text: &str) -> Option<usize>
     ensures { IfSome result (λ k. (k < 2 ^ 64) × (text.now ≡ 126 ∷ decimal k)) }
 {
@@ -32,7 +32,7 @@ fn number_of(text: &str) -> Option<usize>
     (digits == buffer.format(number)).then_some(number)
 }
 
-/// The value of a place.
+/// Returns the value of a place.
 fn value_of<'a, 'v>(text: &str, values: &'a [Value<'v>]) -> Option<&'a Value<'v>>
     requires { HaveNumbers (map value_view values.now) }
     ensures value { IfSome result
@@ -47,7 +47,7 @@ fn value_of<'a, 'v>(text: &str, values: &'a [Value<'v>]) -> Option<&'a Value<'v>
     }
 }
 
-/// A text: as it is, or the value of a place.
+/// Writes a text as it is, or the value of a place.
 fn write_text(
     alloc: Global,
     out: &mut Writer,
@@ -85,7 +85,7 @@ fn write_token(
     }
 }
 
-/// A JSON text with a value in each place.
+/// Returns a JSON text with a value in each place.
 pub(crate) fn filled_text(
     alloc: Global,
     text: &str,
