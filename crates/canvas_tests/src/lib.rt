@@ -1,4 +1,4 @@
-//! Tests of calls and of runs. They stand here, so that no crate is proved a second time for them.
+//! Tests of calls and of runs. They are here so that no crate is proved a second time for them.
 #![tactic(auto)]
 
 #[cfg(test)]
