@@ -56,8 +56,7 @@ delivery_wire queue =
     object (member (codes "exchange") (string [])
     (member (codes "routing_key") (string queue) no_members))
 
--- kombu keeps a delivery by its tag until it is acknowledged: each task's tag is its own
--- identifier.
+-- kombu keeps a delivery under its tag until it is acknowledged. A task's tag is its identifier.
 abbrev pub properties_wire : Naming → (queue : Text) → ℕ → Data
 properties_wire n queue k =
     object (member (codes "body_encoding") (string (codes "base64"))

@@ -6,11 +6,10 @@ use Rattle.canvas_export.specs.Setting.{Setting}
 use Rattle.canvas_celery.specs.Keys.{size_key, marker_key}
 
 -- It sets no key if its last argument isn't `whole`, as in a truncated text, if the server lacks a
--- database, if the queue's key is set to something other than a list, or if the run's marker is
--- set. Else it sets the chords' sizes under their keys and the run's marker, and last puts the
--- messages on the queue. Its keys are the marker, the queue and those of the sizes. Its arguments
--- are how long sizes are kept, the databases of the results and of the queue, the sizes, the
--- messages, and `whole`.
+-- database, if the queue's key is set and is not a list, or if the run's marker is set. Else it
+-- sets the chords' sizes and the run's marker, and last puts the messages on the queue. Its keys
+-- are the marker, the queue and those of the sizes. Its arguments are how long sizes are kept, the
+-- databases of the results and of the queue, the sizes, the messages, and `whole`.
 abbrev pub script : Text
 script =
     codes "if ARGV[#ARGV] ~= 'whole' then\n"

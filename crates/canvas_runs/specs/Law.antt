@@ -1,7 +1,8 @@
 -- The law of runs: for any number of workers, any order of their calls and any redeliveries, a run
 -- does what evaluating the plan's canvas gives, each thing once (Celery user guide, Canvas: a
--- chord's body is called once, when all tasks of the header have returned). A redelivered envelope
--- is taken once more, and one of the stores of its task answers that it was the first.
+-- chord's body is called once, when all tasks of the header have returned).
+-- A redelivered envelope is taken once more, and one of the stores of its task answers that it was
+-- the first.
 use Rattle.std.specs.Prelude.{◌≡◌, ◌≤◌, ◌⊎◌, ◌+◌, ℕ, eqb, cond, List, Option, Some, None}
 use Rattle.canvas_task.specs.Apply.{Behaviour}
 use Rattle.canvas_task.specs.declared.outcome.Outcome.{Outcome}
