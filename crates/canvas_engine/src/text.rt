@@ -166,6 +166,9 @@ where
 /// records of the run. The faults of the text come first, then those of the run. `gate` and `stop`
 /// are those of `run`: a gate must open in the end, and a stop that was asked, also by a worker,
 /// must not be used again.
+///
+/// The records are an answer, since that there are such records would say less: each plan has a
+/// closed run as data, and only a pass and a seat that the calls left show that this run made them.
 pub fn run_text_recorded<R, T, G>(
     rt: &R,
     alloc: Global,

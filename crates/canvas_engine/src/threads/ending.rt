@@ -55,6 +55,10 @@ fn read_rows(backend: &Backend, seat: &mut BackendSeat, plan: &Plan, rows: &mut 
 
 /// Runs worker 0 on this thread, once it has joined all others, until it finds nothing. Returns
 /// None if its executor failed.
+///
+/// Worker 0 is a `Worker` too: without a fault its record says that its last take found nothing,
+/// which for the only live caller makes the history end in the empty queue. A loop over takes would
+/// need a measure, which nothing that a caller sees gives.
 fn work_alone<R: Wait + RandomSource + AllocGlobal, T: Tasks>(
     rt: &R,
     alloc: Global,
@@ -152,6 +156,7 @@ impl Run {
             mut rows,
             ..
         } = self;
+        // Worker 0 reads these rows as those of any run, so each is pending or the evaluation's.
         read_rows(&site.backend, &mut hands.seat, plan, &mut rows);
         RunFault::halted_with(cause, rows)
     }

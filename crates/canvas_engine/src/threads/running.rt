@@ -63,6 +63,10 @@ fn first_tally(alloc: Global, workers: u32) -> Result<Vec<Tally>, Memory>
 
 /// Reserves all that a run needs: its rows and tallies, its first envelopes, its queue and its
 /// table with a pass and a seat for each worker.
+///
+/// All of it comes before the first publish, so a refusal here gives no rows. A refused publish
+/// gives rows that are all pending, since no worker has begun; a later refusal, or a stop, gives
+/// what is stored.
 fn reserve<R: Wait>(rt: &R, alloc: Global, plan: &Plan, workers: u32) -> Result<Start, Memory>
     ensures { IfOk result (IsStart plan.now workers) }
 {

@@ -1,4 +1,9 @@
 //! The slot of a worker in a run.
+//!
+//! A worker's record replaces its pass and seat in its slot. So starting threads takes no memory, a
+//! thread that can't be made costs only its concurrency, and an executor that fails loses only one
+//! worker. The run is then halted for memory, without rows: the lost pass stays a live caller, of
+//! which nothing closed can be proved.
 ghost use Rattle.std.specs.Prelude.{◌≡◌, MatchBool};
 ghost use Rattle.canvas_engine.specs.steps.Slots.{LeftARecord, IsWell, LacksMemory, tally_in};
 
