@@ -31,7 +31,8 @@ impl InFlight {
     }
 
     /// Counts one envelope as acknowledged, unless the worker is inside its script. A count of none
-    /// stays so if only one worker has it.
+    /// stays so if only one worker has it. That is so for worker 0: a message that it took all the
+    /// same wouldn't keep it from ending.
     pub(crate) fn done_unless(&self, is_inside: bool) {
         if !is_inside && self.is_some() {
             self.count.fetch_sub(1, Ordering::SeqCst);
@@ -42,7 +43,8 @@ impl InFlight {
         self.count.load(Ordering::SeqCst) != 0
     }
 
-    /// Sleeps for a little while, unless the count changes before.
+    /// Sleeps for a little while, unless the count changes before. Nobody wakes it, so a publish
+    /// costs no call of the kernel.
     pub(crate) fn nap<R: Wait>(&self, rt: &R) {
         let Ok(count) = u32::try_from(self.count.load(Ordering::SeqCst)) else {
             return;

@@ -11,7 +11,7 @@ use canvas_envelope::Letter;
 pub struct Record {
     /// The number that the worker was made with; in a run, 0 is the one that joins all others.
     pub number: u32,
-    /// The envelopes that its core was given.
+    /// The envelopes that its core was given. One for which the core had no memory is left out.
     pub taken: u64,
     /// The publishes that were accepted.
     pub published: u64,

@@ -1,4 +1,8 @@
 //! The worker.
+//!
+//! A worker remembers nothing of its calls. Its promise looks forward: from its present state on,
+//! its record will have followed a core run. Each poll puts one answered ask before that, so no
+//! list of calls is kept, not even as a ghost.
 
 ghost use Rattle.std.specs.Prelude.{◌≡◌, Some, None, IfSome, IsSome, IsSomeAnd};
 ghost use Rattle.canvas_worker.specs.Polled.{Polled};

@@ -290,6 +290,9 @@ impl<'a, R: Wait> Working<'a, R> {
     }
 
     /// Makes one poll. Fails with the end of a worker that has ended.
+    ///
+    /// It changes the worker in place: a function from a worker to a worker would move all that it
+    /// has, with the rest of its batch, through each poll.
     #[tactic(auto, using(crate::proofs::Turns::ends_acting, crate::proofs::Ending::left_for))]
     pub(crate) fn turn<T: Tasks, G: Gate>(
         &mut self,

@@ -101,6 +101,7 @@ impl<R: Wait> Working<'_, R> {
                     self.published = self.published.saturating_add(1);
                     self.reply(tasks, Reply::Published)
                 }
+                // The core ends with the worker, so it isn't answered.
                 Err(_refused) => Err(self.fail()),
             },
             None => unreachable!(),
@@ -141,6 +142,9 @@ impl<R: Wait> Working<'_, R> {
     }
 
     /// Looks the member up, and reads its last task.
+    ///
+    /// The core asks for a member by its place, since it knows no tasks; a backend of a plan has
+    /// the member's last task.
     fn read<T: Tasks>(&mut self, tasks: &T, group: GroupNo, place: u32) -> Result<(), End>
         requires ready { Ready self.old }
         requires asks { next self.old.core ≡ ask.Read group place }
