@@ -1,4 +1,8 @@
 //! The machine of a worker's scripts.
+//!
+//! A core keeps envelopes and no registry. Only a take asks the tasks, so a message that was taken
+//! has the outcome of its call beside it. What a message starts is encoded before the first store,
+//! and then dropped.
 
 ghost use Rattle.std.specs.Prelude.{◌≡◌, ◌≢◌, ◌≤◌, ◌+◌, min, true, false, Some, None, Ok, OnOk, OnErr, IfOk, IfSome};
 ghost use Rattle.std.specs.Option.{option_map};
@@ -179,7 +183,9 @@ impl Core {
 
     /// Answers what the core asks for. If memory is refused, the core has failed; only an envelope
     /// and a member's outcome may need any. The core can't look a member up: the caller that
-    /// answers a read names the last task of the member that was asked for.
+    /// answers a read names the last task of the member that was asked for. With any other task the
+    /// asks and answers would be no core run. An outcome that is found must be in range, since no
+    /// envelope can say a greater number.
     pub fn answer<B: Book, T: Tasks>(
         &mut self,
         book: &B,

@@ -1,4 +1,8 @@
 //! Whether the part of a script is due after the latest store of its task.
+//!
+//! The latest store of the part's own task counts. In a canvas that is the latest of all. In a
+//! message that no canvas gives, a task of a greater number may be stored after it, and its First
+//! would let a seat return what another stored.
 
 ghost use Rattle.std.specs.Prelude.{◌≡◌, cond};
 ghost use Rattle.canvas_runs.specs.Core.{is_due};

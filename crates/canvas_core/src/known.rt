@@ -1,4 +1,7 @@
 //! Whether a message names only what a book knows.
+//!
+//! A message is dropped if it names what the plan doesn't have, or has elsewhere. Who wrote it
+//! can't be known: a forged message that fits the plan is run as the plan's own.
 
 ghost use Rattle.std.specs.Prelude.{◌≡◌, true, map, drop};
 ghost use Rattle.canvas_rewrite.specs.FrozenView.{p_tasks_of, p_lines_of, p_task_view, p_line_view, p_end_view};

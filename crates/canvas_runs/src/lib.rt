@@ -1,6 +1,20 @@
 //! Runs of canvases as data: what a worker asks, which histories of the queue and of the table of
 //! results a run has, and the law of whole runs. There is no running code here: each function has
 //! an empty body, and its contract is a law.
+//!
+//! A core run is a machine: what is left to do, what is asked next, and what an answer leads to.
+//! What it asks is a call of the queue or of the table, an acknowledgement, or whether more may
+//! come, so its calls are its asks and answers, with no translation. Takes that found nothing and
+//! refused publishes are in no history, so following a core run leaves them out.
+//!
+//! An acknowledgement is in no history either, since the queue gave the envelope away at the take.
+//! So a history says only that a redelivery comes after the take of its envelope, and before the
+//! caller's next call of the queue after the acknowledgement. In a run by turns its place is exact.
+//!
+//! A core run may have redeliveries between its own calls; one without them is the special case.
+//! The first store of a task stays, whichever caller makes it and by whichever copy of the
+//! envelope, and that caller goes on. Nothing compares the queue's history with the table's in
+//! time: the law goes by the numbers of tasks, of which every cause is smaller than its effects.
 #![tactic(auto)]
 
 mod when;
