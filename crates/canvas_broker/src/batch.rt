@@ -9,6 +9,9 @@ use std::mem;
 
 /// The envelopes that a batch took, in order, without those that were read already. Envelopes that
 /// aren't read when it is dropped are lost: the history has their takes.
+///
+/// The whole batch is taken at once. So it has no lifetime, `next` doesn't wait, and it may be
+/// dropped at any time.
 #[derive(Drop)]
 pub struct Batch<T = Envelope> {
     // the envelopes, with the marks of splits among them
