@@ -240,6 +240,10 @@ fn run_checked<T: Tasks>(
 }
 
 /// Returns one more than the most asks that a run of the plan may have.
+///
+/// With this bound no run is stopped: each task is published, taken, stored and its part returned
+/// at most once, and in rotation one of each two rounds has such a call, until all have ended. The
+/// bound is quadratic in the tasks, as `most_steps` is.
 fn more_than_all(plan: &Plan, workers: u32, turns: &[u32], again: &[(TaskNo, When)]) -> u128
     ensures value { result
         ≡ suc (most_steps plan.now workers (length turns.now) (length again.now)) }
@@ -369,6 +373,8 @@ pub fn run_turns_stepped<T: Tasks>(
 
 /// Like `run_turns`, but is halted, as stopped, once `steps` asks have been answered and some
 /// worker isn't at its end.
+///
+/// Takes that find nothing and rests count, though no history has them.
 pub fn run_turns_within<T: Tasks>(
     alloc: Global,
     plan: &Plan,

@@ -63,7 +63,8 @@ fn publish<T: Tasks>(
     }
 }
 
-/// Returns a count with one more if a store answered Again. It saturates.
+/// Returns a count with one more if a store answered Again. It saturates. No list of entries
+/// reaches its greatest value.
 fn count_again(repeats: u64, stored: Stored) -> u64
     ensures { result ≡ counted_on repeats stored }
 {
@@ -179,7 +180,8 @@ pub(crate) struct Stage {
     queue: PlainBroker<Letter>,
     table: PlainBackend,
     cores: Vec<Core>,
-    /// How many asks may still be answered.
+    /// How many asks may still be answered. A redelivery is none, so no run stops between it and
+    /// the ask of the same turn.
     steps: u128,
     /// The entries that are unspent.
     again: Vec<(TaskNo, When)>,
@@ -256,7 +258,8 @@ impl Stage {
         }
     }
 
-    /// Returns whether the queue holds something or a worker is inside a message.
+    /// Returns whether the queue holds something or a worker is inside a message. It looks over the
+    /// workers, 16 at most; nothing else in a step depends on how many workers or tasks there are.
     fn holds_more(&self) -> bool
         ensures { result
             ≡ (is_queued self.now.queue || list_any (λ c. is_inside c.left) self.now.cores.items) }

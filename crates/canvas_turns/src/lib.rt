@@ -59,6 +59,10 @@ pub fn turns_go_on()
 /// points of that message's task. As many stores answer that they were not the first as there are
 /// entries whose task evaluation runs, and no such entry stays unspent; at any time they are no
 /// more than the entries. A run by turns without redeliveries is one without entries.
+///
+/// At most one entry is spent each time a taken message reaches a point, and the copy reaches both
+/// points again. So every entry of a task that is run is spent in the end. Equal entries can't be
+/// told apart, so only how many are left matters.
 pub fn laws_of_entries()
     ensures turns { EntriesAreTurns }
     ensures few { EntriesFew }
