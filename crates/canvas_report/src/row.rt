@@ -1,4 +1,10 @@
 //! Rows of a report on tasks of any kind.
+//!
+//! A run has states (`Option<Outcome>`), of which the engine's promise speaks. A stored result, or
+//! an exception that a stub raises, may be any, and a state is one case of it. JSON lines, pictures
+//! and texts are made from a `Row` each, and for the rows of a run they say what its states say.
+//! `report_text` and `is_failure` take the states, so that the report of a large run needs no copy
+//! of its rows.
 
 use canvas_task::{Outcome, TaskNo};
 
