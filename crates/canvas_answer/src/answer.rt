@@ -1,4 +1,7 @@
 //! The program's output and status.
+//!
+//! Only `Answer::print` and `write_out` write. So a program of your own can have an answer and
+//! print nothing, and few functions here know a reader or a writer.
 ghost use Rattle.std.specs.Prelude.{◌≡◌, ◌⊎◌, [], false, true, None, Some, OnOk};
 ghost use Rattle.std.specs.Io.KnownBytes.{Appends};
 ghost use Rattle.canvas_answer.specs.declared.answer.Remark.TheVariants as remark;

@@ -1,4 +1,7 @@
 //! Exceptions of classes other than the four that the program's own tasks raise.
+//!
+//! In a run such an exception is one of the four, and a report shows its own class. So no statement
+//! of the engine is about it.
 ghost use Rattle.std.specs.Prelude.{◌≡◌, ◌++◌, IfOk, OnOk, map, option_map, option_to_list};
 ghost use Rattle.std.specs.List.{filter_map};
 ghost use Rattle.canvas_stubs.specs.Raising.{other_error};

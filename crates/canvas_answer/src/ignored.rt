@@ -1,4 +1,7 @@
 //! The parts of a canvas that Celery's workers get otherwise, as lines for standard error.
+//!
+//! Every ignored option is named, and not only known ones, since Celery passes those that it
+//! doesn't know to the broker.
 
 use crate::answer::Remark;
 use canvas_finding::{Signature, shown_name};

@@ -1,4 +1,8 @@
 //! `--task '#3=WORD'`: the answer of the third task. It has the name `#3` while its canvas runs.
+//!
+//! A worker calls a task by its name and arguments, so only a name distinguishes tasks. The canvas
+//! of the run is made of the one that was read, and the output shows the names of the latter. A
+//! task that is named `#3` has that stub, too.
 ghost use Rattle.std.specs.Prelude.{◌≡◌, ◌∷◌, ◌++◌, [], IfOk, List, Ok, OnOk, map, option_to_list, string_bytes};
 ghost use Rattle.std.specs.List.{filter_map};
 ghost use Rattle.canvas_adapt.specs.RenameTexts.{IsRenameText};

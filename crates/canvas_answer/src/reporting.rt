@@ -134,7 +134,8 @@ impl Manner {
         }
     }
 
-    /// Returns the report of a run that ended early.
+    /// Returns the report of a run that ended early. It doesn't say which tasks were called, since
+    /// its rows don't show whether a pending task will run.
     fn stored_report<T>(
         &self,
         alloc: Global,

@@ -1,5 +1,8 @@
 //! The form of a refusal for programs: a JSON object in a line; that of a canvas has the code and
 //! the place too.
+//!
+//! All refusals become JSON here, so that none is forgotten. A canvas's fault is looked up in its
+//! text; it has no place if the adapted canvas has another fault.
 
 use crate::celery::CeleryRefusal;
 use crate::finding::{pointer_json, task_json, write_columns};

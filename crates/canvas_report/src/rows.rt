@@ -458,6 +458,10 @@ fn lines_of(alloc: Global, plan: &Plan, rows: &[Row], told: Told<'_>) -> Result<
 /// Returns a line with a JSON object for each task, in the order of their numbers, and one for the
 /// result of the canvas. If fates are given, each object says whether its task was called, and to
 /// which task a failure is due; if a parameter is blamed, also which.
+///
+/// `due_to` names the task whose exception it shows, or that its ChordError names. That one may
+/// have been skipped itself; its own `due_to` is a smaller number, and so on down to a call that
+/// failed.
 pub fn rows_text(
     alloc: Global,
     plan: &Plan,

@@ -21,7 +21,7 @@ use std::alloc::{AllocError, Global};
 /// The version of the program.
 const VERSION: &str = "1.0.0";
 
-/// The program without its commands.
+/// Returns the program without its commands.
 fn plain_program<'a>(alloc: Global) -> Result<Command<'a>, AllocError>
     ensures { IfOk result (λ c. app_of c ≡ record {
       top = record (new_shape (codes "canvas")) { no_binary_name = true; has_version = true };
@@ -37,7 +37,7 @@ fn plain_program<'a>(alloc: Global) -> Result<Command<'a>, AllocError>
     Ok(program.bin_name("canvas")?)
 }
 
-/// The program with the command of a name, or with all where none has it.
+/// Returns the program with the command of a name, or with all if none has it.
 fn program_of<'a>(alloc: Global, name: &str) -> Result<Command<'a>, AllocError>
     ensures { IfOk result (λ c. app_of c ≡ program (offered (named_among all name.now))) }
 {
@@ -46,7 +46,7 @@ fn program_of<'a>(alloc: Global, name: &str) -> Result<Command<'a>, AllocError>
     Ok(plain.subcommands(commands)?)
 }
 
-/// The first of the words.
+/// Returns the first of the words.
 fn first_of(words: &[String]) -> &str
     ensures { result.now ≡ first_word (map string_bytes words.now) }
 {
@@ -56,8 +56,8 @@ fn first_of(words: &[String]) -> &str
     }
 }
 
-/// Parses the words after the program's name. If they begin with a command, the others aren't
-/// made, since none of them is asked.
+/// Parses the words after the program's name. If they begin with a command, the others aren't made,
+/// since none of them is asked.
 fn matches_of<'w>(alloc: Global, words: &'w [String]) -> Result<ArgMatches<'w>, Error>
     ensures ok { IfOk result (λ m. subcommand_rows_of m
         ≡ subcommand_of (program_for (map string_bytes words.entry.now))
@@ -69,9 +69,9 @@ fn matches_of<'w>(alloc: Global, words: &'w [String]) -> Result<ArgMatches<'w>, 
     program.try_get_matches_from(words)
 }
 
-/// The command that the words after the program's name ask for, with its arguments. Help, the
-/// version and a mistake are what the parser says, and that an option is there without the one that
-/// it belongs to, or beside one that it can't be given with.
+/// Returns the command that the words after the program's name ask for, with its arguments. Fails
+/// with the parser's help, version or error, or if an option is given without the one that it
+/// belongs to, or beside one that excludes it.
 pub fn read_words<'w>(
     alloc: Global,
     words: &'w [String],
@@ -94,7 +94,7 @@ pub fn read_words<'w>(
     }
 }
 
-/// Refuses options that don't go together.
+/// Refuses options that can't be given together.
 fn check_ties(alloc: Global, command: Subcommand, given: &ArgMatches<'_>) -> Result<(), Error>
     ensures { IfErr result (λ e. IsMistake (kind_of e)) }
 {
@@ -107,7 +107,7 @@ fn check_ties(alloc: Global, command: Subcommand, given: &ArgMatches<'_>) -> Res
     }
 }
 
-/// The text if no command is asked for, which the parser says before.
+/// Returns the error if there is no command, which the parser reports earlier.
 fn no_command(alloc: Global) -> Error
     ensures { IsMistake (kind_of result) }
 {
@@ -118,7 +118,7 @@ fn no_command(alloc: Global) -> Error
     )
 }
 
-/// The refusal of words that aren't UTF-8.
+/// Returns the error for words that aren't UTF-8.
 pub fn bad_text(alloc: Global) -> Error {
     refused(
         alloc,
