@@ -88,6 +88,9 @@ fn push_rows(
 /// tasks, only a line that can't be read is refused, the first of them: invalid JSON, another
 /// task's, an unknown state, or a failure that names no exception. JSON's numbers past 64 bits are
 /// read as floats.
+///
+/// The lines are counted before one is read, so a wrong number of lines is `BadCount` for any
+/// content.
 pub fn collect(alloc: Global, plan: &Plan, run: &Run, text: &[u8]) -> Result<Vec<Row>, CollectFault>
     ensures count { IfOk result (λ rows. length rows.items ≡ count_line plan.now) }
     ensures said { IfOk result

@@ -1,5 +1,10 @@
 //! The failure rules for results that Celery stored: tasks that a failure reaches and that Celery
 //! leaves pending.
+//!
+//! Only lines, groups and chords are walked: no failure skips a link or an error callback, so
+//! nothing after them has to be filled in. A failure flows as the number of the task that has it,
+//! and its row is cloned for each row that it fills. So one walk serves the engine's own outcomes
+//! and exceptions of any class. An exception of another class is known only by its class.
 
 ghost use Rattle.std.specs.Prelude.{◌≡◌, ◌≢◌, ◌<◌, ◌-◌, ℕ, List, length, map, get_or, Some};
 ghost use Rattle.std.specs.Prelude.{MatchBool, IfOk, OnOk};

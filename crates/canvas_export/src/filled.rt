@@ -113,7 +113,8 @@ fn marked_name(plan: &Plan) -> Option<&str>
     None
 }
 
-/// Refuses a task's name that begins with `~`, since it could be mistaken for a place.
+/// Refuses a task's name that begins with `~`, since it could be mistaken for a place. So the
+/// filling needn't know which texts of a body are arguments.
 fn check_names(alloc: Global, plan: &Plan) -> Result<(), FillFault>
     ensures { OnOk result (AreUnmarked (names plan.now)) }
 {

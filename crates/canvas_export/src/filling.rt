@@ -1,4 +1,7 @@
 //! Values in their places of a JSON text.
+//!
+//! Values replace tokens of a body that was written, since the definitions of signatures have no
+//! text for a float, and the engine's arguments are none of these values.
 
 ghost use Rattle.std.specs.Prelude.{◌≡◌, ◌<◌, ◌^◌, ◌∷◌, IfOk, IfSome, List, OnOk, Some, decimal, map};
 ghost use Rattle.json.specs.Lex.{tokens};
