@@ -13,7 +13,7 @@ use canvas_task::{TaskNo, name_ok};
 use clap::ArgMatches;
 use std::alloc::{AllocError, Global};
 
-/// What is redelivered.
+/// The redeliveries that the words ask for.
 #[derive(Drop)]
 pub enum Again<'w> {
     Nothing,

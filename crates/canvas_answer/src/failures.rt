@@ -28,7 +28,7 @@ use std::alloc::{AllocError, Global};
 /// The exception that replaces those of other classes while a canvas is evaluated.
 const STANDS: &str = "NotRegistered";
 
-/// What `--failures` asks for.
+/// The request of `--failures`.
 #[derive(Clone, Copy)]
 pub struct Failures<'w> {
     /// `raise:` and the class of the exception that each task fails with.

@@ -89,7 +89,7 @@ where
 struct ByTurns<'a> {
     workers: u32,
     turns: &'a [u32],
-    /// What is redelivered.
+    /// The redeliveries.
     again: &'a [(TaskNo, When)],
     /// Whether the report says how many stores answered Again.
     counts: bool,

@@ -1,4 +1,4 @@
-//! What a core asks for, and the answers.
+//! The asks of a core, and the answers.
 
 ghost use Rattle.std.specs.Prelude.{◌≡◌};
 ghost use Rattle.canvas_core.specs.Asks.{suits};
@@ -7,7 +7,7 @@ use canvas_backend::Stored;
 use canvas_envelope::Letter;
 use canvas_task::{GroupNo, Outcome, TaskNo};
 
-/// What a core asks for next.
+/// The next ask of a core.
 #[derive(Clone, Copy, Debug, PartialEq, Eq)]
 pub enum Ask {
     /// The next envelope of the queue.

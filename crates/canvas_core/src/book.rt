@@ -1,4 +1,4 @@
-//! What a worker knows of its plan.
+//! A worker's knowledge of its plan.
 
 ghost use Rattle.std.specs.Prelude.{◌≡◌, ◌≤◌, ℕ, true, false};
 ghost use Rattle.canvas_runs.specs.Book.{Book as Known};

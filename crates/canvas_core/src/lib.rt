@@ -1,4 +1,4 @@
-//! What a worker of a plan does next: a core asks, and goes on with the answer.
+//! The scripts of a worker of a plan: a core asks, and goes on with the answer.
 #![tactic(auto)]
 
 mod ask;

@@ -1,4 +1,4 @@
--- What follows from what a run leaves.
+-- Laws of the records that a run leaves.
 --     FewEntries       its histories have few calls, by its plan's tasks and its redeliveries
 --     IsPlain l r      nothing was redelivered, so each message is taken once, and each store
 --                      is the first of its task

@@ -58,7 +58,7 @@ part_text size g k before =
 abbrev pub null_text : Text
 null_text = codes "null"
 
--- by a worker that holds the envelope of this identifier
+-- the text of what a worker did that holds the envelope of this identifier
 abbrev pub did_text : Line → List Row → Text → Did → Text
 did_text l rows held (did.Took None) = letter_text (codes "take") null_text
 did_text l rows held (did.Took (Some e)) = letter_text (codes "take") (identifier e.properties)

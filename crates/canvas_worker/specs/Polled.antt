@@ -1,4 +1,4 @@
--- What one poll of a worker does, and what its gate has to do with that.
+-- One poll of a worker, and the effect of its gate.
 use Rattle.std.specs.Prelude.{ℕ, Bool, Option, IfSome}
 use Rattle.futures.specs.Poll.{IfReady, OnPending}
 use Rattle.futures.specs.declared.task.Poll.{Poll}

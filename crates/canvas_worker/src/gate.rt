@@ -1,4 +1,4 @@
-//! What a worker asks at the points of a message's script.
+//! The gate that a worker asks at the points of a message's script.
 
 ghost use Rattle.std.specs.Prelude.{◌≡◌, ℕ, Bool, true, ⊤};
 

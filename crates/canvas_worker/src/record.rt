@@ -1,4 +1,4 @@
-//! What a worker leaves.
+//! The record of a worker.
 
 use crate::Cause;
 use canvas_backend::BackendSeat;
@@ -21,9 +21,9 @@ pub struct Record {
     pub parts: u64,
     /// The envelopes that were dropped.
     pub dropped: u64,
-    /// What it has seen of the queue, to be joined by another pass.
+    /// Its pass, which another pass can join.
     pub pass: BrokerPass<Letter>,
-    /// What it has seen of the table, to be joined by another seat.
+    /// Its seat, which another seat can join.
     pub seat: BackendSeat,
     /// None if it ended by itself.
     pub fault: Option<Cause>,

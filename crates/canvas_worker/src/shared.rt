@@ -1,12 +1,12 @@
-//! What the workers of a run share.
+//! The objects that the workers of a run share.
 
 use crate::{InFlight, Stop};
 use canvas_backend::Backend;
 use canvas_broker::Broker;
 use canvas_envelope::Letter;
 
-/// What the workers of a run share: its queue, its table of results, its tasks, its gate, its stop
-/// and its count of envelopes in flight.
+/// The objects that the workers of a run share: its queue, its table of results, its tasks, its
+/// gate, its stop and its count of envelopes in flight.
 #[derive(Drop)]
 pub struct Shared<'a, T, G> {
     pub broker: &'a Broker<Letter>,

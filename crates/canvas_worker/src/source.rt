@@ -1,4 +1,4 @@
-//! Where a worker's next envelope comes from.
+//! The source of a worker's next envelope.
 
 ghost use Rattle.std.specs.Prelude.{◌≡◌, [], ◌∷◌, Some, MatchOption, false};
 ghost use Rattle.canvas_worker.specs.steps.Held.{held_in, alone_in};

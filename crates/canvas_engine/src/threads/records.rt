@@ -1,4 +1,4 @@
-//! What a run on threads leaves besides its report.
+//! The records of a run on threads.
 ghost use Rattle.std.specs.Prelude.{◌≡◌, ◌+◌, min};
 ghost use Rattle.canvas_engine.specs.steps.Slots.{counts, nothing_counted};
 ghost use Rattle.canvas_runs.specs.Tally.{greatest_count};
