@@ -1,6 +1,6 @@
--- What adapting does, by signatures as Celery writes them. Each rule names what of Celery 5.2 does
--- so (celery/canvas.py). It isn't proved that the code does this: a program that tells the same
--- rules of JSON is compared with the code on canvases from chance.
+-- The rules of adapting, for signatures as Celery writes them. Each rule names the part of Celery
+-- 5.2 that it follows (celery/canvas.py). It isn't proved that the code follows them: a program
+-- that computes the same rules on JSON is compared with the code on random canvases.
 use Rattle.std.specs.Prelude.{ℕ, zero, suc, max, Bool, true, false, not, ◌&&◌, ◌||◌, if◌then◌else◌, List, [], ◌∷◌, ◌++◌, map, length, take, nat_lt, slice_get, Option, Some, None, codes}
 use Rattle.std.specs.List.{list_all, list_any}
 use Rattle.std.specs.Str.{bytes_eq}
@@ -11,7 +11,7 @@ use Rattle.canvas_values.specs.Grammar.{number_ok}
 
 -- ---- signatures
 
--- how a task is called, and its JSON with null for each callback, by which tasks are told apart
+-- the call of a task, and its JSON with null for each callback, by which tasks are compared
 pub record Written : Type 0 where
   pub name : Text
   pub args : List Data
@@ -47,7 +47,7 @@ is_group s = false
 
 -- ---- arguments
 
--- The project's own rule: a whole number within 2^60, a list of them, or a text stays, and any
+-- The project's own rule: a whole number within 2^60, a list of them, and a text are kept; any
 -- other argument becomes its compact JSON, of which 32 bytes are shown, or 30 and `..`.
 abbrev pub is_whole : Data → Bool
 is_whole (number n) = number_ok (number n)
@@ -58,12 +58,12 @@ stays (string t) = true
 stays (array ds) = list_all is_whole (items ds)
 stays d = is_whole d
 
--- whether a byte begins no character (RFC 3629)
+-- whether a byte is not the first of a character (RFC 3629)
 abbrev pub goes_on : Option ℕ → Bool
 goes_on None = false
 goes_on (Some b) = nat_lt 127 b && nat_lt b 192
 
--- the characters that end within so many bytes
+-- the characters that end within n bytes
 abbrev pub cut : ℕ → Text → Text
 cut zero t = []
 cut (suc n) t = if goes_on (slice_get t (suc n)) then cut n t else take (suc n) t
@@ -90,7 +90,7 @@ call_with name given =
 
 -- ---- callbacks that are chains or groups
 
--- whether two signatures are written alike; of those that aren't tasks nothing is said
+-- whether two tasks are written alike; other signatures never are
 abbrev mutual
   pub same : Sig → Sig → Bool
   same (task v ls es) (task w ms bs) = bytes_eq v.json w.json && all_same ls ms && all_same es bs
@@ -105,16 +105,16 @@ abbrev pub has : Sigs → Sig → Bool
 has none s = false
 has (also t ts) s = same t s || has ts s
 
--- error callbacks, and behind them those of others that aren't there yet (`Signature.link_error`)
+-- error callbacks, followed by those of others that aren't among them (`Signature.link_error`)
 abbrev pub and_new : Sigs → Sigs → Sigs
 and_new own none = own
 and_new own (also s ss) = and_new (if has own s then own else and_then own (also s none)) ss
 
--- The tasks that are started for a callback, and how many follow each other then; none where tasks
--- with callbacks can't say it, as of more than 8, of a chord, or of a group that something follows.
--- A chain is its first task, whose link is the next, and so on (`Signature.link`, `_chain.run`):
--- the last one's links, and a group's members' links, are what comes behind, and each task gets the
--- error callbacks around it (`_chain.prepare_steps`, `group.link_error`).
+-- The tasks that are started for a callback, and how many follow each other then. None if tasks
+-- with callbacks can't express it: for more than 8, for a chord, or for a group that something
+-- follows. A chain is its first task, whose link is the next, and so on (`Signature.link`,
+-- `_chain.run`): the last one's links, and a group's members' links, are what comes next, and each
+-- task gets the error callbacks around it (`_chain.prepare_steps`, `group.link_error`).
 abbrev pub Started : Type 0
 Started = Option (Sigs × ℕ)
 
@@ -167,8 +167,8 @@ are_immutable none = true
 are_immutable (also (task w ls es) ss) = w.immutable && are_immutable ss
 are_immutable (also s ss) = false
 
--- A chain that is an error callback is called with three arguments, which none but a task that
--- takes no input bears.
+-- A chain that is an error callback is called with three arguments, which only tasks that take no
+-- input accept.
 abbrev pub is_called : (is_alarm : Bool) → Sig → Sigs → Bool
 is_called true (chain xs ls es) tasks = are_immutable tasks
 is_called alarm s tasks = true
@@ -197,9 +197,9 @@ abbrev mutual
   callbacks alarm none = none
   callbacks alarm (also s ss) = and_then (as_tasks alarm (split s)) (callbacks alarm ss)
 
--- ---- where callbacks of chains, groups and chords go
+-- ---- the callbacks of chains, groups and chords
 
--- a callback as it is written and as it is adapted
+-- a callback as written and as adapted
 pub data Given : Type 0 where
   nothing : Given
   given : (written adapted : Sig) → Given → Given
@@ -212,12 +212,12 @@ abbrev pub both_given : Given → Given → Given
 both_given nothing gs = gs
 both_given (given s t gs) hs = given s t (both_given gs hs)
 
--- those of some that aren't written among others
+-- the callbacks that aren't written among others
 abbrev pub but : Sigs → Given → Given
 but others nothing = nothing
 but others (given s t gs) = if has others s then but others gs else given s t (but others gs)
 
--- callbacks with what was made of each; of those that are written alike the first
+-- callbacks, each with its adapted form; the first of those that are written alike
 abbrev pub paired : Sigs → Sigs → Given
 paired (also s ss) (also t ts) = given s t (paired ss ts)
 paired ss ts = nothing
@@ -228,8 +228,8 @@ once known (also s ss) (also t ts) =
     else given s t (once (and_then known (also s none)) ss ts)
 once known ss ts = nothing
 
--- What a signature is given by what it stands in. Where something follows a group it is a header,
--- and Celery freezes what it doesn't start itself.
+-- The context of a signature. If something follows a group it is a header, and Celery freezes the
+-- signatures that it doesn't start itself.
 pub record Around : Type 0 where
   pub links : Given
   pub errbacks : Given
@@ -249,7 +249,7 @@ as_frozen frozen a =
       is_frozen = frozen;
     }
 
--- a signature's own callbacks, with what was made of each, go before those that it is given
+-- a signature's own callbacks, each with its adapted form, come before those that it inherits
 abbrev pub with_own : (links errbacks made_links made_errbacks : Sigs) → Around → Around
 with_own ls es ls' es' a =
     record {
@@ -275,7 +275,7 @@ for_group a = if a.is_followed then alone a.is_frozen else a
 
 -- ---- groups in groups
 
--- the members that a member of a group gives it: those of a group, and of a chain of one
+-- the members by which a group replaces a member: those of a group, and of a chain of one
 abbrev mutual
   pub inner : Sig → Option Sigs
   inner (group ms ls es) = Some ms
@@ -286,8 +286,8 @@ abbrev mutual
   only_inner (also s none) = inner s
   only_inner ss = None
 
--- A group in a group gives its members to the outer one (`maybe_unroll_group`). Where Celery
--- freezes the outer group those of an inner one are turned round (`group._freeze_unroll`).
+-- The outer group replaces a group in it by its members (`maybe_unroll_group`). If Celery freezes
+-- the outer group, the members of an inner one are reversed (`group._freeze_unroll`).
 abbrev pub members_of : (is_turned : Bool) → Sig → Option Sigs → Sigs → Sigs
 members_of turned s None rest = also s rest
 members_of turned s (Some ms) rest = if turned then turned_onto ms rest else and_then ms rest
@@ -297,9 +297,10 @@ unrolled frozen (also s ss) (also t ts) =
     members_of (frozen && is_group s) t (inner t) (unrolled frozen ss ts)
 unrolled frozen ss ts = none
 
--- ---- signatures that were started
+-- ---- frozen signatures
 
--- What Celery writes into the options of a signature beside its identifier (`Signature.freeze`).
+-- The options that Celery writes into a signature in addition to its identifier
+-- (`Signature.freeze`).
 abbrev pub books : List Text
 books =
     codes "chord" ∷ codes "chord_size" ∷ codes "group_id" ∷ codes "group_index" ∷ codes "parent_id"
@@ -317,9 +318,10 @@ own_options [] = []
 own_options (o ∷ os) =
     if is_book o.0 || bytes_eq o.0 (codes "task_id") then own_options os else o ∷ own_options os
 
--- The options of a signature in which others were started or not: both are taken out where it was
--- started itself, since an identifier alone is one that a user gave it. A header of which freezing
--- made a group is a list again. The signatures above are as they stand after this.
+-- The thawed options of a signature; the argument says whether a signature in it was frozen. The
+-- options are removed only if the signature was itself started, since a user may have given it an
+-- identifier. A header that freezing made into a group is a list again. The signatures above are
+-- those after this.
 abbrev pub thawed : (are_inside : Bool) → List (Text × Data) → List (Text × Data)
 thawed inside os =
     if list_any is_identifier os && (inside || list_any (λ o. is_book o.0) os) then own_options os
@@ -328,13 +330,13 @@ thawed inside os =
 -- ---- canvases
 
 module _ (compact : Data → Text) where
-  -- a task's own callbacks, and behind them those that it is given and hasn't yet
+  -- a task's own callbacks, followed by those that it inherits and doesn't have yet
   abbrev pub given_task : Written → (links errbacks made_links made_errbacks : Sigs) → Around → Sig
   given_task w ls es ls' es' a =
       task (called compact w) (and_then ls' (adapted_of a.links))
       (and_then es' (adapted_of (but es a.errbacks)))
 
-  -- the calls of a map, each with what it is given
+  -- the calls of a map, each with the callbacks that it inherits
   abbrev pub each_call : Around → Text → List (List Data) → Sigs
   each_call a name [] = none
   each_call a name (ds ∷ dss) =
@@ -358,7 +360,7 @@ module _ (compact : Data → Text) where
     adapt a (calls name ds es) =
         group (each_call (with_own none es none (each_callback es) (for_group a)) name ds) none none
 
-    -- callbacks are given nothing; one that is no task stays, and is refused
+    -- callbacks inherit nothing; one that is no task is kept, and is refused
     pub each_callback : Sigs → Sigs
     each_callback none = none
     each_callback (also (task w ls es) ss) =
@@ -373,6 +375,6 @@ module _ (compact : Data → Text) where
     members a none = none
     members a (also s ss) = also (adapt a s) (members a ss)
 
-  -- what is made of a whole signature; what can't be adapted stays as it is, and is refused
+  -- a whole signature, adapted; one that can't be adapted is kept, and is refused
   abbrev pub adapted : Sig → Sig
   adapted s = adapt (alone false) (split s)

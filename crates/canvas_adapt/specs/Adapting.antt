@@ -1,4 +1,4 @@
--- What adapting a text leaves alone.
+-- The texts that adapting keeps or refuses.
 use Rattle.std.specs.Prelude.{◌≡◌, ◌≢◌, Bool, true, false, List, [], Result, Ok, Err, MatchResult}
 use Rattle.canvas_task.specs.Text.{Text}
 use Rattle.canvas_semantics.specs.Tree.{Tree, count}
@@ -20,11 +20,11 @@ no_changes = record {
   compounds = 0;
 }
 
--- refused so, unless memory ran out
+-- refused with this fault, unless memory ran out
 abbrev pub IsRefused : {A : Type 0} → SigFault → Result A SigFault → Type 0
 IsRefused fault made = MatchResult made (λ a. ⊥) (λ e. e ≢ Memory → e ≡ fault)
 
--- a refusal that no signature of a text has
+-- a refusal of a whole text, which no signature has
 abbrev pub is_of_text : SigFault → Bool
 is_of_text TooLarge = true
 is_of_text NotJson = true
@@ -33,27 +33,27 @@ is_of_text fault = false
 
 -- ---- canvases
 
--- this very canvas, with nothing changed
+-- the result is this canvas, unchanged
 abbrev pub IsKept : Tree → Adapted → Type 0
 IsKept c a = (a.canvas ≡ c) × (a.changes ≡ no_changes)
 
--- What reading says of the bytes decides where there is nothing to adapt: a canvas stays as it is,
--- and a text that is too large or no JSON is refused as such.
+-- If there is nothing to adapt, the result is that of reading the bytes: a canvas is unchanged, and
+-- a text that is too large or not JSON is refused as such.
 abbrev pub IsSettled : Result Tree SigFault → Result Adapted SigFault → Type 0
 IsSettled (Ok c) made = MatchResult made (IsKept c) (λ e. e ≡ Memory)
 IsSettled (Err fault) made = is_of_text fault ≡ true → IsRefused fault made
 
 -- ---- texts
 
--- it reads as a canvas, which has so many tasks
+-- the text reads as a canvas, which has this number of tasks
 abbrev pub Reads : AdaptedText → Type 0
 Reads a = (c : Tree) × (text_reading a.text.items ≡ Ok c) × (a.tasks ≡ count c)
 
--- these very bytes, with nothing changed
+-- the text is these bytes, unchanged
 abbrev pub IsKeptText : Text → AdaptedText → Type 0
 IsKeptText bytes a = (a.text.items ≡ bytes) × (a.changes ≡ no_changes)
 
--- the same of a text in which some tasks get other names: where none does, a canvas stays as it is
+-- the result for a text with other names for some tasks: with none, a canvas is unchanged
 abbrev pub IsSettledText : List Rename → Text → Result Tree SigFault
     → Result AdaptedText SigFault → Type 0
 IsSettledText renames bytes (Ok c) made =

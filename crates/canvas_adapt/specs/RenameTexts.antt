@@ -13,7 +13,7 @@ abbrev pub IsRenameText : Text → Rename → Type 0
 IsRenameText text r =
     (digits : Text) × (text ≡ 35 ∷ digits ++ 61 ∷ string_bytes r.name) × IsNumberText digits r.task
 
--- each text has its name
+-- each text gives its name
 abbrev pub AreRenameTexts : List Text → List Rename → Type 0
 AreRenameTexts [] [] = Unit {0}
 AreRenameTexts (text ∷ texts) (r ∷ rs) = IsRenameText text r × AreRenameTexts texts rs

@@ -1,11 +1,11 @@
--- Other names for tasks, which go by their numbers in file order: a task, then its links, then its
--- error callbacks, then what follows; a header before its body.
+-- Other names for tasks, by their numbers in file order: a task, then its links, then its error
+-- callbacks, then what follows; a header before its body.
 use Rattle.std.specs.Prelude.{ℕ, ◌+◌, ◌==◌, if◌then◌else◌, List, [], ◌∷◌, Option, Some, None, string_bytes}
 use Rattle.canvas_task.specs.Text.{Text}
 use Rattle.canvas_semantics.specs.Tree.{Call, Task, task, Tasks, no_tasks, and_task, Tree, one, chain, group, chord, Trees, no_trees, and_tree, count_task, count_tasks, count, count_all}
 use Rattle.canvas_adapt.specs.declared.renames.Rename.{Rename}
 
--- the name that the task of a number gets: of two for one number the first counts
+-- the other name of the task of a number; if there are several, the first counts
 abbrev pub name_for : List Rename → ℕ → Option Text
 name_for [] k = None
 name_for (r ∷ rs) k = if r.task == k then Some (string_bytes r.name) else name_for rs k

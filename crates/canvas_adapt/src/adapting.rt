@@ -1,4 +1,8 @@
-//! A canvas of the engine's profile from a text.
+//! Adapting a text to a canvas of the engine's profile.
+//!
+//! The changes follow Celery's code and have no contract: they are tested by comparison with
+//! Celery. Proved are only the ends: the result is a canvas by its type, and a canvas of the
+//! profile is unchanged.
 
 ghost use Rattle.std.specs.Prelude.{◌≡◌, ◌≤◌, true, length, Err, IfErr, Some};
 ghost use Rattle.canvas_sig.specs.Datum.{view};
@@ -17,14 +21,14 @@ use canvas_sig::{Canvas, MOST_BYTES, SigFault, read_canvas};
 use json::Scratch;
 use std::alloc::Global;
 
-/// A canvas of the engine's profile, and what was changed for it.
+/// A canvas of the engine's profile, and the changes that were made for it.
 #[derive(Drop)]
 pub struct Adapted {
     pub canvas: Canvas,
     pub changes: Changes,
 }
 
-/// Whether it is a refusal that no signature of a text has.
+/// Returns whether a refusal is one of a whole text and never of a signature.
 pub(crate) fn is_of_text(fault: SigFault) -> bool
     ensures { result ≡ is_of_text fault }
 {
@@ -36,7 +40,7 @@ pub(crate) fn is_of_text(fault: SigFault) -> bool
     }
 }
 
-/// Adapts a value in its place, as far as it goes, and says what was changed.
+/// Adapts a value in place, as far as possible, and returns the changes.
 pub(crate) fn adapt_value<'a>(
     alloc: Global,
     arena: &'a Bump,
@@ -49,8 +53,8 @@ pub(crate) fn adapt_value<'a>(
     Ok(work.changes)
 }
 
-/// The canvas of a value that was adapted. One that may be too large for a text, or nest too deep
-/// for one, is read of its text, and so refused as that is.
+/// Makes the canvas of an adapted value. A value whose text may be too large, or nested too deep,
+/// is written and read again, so that it is refused as its text is.
 pub(crate) fn canvas_of_adapted(alloc: Global, value: &Datum<'_>) -> Result<Canvas, SigFault> {
     if is_surely_short(value) {
         let node = read_node(alloc, value, MOST_LEVELS)?;
@@ -60,7 +64,7 @@ pub(crate) fn canvas_of_adapted(alloc: Global, value: &Datum<'_>) -> Result<Canv
     read_canvas(alloc, &text)
 }
 
-/// What is made of a value that is refused so as a canvas.
+/// Adapts a value that is refused with this fault as a canvas.
 fn adapt_refused<'a>(
     alloc: Global,
     arena: &'a Bump,
@@ -78,7 +82,7 @@ fn adapt_refused<'a>(
     Ok(Adapted { canvas, changes })
 }
 
-/// The canvas of a text's value.
+/// Adapts the value of a text, unless it is a canvas.
 #[tactic(auto, using(crate::proofs::Settled::canvas_settles, crate::proofs::Settled::fault_settles))]
 fn adapt_parsed<'a>(alloc: Global, arena: &'a Bump, value: &Datum<'a>) -> Result<Adapted, SigFault>
     requires { (text : Text) × (json_of text ≡ Some (view value.now)) }
@@ -93,9 +97,9 @@ fn adapt_parsed<'a>(alloc: Global, arena: &'a Bump, value: &Datum<'a>) -> Result
     }
 }
 
-/// A canvas of the engine's profile from a text that Celery writes, which is read once. A canvas is
-/// what it is, with nothing changed, and any other text that is JSON is adapted as far as it goes:
-/// what comes of it is a canvas, or is refused as its text would be.
+/// Adapts a text that Celery writes to a canvas of the engine's profile. The text is read once. A
+/// canvas is returned unchanged; any other JSON text is adapted as far as possible, and the result
+/// is a canvas, or is refused as its text would be.
 pub fn adapt(alloc: Global, bytes: &[u8]) -> Result<Adapted, SigFault>
     ensures settled { IsSettled (text_reading bytes.now) result }
     ensures memory { IfErr result (λ e. e ≡ Memory → length bytes.now ≤ most_bytes) }

@@ -1,4 +1,4 @@
-//! Arguments of tasks.
+//! Adapting the arguments of tasks.
 
 use crate::changes::Change;
 use crate::member::Members;
@@ -10,10 +10,10 @@ use canvas_sig::parts::Datum;
 use canvas_task::in_range;
 use std::alloc::{AllocError, Global};
 
-/// How many bytes of an argument's JSON are shown.
+/// The greatest length of an argument's JSON that is shown, in bytes.
 const MOST_SHOWN: usize = 32;
 
-/// How many are left of a longer one, before `..`.
+/// The length that is kept of a longer one, before `..`.
 const CUT: usize = 30;
 
 fn is_whole(value: &Datum<'_>) -> bool {
@@ -26,7 +26,7 @@ fn is_whole(value: &Datum<'_>) -> bool {
     }
 }
 
-/// Whether the profile has such an argument.
+/// Returns whether the argument is one of the profile.
 fn is_fit(value: &Datum<'_>) -> bool {
     match value {
         Datum::Text(_) => true,
@@ -35,7 +35,7 @@ fn is_fit(value: &Datum<'_>) -> bool {
     }
 }
 
-/// The JSON of a value, cut where it is long.
+/// Returns the JSON of a value, truncated if it is long.
 fn shown<'a>(alloc: Global, arena: &'a Bump, value: &Datum<'_>) -> Result<&'a str, AllocError> {
     let mut text = text_of(alloc, value)?;
     if text.len() > MOST_SHOWN {
@@ -56,7 +56,7 @@ impl<'a> Work<'a> {
         Ok(())
     }
 
-    /// Arguments in their order.
+    /// Adapts arguments in a list.
     fn adapted_list(&mut self, values: &[Datum<'a>]) -> Result<&'a [Datum<'a>], SigFault> {
         let made = self.arena.try_alloc_slice_copy(values)?;
         for value in made.iter_mut() {
@@ -73,7 +73,7 @@ impl<'a> Work<'a> {
         Ok(made)
     }
 
-    /// Arguments, in a list or by name. What is neither stays as it is.
+    /// Adapts arguments, in a list or by name. Any other value stays unchanged.
     pub(crate) fn adapt_arguments(&mut self, value: &mut Datum<'a>) -> Result<(), SigFault> {
         match *value {
             Datum::List(values) => *value = Datum::List(self.adapted_list(values)?),

@@ -8,7 +8,7 @@ use canvas_sig::SigFault;
 use canvas_sig::parts::Datum;
 
 impl<'a> Work<'a> {
-    /// Callbacks, and behind them those that are given.
+    /// Returns callbacks, followed by the inherited ones.
     pub(crate) fn with_given(
         &mut self,
         own: &[Datum<'a>],
@@ -23,7 +23,7 @@ impl<'a> Work<'a> {
         Ok(made.done())
     }
 
-    /// The callbacks of a chain, group or chord.
+    /// Adapts the callbacks of a chain, group or chord, which its tasks inherit.
     fn taken(
         &mut self,
         written: &'a [Datum<'a>],
@@ -40,7 +40,7 @@ impl<'a> Work<'a> {
         Ok(made.done())
     }
 
-    /// The links that are given with a signature's own before them.
+    /// Returns a signature's own links, followed by the inherited ones.
     fn with_own_links(
         &mut self,
         value: &Datum<'a>,
@@ -51,7 +51,8 @@ impl<'a> Work<'a> {
         self.joined(links, given)
     }
 
-    /// The error callbacks that are given with a signature's own before them.
+    /// Returns a signature's own error callbacks, followed by the inherited ones that it doesn't
+    /// have.
     fn with_own_errbacks(
         &mut self,
         value: &Datum<'a>,
@@ -64,7 +65,7 @@ impl<'a> Work<'a> {
         self.joined(errbacks, others)
     }
 
-    /// What is given with a signature's own callbacks before it.
+    /// Returns the context with a signature's own callbacks before the inherited ones.
     pub(crate) fn with_own(
         &mut self,
         value: &Datum<'a>,

@@ -1,4 +1,4 @@
-//! Tasks of Celery's own that call another with each of some items.
+//! Celery's own tasks that call another task with each of some items: maps, starmaps and chunks.
 
 use crate::changes::Change;
 use crate::form::{called_task, takes_items};
@@ -12,7 +12,7 @@ use std::slice;
 
 const MOST_CALLS: usize = MOST_TASKS as usize;
 
-/// Makes an item the call of a task with it, which takes no input.
+/// Turns an item into a call of a task with it. The call takes no input.
 fn make_call<'a>(
     arena: &'a Bump,
     task: &Datum<'a>,
@@ -31,7 +31,7 @@ fn make_call<'a>(
     Ok(())
 }
 
-/// Makes it a group of these members.
+/// Turns a value into a group of these members.
 fn make_group<'a>(
     arena: &'a Bump,
     value: &mut Datum<'a>,
@@ -47,7 +47,7 @@ fn make_group<'a>(
     Ok(())
 }
 
-/// The calls with all items.
+/// Returns the calls with all items.
 fn calls_of<'a>(arena: &'a Bump, value: &Datum<'a>) -> Result<&'a [Datum<'a>], SigFault> {
     let items = listed(kwarg_of(value, "it"));
     let Some(task) = called_task(value) else {

@@ -1,4 +1,4 @@
-//! What was changed, kind by kind.
+//! The changes, by kind.
 
 ghost use Rattle.std.specs.Prelude.{◌≡◌};
 ghost use Rattle.canvas_adapt.specs.Adapting.{no_changes};
@@ -10,19 +10,19 @@ use std::fmt;
 pub enum Change {
     /// An argument outside the profile became a short text.
     Argument,
-    /// A callback of a chain, group or chord was given to what stands in it.
+    /// A callback of a chain, group or chord was moved to the tasks inside.
     Callback,
-    /// A group in a group gave it its members.
+    /// A group in a group was replaced by its members.
     Group,
     /// A map, a starmap or chunks became a group of calls.
     Map,
-    /// What Celery wrote into a signature when it was started was taken out.
+    /// The options that Celery wrote into a signature when it started it were removed.
     Frozen,
-    /// A callback that was a chain or group became its tasks.
+    /// A callback that was a chain or group was replaced by its tasks.
     Compound,
 }
 
-/// How many changes of each kind there are. It is printed as a line for each kind that there is.
+/// The number of changes of each kind. It is printed as one line for each kind that occurs.
 #[derive(Clone, Copy, Debug, PartialEq, Eq)]
 pub struct Changes {
     pub arguments: usize,
@@ -34,7 +34,7 @@ pub struct Changes {
 }
 
 impl Changes {
-    /// No changes.
+    /// Returns the value for no changes.
     pub fn none() -> Changes
         ensures { result ≡ no_changes }
     {
@@ -60,7 +60,7 @@ impl Changes {
     }
 }
 
-/// What the changes of a kind are called, where there is one and where there are more.
+/// Returns the description of a kind of change, for one change or for several.
 fn words_of(change: Change, count: usize) -> &'static str {
     match change {
         Change::Argument if count == 1 => "argument, which is a text now",
@@ -82,7 +82,7 @@ fn words_of(change: Change, count: usize) -> &'static str {
     }
 }
 
-/// The line of a kind.
+/// The printed line of a kind of change.
 #[derive(Clone, Copy, Drop)]
 struct Line {
     change: Change,

@@ -1,4 +1,4 @@
-//! Callbacks that are chains or groups, which become their tasks.
+//! Callbacks that are chains or groups, which are replaced by their tasks.
 
 use crate::changes::Change;
 use crate::form::{Form, form_of, is_task};
@@ -10,26 +10,27 @@ use crate::work::Work;
 use canvas_sig::parts::{Datum, MOST_LEVELS, is_true, kwarg_of, listed, own_fault, primitive_of};
 use canvas_sig::{MOST_BYTES, SigFault};
 
-/// How many tasks may follow each other in a callback: signatures stand no deeper in each other.
+/// The greatest number of tasks that may follow each other in a callback, since signatures are
+/// nested no deeper.
 const MOST_DEPTH: u32 = 8;
 
-/// How many steps a byte takes that is given to a task.
+/// The number of steps for each byte that is given to a task.
 const STEPS_OF_BYTE: usize = 8;
 
-/// What comes behind a part of a callback.
+/// The continuation of a part of a callback.
 #[derive(Clone, Copy, Drop)]
 struct Next<'a> {
-    /// The tasks that it starts, which are links.
+    /// The tasks that follow it, as links.
     tasks: &'a [Datum<'a>],
-    /// The error callbacks of what the part stands in.
+    /// The error callbacks of the signatures that contain the part.
     errbacks: &'a [Datum<'a>],
-    /// How many tasks follow each other there.
+    /// The number of tasks that follow each other there.
     depth: u32,
-    /// Another part of a chain comes, so that a group would be a chord.
+    /// Whether another part of a chain follows, so that a group would be a chord.
     is_followed: bool,
 }
 
-/// What comes behind a whole callback: nothing.
+/// Returns the continuation of a whole callback, which is empty.
 fn nothing<'a>() -> Next<'a> {
     Next {
         tasks: &[],
@@ -39,7 +40,7 @@ fn nothing<'a>() -> Next<'a> {
     }
 }
 
-/// Whether each of some tasks takes no input.
+/// Returns whether none of the tasks takes an input.
 fn are_immutable(tasks: &[Datum<'_>]) -> bool {
     for task in tasks {
         if !is_true(task.get("immutable")) {
@@ -49,14 +50,14 @@ fn are_immutable(tasks: &[Datum<'_>]) -> bool {
     true
 }
 
-/// Whether Celery calls these tasks, which stand for a callback: a chain that is called for a
-/// failure is given three arguments, which it gives to the tasks that take input.
+/// Returns whether Celery calls these tasks for a callback: a chain that is called for a failure
+/// gets three arguments, and passes them to those of its tasks that take input.
 fn are_called(callback: &Datum<'_>, name: &str, tasks: &[Datum<'_>]) -> bool {
     name != "link_error" || !matches!(form_of(callback), Form::Chain) || are_immutable(tasks)
 }
 
 impl<'a> Work<'a> {
-    /// Callbacks, and behind them others.
+    /// Returns callbacks, followed by others.
     fn chained(
         &mut self,
         own: &'a [Datum<'a>],
@@ -68,7 +69,7 @@ impl<'a> Work<'a> {
         Ok(made.done())
     }
 
-    /// Error callbacks, and behind them those of others that aren't there yet.
+    /// Returns error callbacks, followed by those of the others that aren't among them.
     fn alarmed(
         &mut self,
         own: &'a [Datum<'a>],
@@ -82,7 +83,7 @@ impl<'a> Work<'a> {
         Ok(made.done())
     }
 
-    /// Takes the steps for giving callbacks to a task.
+    /// Counts the steps for giving callbacks to a task.
     fn step_all(&mut self, given: &[Datum<'a>]) -> Result<(), SigFault> {
         for value in given {
             self.step(weight_of(value, MOST_BYTES).saturating_mul(STEPS_OF_BYTE))?;
@@ -90,7 +91,7 @@ impl<'a> Work<'a> {
         Ok(())
     }
 
-    /// Gives a task the callbacks of this name that a list has.
+    /// Gives a task these callbacks under a name in its options.
     fn give_all(
         &mut self,
         task: &mut Datum<'a>,
@@ -101,7 +102,7 @@ impl<'a> Work<'a> {
         set_inner(self.arena, task, "options", name, &Datum::List(callbacks))
     }
 
-    /// A task with what comes behind it; none where too many would follow each other.
+    /// Returns a task with its continuation, or None if too many tasks would follow each other.
     fn task_before(
         &mut self,
         task: &Datum<'a>,
@@ -127,7 +128,7 @@ impl<'a> Work<'a> {
         }))
     }
 
-    /// What comes behind the tasks of a chain or group: its own callbacks, too.
+    /// Returns the continuation of the tasks in a chain or group, which includes its own callbacks.
     fn with_callbacks(&mut self, value: &Datum<'a>, next: Next<'a>) -> Result<Next<'a>, SigFault> {
         let tasks = self.chained(callbacks_of(value, "link"), next.tasks)?;
         let errbacks = self.chained(callbacks_of(value, "link_error"), next.errbacks)?;
@@ -138,14 +139,14 @@ impl<'a> Work<'a> {
         })
     }
 
-    /// Whether a chain or group has faults of its own besides that it has callbacks.
+    /// Returns whether a chain or group has faults of its own other than its callbacks.
     fn is_faulty(&mut self, value: &Datum<'a>) -> Result<bool, SigFault> {
         let mut bare = *value;
         drop_callbacks(self.arena, &mut bare)?;
         Ok(own_fault(&bare, false).is_some())
     }
 
-    /// The tasks that elements of a chain start, of which the last one is looked at first.
+    /// Returns the first tasks of a chain's elements. It goes through the elements from the last.
     #[cycle(start)]
     fn starts_of_elements(
         &mut self,
@@ -168,8 +169,8 @@ impl<'a> Work<'a> {
         Ok(Some(behind))
     }
 
-    /// Adds the tasks that a member of a group starts, and says how many follow each other then;
-    /// none where there is no telling.
+    /// Appends the first tasks of a member of a group, and returns how many tasks then follow each
+    /// other, or None if tasks with callbacks cannot express it.
     #[cycle(start)]
     fn add_starts(
         &mut self,
@@ -185,7 +186,8 @@ impl<'a> Work<'a> {
         Ok(Some(depth))
     }
 
-    /// The tasks that the members of a group start. One that something follows would be a chord.
+    /// Returns the first tasks of a group's members. A group that something follows would be a
+    /// chord.
     #[cycle(start)]
     fn starts_of_members(
         &mut self,
@@ -211,8 +213,8 @@ impl<'a> Work<'a> {
         }))
     }
 
-    /// The tasks that a part of a callback starts, with what comes behind them; none where tasks
-    /// with callbacks can't say it.
+    /// Returns the first tasks of a part of a callback, with their continuation, or None if tasks
+    /// with callbacks cannot express it.
     #[cycle(start)]
     fn starts(
         &mut self,
@@ -236,7 +238,7 @@ impl<'a> Work<'a> {
         }
     }
 
-    /// The tasks that stand for a callback, where some do.
+    /// Returns the tasks that replace a callback, if there are any.
     fn tasks_for(
         &mut self,
         callback: &'a Datum<'a>,
@@ -254,7 +256,7 @@ impl<'a> Work<'a> {
         }
     }
 
-    /// Adds a callback, or the tasks that stand for it.
+    /// Appends a callback, or the tasks that replace it.
     fn add_callback(
         &mut self,
         made: &mut Made<'a, Datum<'a>>,
@@ -267,7 +269,7 @@ impl<'a> Work<'a> {
         }
     }
 
-    /// Callbacks of that name, of which those that are chains or groups are their tasks.
+    /// Returns callbacks of this name, with chains and groups replaced by their tasks.
     fn as_tasks(
         &mut self,
         callbacks: &'a [Datum<'a>],
@@ -280,7 +282,8 @@ impl<'a> Work<'a> {
         Ok(made.done())
     }
 
-    /// The signatures that stand somewhere in one.
+    /// Replaces callbacks in the signatures of a part, and in the part itself if it is one of
+    /// callbacks.
     #[cycle(compound)]
     fn split_part(&mut self, value: &mut Datum<'a>, part: Part, left: u32) -> Result<(), SigFault> {
         let before = self.changes.compounds;
@@ -298,8 +301,8 @@ impl<'a> Work<'a> {
         set_values(self.arena, value, part, made)
     }
 
-    /// Makes tasks of the callbacks that are chains or groups, in a signature and in all that stand
-    /// in it, at most `left` deep.
+    /// Replaces the callbacks that are chains or groups by their tasks, in a signature and in those
+    /// nested in it, at most `left` deep.
     #[cycle(compound)]
     pub(crate) fn split_callbacks(
         &mut self,

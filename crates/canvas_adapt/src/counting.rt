@@ -1,4 +1,4 @@
-//! How many tasks a canvas has.
+//! Counting the tasks of a canvas.
 
 ghost use Rattle.std.specs.Prelude.{◌≡◌, map};
 ghost use Rattle.canvas_semantics.specs.Tree.{count, count_all, count_task, count_tasks};
@@ -8,8 +8,8 @@ ghost use Rattle.canvas_values.specs.steps.Budget.{LeavesOver};
 use canvas_semantics::MOST_TASKS;
 use canvas_values::{Canvas, Node, TaskSig};
 
-/// What is left of `left` tasks after a task with its links and error callbacks; None where they
-/// are more.
+/// Subtracts a task, with its links and error callbacks, from `left`. Returns None if they are more
+/// than `left`.
 #[cycle(task_counting)]
 #[tactic(auto, using(crate::proofs::Names::task_has))]
 fn left_after_task(sig: &TaskSig, left: u32) -> Option<u32>
@@ -31,7 +31,7 @@ fn left_after_tasks(sigs: &[TaskSig], left: u32) -> Option<u32>
     Some(left)
 }
 
-/// What is left of `left` tasks after those of a node; None where it has more.
+/// Subtracts the tasks of a node from `left`. Returns None if it has more.
 #[cycle(counting)]
 fn left_after_node(node: &Node, left: u32) -> Option<u32>
     ensures { LeavesOver result left (count (view node.now)) }
@@ -58,7 +58,7 @@ fn left_after_nodes(nodes: &[Node], left: u32) -> Option<u32>
     Some(left)
 }
 
-/// How many tasks a canvas has, links and error callbacks included.
+/// Returns the number of tasks of a canvas, links and error callbacks included.
 pub(crate) fn count_tasks(canvas: &Canvas) -> u32
     ensures { result ≡ count canvas.now }
 {

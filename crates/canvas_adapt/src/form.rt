@@ -1,4 +1,4 @@
-//! What a signature is, as far as adapting it goes.
+//! The form of a signature, on which its adapting depends.
 
 use canvas_sig::parts::{
     Datum, is_list, is_name, is_null, is_object_or_null, is_text, kwarg_of, listed, option_of,
@@ -6,20 +6,20 @@ use canvas_sig::parts::{
 };
 use canvas_values::Primitive;
 
-/// What is done with a signature.
+/// The form of a signature.
 #[derive(Clone, Copy)]
 pub(crate) enum Form {
     Task,
     Chain,
     Group,
     Chord,
-    /// A task of Celery's own that calls another with each of some items.
+    /// A task of Celery's own that calls another task with each of some items.
     Calls,
-    /// It stays as it is, and is refused where it can't be read.
+    /// A signature that stays unchanged, and is refused if it can't be read.
     Other,
 }
 
-/// Nothing, one callback, or a list of them.
+/// Returns whether a field is missing, null, one callback or a list.
 fn is_link(field: Option<&Datum<'_>>) -> bool {
     matches!(
         field,
@@ -33,12 +33,12 @@ fn has_options(value: &Datum<'_>) -> bool {
         && is_link(option_of(value, "link_error"))
 }
 
-/// Whether it names this task of Celery's own.
+/// Returns whether a signature names this task of Celery's own.
 fn names(value: &Datum<'_>, task: &str) -> bool {
     is_text(value.get("task"), task)
 }
 
-/// Whether a chunk may have so many items.
+/// Returns whether this is a valid size for a chunk.
 fn is_size(field: Option<&Datum<'_>>) -> bool {
     match field {
         Some(Datum::Number(number)) => match number.as_i64() {
@@ -49,7 +49,7 @@ fn is_size(field: Option<&Datum<'_>>) -> bool {
     }
 }
 
-/// The task that is called with each item.
+/// Returns the name of the task that is called with each item.
 pub(crate) fn called_task<'a>(value: &Datum<'a>) -> Option<&'a Datum<'a>> {
     match kwarg_of(value, "task") {
         Some(task) => task.get("task"),
@@ -57,7 +57,7 @@ pub(crate) fn called_task<'a>(value: &Datum<'a>) -> Option<&'a Datum<'a>> {
     }
 }
 
-/// Whether it is a task of Celery's own that is given a signature to call.
+/// Returns whether a signature is a task of Celery's own that gets a signature to call.
 fn calls_another(value: &Datum<'_>) -> bool {
     match kwarg_of(value, "task") {
         Some(Datum::Object(_)) => {
@@ -69,7 +69,7 @@ fn calls_another(value: &Datum<'_>) -> bool {
     }
 }
 
-/// Whether each item is the argument itself.
+/// Returns whether each item is the argument itself.
 pub(crate) fn takes_items(value: &Datum<'_>) -> bool {
     names(value, "celery.map")
 }
@@ -83,8 +83,8 @@ fn are_lists(values: &[Datum<'_>]) -> bool {
     true
 }
 
-/// Whether a task that calls another says with what, and has no link, which would get the list of
-/// all that the calls answer.
+/// Returns whether a task that calls another has a name and items to call it with, and no link,
+/// which would get the list of all results.
 fn has_calls(value: &Datum<'_>) -> bool {
     is_name(called_task(value))
         && is_list(kwarg_of(value, "it"))
@@ -109,7 +109,7 @@ fn if_list(field: Option<&Datum<'_>>, form: Form) -> Form {
     if is_list(field) { form } else { Form::Other }
 }
 
-/// A chord has a header, which is a list or a signature, and a body.
+/// Returns the form of a chord, which needs a header and a body.
 fn chord_form(value: &Datum<'_>) -> Form {
     let header = kwarg_of(value, "header");
     if is_null(header) || is_null(kwarg_of(value, "body")) {

@@ -1,4 +1,4 @@
-//! Callbacks that tasks are given by what they stand in.
+//! The callbacks that tasks inherit from the signatures around them.
 
 use crate::made::Made;
 use crate::text::{MOST_WRITTEN, room_behind};
@@ -10,10 +10,10 @@ use std::slice;
 /// A callback of a chain, group or chord.
 #[derive(Clone, Copy, Drop)]
 pub(crate) struct Callback<'a> {
-    /// As it was written, by which callbacks are told apart.
+    /// The callback as written, by which duplicates are found.
     written: &'a Datum<'a>,
     pub(crate) adapted: &'a Datum<'a>,
-    /// How many steps comparing it takes at most.
+    /// The greatest number of steps that a comparison with it takes.
     weight: usize,
 }
 
@@ -27,19 +27,20 @@ impl<'a> Callback<'a> {
     }
 }
 
-/// What a signature is given by what it stands in, and how it stands there.
+/// The context of a signature: the inherited callbacks, and its position.
 #[derive(Clone, Copy, Drop)]
 pub(crate) struct Given<'a> {
     pub(crate) links: &'a [Callback<'a>],
     pub(crate) errbacks: &'a [Callback<'a>],
-    /// Something follows it, so that a group is the header of a chord.
+    /// Whether something follows it, so that a group is the header of a chord.
     pub(crate) is_followed: bool,
-    /// Celery freezes it before it starts, so that a group turns groups in it round.
+    /// Whether Celery freezes it before it starts, so that a group reverses the members of groups
+    /// in it.
     pub(crate) is_frozen: bool,
 }
 
 impl<'a> Given<'a> {
-    /// Nothing, at the top.
+    /// Returns the context of a whole canvas.
     pub(crate) fn none() -> Given<'a> {
         Given {
             links: &[],
@@ -49,7 +50,7 @@ impl<'a> Given<'a> {
         }
     }
 
-    /// What the elements of a chain are given; the last one has what the chain has.
+    /// Returns the context of a chain's element. Only the last one inherits the links of the chain.
     pub(crate) fn of_element(&self, is_last: bool) -> Given<'a> {
         Given {
             links: if is_last { self.links } else { &[] },
@@ -59,7 +60,7 @@ impl<'a> Given<'a> {
         }
     }
 
-    /// What a group is given: where something follows it, its members are given nothing.
+    /// Returns the context of a group. If something follows it, its members inherit nothing.
     pub(crate) fn of_group(&self) -> Given<'a> {
         if self.is_followed {
             return Given {
@@ -70,13 +71,13 @@ impl<'a> Given<'a> {
         *self
     }
 
-    /// What a member of a group or a body is given.
+    /// Returns the context of a member of a group, or of a body.
     pub(crate) fn of_part(&self, is_frozen: bool) -> Given<'a> {
         Given { is_frozen, ..*self }
     }
 }
 
-/// The callbacks that a member of the options has: a list, one, or none.
+/// Returns the signatures of a member: a list, a single one, or none.
 pub(crate) fn values_in<'a>(field: Option<&'a Datum<'a>>) -> &'a [Datum<'a>] {
     match field {
         Some(Datum::List(values)) => values,
@@ -85,12 +86,12 @@ pub(crate) fn values_in<'a>(field: Option<&'a Datum<'a>>) -> &'a [Datum<'a>] {
     }
 }
 
-/// A signature's own callbacks of that name.
+/// Returns a signature's own callbacks of this name.
 pub(crate) fn callbacks_of<'a>(value: &Datum<'a>, name: &str) -> &'a [Datum<'a>] {
     values_in(option_of(value, name))
 }
 
-/// Whether two values that hold no others are the same.
+/// Returns whether two values that are neither lists nor objects are equal.
 fn is_same_leaf(one: &Datum<'_>, other: &Datum<'_>) -> bool {
     match (one, other) {
         (Datum::Null, Datum::Null) => true,
@@ -145,7 +146,7 @@ fn are_same_members(one: &[(&str, Datum<'_>)], other: &[(&str, Datum<'_>)], left
     true
 }
 
-/// How many steps comparing a value takes with one that takes at most so many.
+/// Returns the number of steps of a comparison with a value, at most `most`.
 pub(crate) fn weight_of(value: &Datum<'_>, most: usize) -> usize {
     match room_behind(value, most, MOST_WRITTEN) {
         Some(room) => most.saturating_sub(room),
@@ -154,7 +155,7 @@ pub(crate) fn weight_of(value: &Datum<'_>, most: usize) -> usize {
 }
 
 impl<'a> Work<'a> {
-    /// Whether some values have this one, whose weight is known.
+    /// Returns whether a value, whose weight is given, is among others.
     fn has(
         &mut self,
         values: &[Datum<'a>],
@@ -170,7 +171,7 @@ impl<'a> Work<'a> {
         Ok(false)
     }
 
-    /// Adds a value, where none that was added is like it.
+    /// Appends a value, unless an equal one is there.
     pub(crate) fn add_new(
         &mut self,
         made: &mut Made<'a, Datum<'a>>,
@@ -182,7 +183,7 @@ impl<'a> Work<'a> {
         made.push(*value)
     }
 
-    /// Of values that are alike the first.
+    /// Removes duplicates: the first of equal values remains.
     pub(crate) fn once(&mut self, values: &'a [Datum<'a>]) -> Result<&'a [Datum<'a>], SigFault> {
         let mut made = Made::new(self.arena);
         for value in values {
@@ -191,7 +192,7 @@ impl<'a> Work<'a> {
         Ok(made.done())
     }
 
-    /// Those callbacks that aren't among some values: none is given twice.
+    /// Returns the callbacks that aren't among some values, so that none is given twice.
     pub(crate) fn not_among(
         &mut self,
         given: &'a [Callback<'a>],
@@ -210,7 +211,7 @@ impl<'a> Work<'a> {
         Ok(made.done())
     }
 
-    /// Callbacks, and behind them others.
+    /// Returns callbacks, followed by others.
     pub(crate) fn joined(
         &mut self,
         own: &'a [Callback<'a>],

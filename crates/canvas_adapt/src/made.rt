@@ -1,10 +1,10 @@
-//! Lists that are made in the arena.
+//! Lists that are built in the arena.
 
 use bumpalo::Bump;
 use bumpalo::collections::into_bump_slice;
 use canvas_sig::SigFault;
 
-/// Values in the order in which they were pushed.
+/// A list of the values pushed so far.
 #[derive(Drop)]
 pub(crate) struct Made<'a, T> {
     values: Vec<T, &'a Bump>,

@@ -1,4 +1,4 @@
-//! Objects with a member more, less, or changed.
+//! Objects with a member added, removed or replaced.
 
 use crate::made::Made;
 use bumpalo::Bump;
@@ -8,7 +8,7 @@ use canvas_sig::parts::Datum;
 /// Names and values, the names ascending.
 pub(crate) type Members<'a> = &'a [(&'a str, Datum<'a>)];
 
-/// The members of an object; nothing else has any.
+/// Returns the members of an object. Any other value has none.
 pub(crate) fn members_of<'a>(value: &Datum<'a>) -> Members<'a> {
     match value {
         Datum::Object(members) => members,
@@ -16,7 +16,7 @@ pub(crate) fn members_of<'a>(value: &Datum<'a>) -> Members<'a> {
     }
 }
 
-/// Adds the members that go before a name.
+/// Appends the members whose names are less than a name.
 fn add_before<'a>(
     made: &mut Made<'a, (&'a str, Datum<'a>)>,
     members: Members<'a>,
@@ -30,7 +30,7 @@ fn add_before<'a>(
     Ok(())
 }
 
-/// Adds the members that go behind a name.
+/// Appends the members whose names are greater than a name.
 fn add_behind<'a>(
     made: &mut Made<'a, (&'a str, Datum<'a>)>,
     members: Members<'a>,
@@ -44,7 +44,7 @@ fn add_behind<'a>(
     Ok(())
 }
 
-/// The members, with these in the place of the one of that name.
+/// Returns the members, with the one of this name replaced by the given ones.
 fn with<'a>(
     arena: &'a Bump,
     members: Members<'a>,
@@ -58,7 +58,7 @@ fn with<'a>(
     Ok(made.done())
 }
 
-/// Puts a member into an object in the place of that name.
+/// Adds a member to an object, or replaces it.
 pub(crate) fn set_member<'a>(
     arena: &'a Bump,
     value: &mut Datum<'a>,
@@ -70,7 +70,7 @@ pub(crate) fn set_member<'a>(
     Ok(())
 }
 
-/// Puts a member into an object that is itself the member of an object.
+/// Adds a member to an object that is itself a member of an object, or replaces it.
 pub(crate) fn set_inner<'a>(
     arena: &'a Bump,
     value: &mut Datum<'a>,
@@ -86,7 +86,7 @@ pub(crate) fn set_inner<'a>(
     set_member(arena, value, outer, &inner)
 }
 
-/// Takes a signature's own callbacks away.
+/// Removes a signature's own callbacks.
 pub(crate) fn drop_callbacks<'a>(arena: &'a Bump, value: &mut Datum<'a>) -> Result<(), SigFault> {
     match value.get("options") {
         Some(Datum::Object(options)) => {

@@ -1,4 +1,4 @@
-//! Chains, groups and chords.
+//! Adapting chains, groups and chords.
 
 use crate::changes::Change;
 use crate::form::{Form, form_of};
@@ -10,8 +10,8 @@ use canvas_sig::SigFault;
 use canvas_sig::parts::{Datum, MOST_LEVELS, is_list, kwarg_of, listed, own_fault};
 use std::slice;
 
-/// The members that a member of a group gives the group: those of a group, and of a chain of one.
-/// One with a fault of its own stays as it is, and is refused.
+/// Returns the members by which the outer group replaces a member: those of a group, and of a chain
+/// whose only element is one. A value with a fault of its own stays unchanged, and is refused.
 #[cycle(unrolled)]
 fn unrolled<'a>(value: &Datum<'a>, left: u32) -> Option<&'a [Datum<'a>]> {
     if left == 0 || own_fault(value, false).is_some() {
@@ -32,7 +32,7 @@ fn unrolled_one<'a>(elements: &'a [Datum<'a>], left: u32) -> Option<&'a [Datum<'
     unrolled(&elements[0], left)
 }
 
-/// Adds values from the last one on.
+/// Appends values in reverse order.
 fn add_turned<'a>(made: &mut Made<'a, Datum<'a>>, values: &'a [Datum<'a>]) -> Result<(), SigFault> {
     for value in values.iter().rev() {
         made.push(*value)?;
@@ -40,7 +40,7 @@ fn add_turned<'a>(made: &mut Made<'a, Datum<'a>>, values: &'a [Datum<'a>]) -> Re
     Ok(())
 }
 
-/// Where signatures stand in a chain, group or chord.
+/// The place of signatures in a chain, group or chord.
 #[derive(Clone, Copy)]
 enum Place {
     /// The elements of a chain.
@@ -68,7 +68,7 @@ impl Place {
     }
 }
 
-/// The signatures that stand there.
+/// Returns the signatures at a place.
 fn values_at<'a>(value: &Datum<'a>, place: Place) -> &'a [Datum<'a>] {
     let found = kwarg_of(value, place.name());
     if !place.is_alone() {
@@ -80,7 +80,7 @@ fn values_at<'a>(value: &Datum<'a>, place: Place) -> &'a [Datum<'a>] {
     }
 }
 
-/// What is put there once it is adapted.
+/// Returns the new value of a place.
 fn made_of<'a>(place: Place, values: &'a [Datum<'a>]) -> Datum<'a> {
     match values {
         [one] if place.is_alone() => *one,
@@ -88,7 +88,7 @@ fn made_of<'a>(place: Place, values: &'a [Datum<'a>]) -> Datum<'a> {
     }
 }
 
-/// What the signatures that stand there are given of what is given for them.
+/// Returns the context of a signature at a place.
 fn given_at<'a>(given: &Given<'a>, place: Place, is_last: bool) -> Given<'a> {
     match place {
         Place::Elements => given.of_element(is_last),
@@ -96,7 +96,7 @@ fn given_at<'a>(given: &Given<'a>, place: Place, is_last: bool) -> Given<'a> {
     }
 }
 
-/// Where a chord's header stands.
+/// Returns the place of a chord's header.
 fn place_of_header(value: &Datum<'_>) -> Place {
     if is_list(kwarg_of(value, "header")) {
         return Place::Header;
@@ -105,8 +105,8 @@ fn place_of_header(value: &Datum<'_>) -> Place {
 }
 
 impl<'a> Work<'a> {
-    /// Adds a member to those of a group. Where Celery freezes the group, a group in it is turned
-    /// round.
+    /// Appends a member to those of a group. A group in it is replaced by its members, in reverse
+    /// order if Celery freezes the outer group.
     fn add_member(
         &mut self,
         made: &mut Made<'a, Datum<'a>>,
@@ -130,7 +130,7 @@ impl<'a> Work<'a> {
         }
     }
 
-    /// Adds the members of a group.
+    /// Appends the members of a group.
     fn add_members(
         &mut self,
         made: &mut Made<'a, Datum<'a>>,
@@ -146,7 +146,8 @@ impl<'a> Work<'a> {
         Ok(())
     }
 
-    /// What stands there of what was adapted: of members what each of them gives the group.
+    /// Returns the adapted signatures at a place. Groups among the members of a group are replaced
+    /// by their members.
     fn unrolled_at(
         &mut self,
         value: &Datum<'a>,
@@ -162,7 +163,7 @@ impl<'a> Work<'a> {
         Ok(made.done())
     }
 
-    /// Puts there what was adapted, and takes a signature's own callbacks away.
+    /// Sets the adapted signatures at a place, and removes the signature's own callbacks.
     fn set_adapted(
         &mut self,
         value: &mut Datum<'a>,
@@ -181,7 +182,7 @@ impl<'a> Work<'a> {
         )
     }
 
-    /// What stands somewhere in a chain, group or chord.
+    /// Adapts the signatures at a place of a chain, group or chord.
     #[cycle(node)]
     fn adapt_inner(
         &mut self,
@@ -199,7 +200,7 @@ impl<'a> Work<'a> {
         self.set_adapted(value, place, given.is_frozen, adapted)
     }
 
-    /// A chain, group or chord, with what its parts are given.
+    /// Adapts a chain, group or chord in its context.
     #[cycle(node)]
     fn adapt_parts(
         &mut self,
@@ -220,7 +221,7 @@ impl<'a> Work<'a> {
         }
     }
 
-    /// A signature, with what it is given. Signatures in it nest at most `left` deep.
+    /// Adapts a signature in its context. Signatures in it nest at most `left` deep.
     #[cycle(node)]
     pub(crate) fn adapt_node(
         &mut self,

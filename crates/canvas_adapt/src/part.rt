@@ -1,4 +1,4 @@
-//! Where signatures stand in one.
+//! The parts of a signature that contain signatures.
 
 use crate::given::values_in;
 use crate::member::set_inner;
@@ -7,12 +7,12 @@ use canvas_sig::SigFault;
 use canvas_sig::parts::{Datum, is_list, kwarg_of, option_of};
 use canvas_values::Primitive;
 
-/// Where signatures stand in one.
+/// A part of a signature that contains signatures.
 #[derive(Clone, Copy)]
 pub(crate) enum Part {
-    /// Callbacks, under this name in its options.
+    /// Callbacks, under this name in the options.
     Callbacks(&'static str),
-    /// What a chain, group or chord has under this name in its keyword arguments.
+    /// The signatures under this name in the keyword arguments of a chain, group or chord.
     Inner(&'static str),
 }
 
@@ -22,12 +22,12 @@ static OF_LIST: [Part; 1] = [Part::Inner("tasks")];
 
 static OF_CHORD: [Part; 2] = [Part::Inner("header"), Part::Inner("body")];
 
-/// The callbacks of any signature.
+/// Returns the parts for callbacks, which any signature may have.
 pub(crate) fn callback_parts() -> &'static [Part] {
     &OF_TASK
 }
 
-/// What stands in a chain, group or chord, in the order of its tasks' numbers.
+/// Returns the parts of a chain, group or chord, in the order of their tasks' numbers.
 pub(crate) fn inner_parts(primitive: Option<Primitive>) -> &'static [Part] {
     match primitive {
         Some(Primitive::Chain | Primitive::Group) => &OF_LIST,
@@ -36,7 +36,7 @@ pub(crate) fn inner_parts(primitive: Option<Primitive>) -> &'static [Part] {
     }
 }
 
-/// The signatures that stand there: a list of them, one, or none.
+/// Returns the signatures of a part: a list, a single one, or none.
 pub(crate) fn values_at<'a>(value: &Datum<'a>, part: Part) -> &'a [Datum<'a>] {
     match part {
         Part::Callbacks(name) => values_in(option_of(value, name)),
@@ -44,7 +44,7 @@ pub(crate) fn values_at<'a>(value: &Datum<'a>, part: Part) -> &'a [Datum<'a>] {
     }
 }
 
-/// A list of signatures, or the one that stands where no list stood.
+/// Returns a list of signatures, or a single one if it was written without a list.
 fn list_or_one<'a>(written: Option<&Datum<'a>>, values: &'a [Datum<'a>]) -> Datum<'a> {
     match values {
         [one] if !is_list(written) => *one,
@@ -52,7 +52,7 @@ fn list_or_one<'a>(written: Option<&Datum<'a>>, values: &'a [Datum<'a>]) -> Datu
     }
 }
 
-/// Puts these signatures there. Callbacks stand in a list.
+/// Sets the signatures of a part. Callbacks are always a list.
 pub(crate) fn set_values<'a>(
     arena: &'a Bump,
     value: &mut Datum<'a>,

@@ -1,4 +1,4 @@
-//! An adapted canvas as a text, the one place where one is written.
+//! An adapted canvas as a text. This is the only place where one is written, and it is read again.
 
 ghost use Rattle.std.specs.Prelude.{◌≡◌, [], true, Err, Ok, IfOk, MatchResult, Some};
 ghost use Rattle.canvas_sig.specs.Datum.{view};
@@ -19,16 +19,16 @@ use canvas_sig::{Canvas, MOST_BYTES, SigFault, read_canvas};
 use json::Scratch;
 use std::alloc::Global;
 
-/// A canvas of the engine's profile as JSON, and what was changed for it.
+/// A canvas of the engine's profile as JSON, and the changes that were made for it.
 #[derive(Drop)]
 pub struct AdaptedText {
     pub text: Vec<u8>,
     pub changes: Changes,
-    /// How many tasks it has.
+    /// The number of its tasks.
     pub tasks: u32,
 }
 
-/// A value as a text, where that reads as a canvas.
+/// Writes a value as a text, and checks that it reads as a canvas.
 fn certified(alloc: Global, value: &Datum<'_>, changes: Changes) -> Result<AdaptedText, SigFault>
     ensures { IfOk result (λ a. Reads a) }
 {
@@ -41,7 +41,7 @@ fn certified(alloc: Global, value: &Datum<'_>, changes: Changes) -> Result<Adapt
     })
 }
 
-/// A value as a text, in which some tasks have other names.
+/// Writes a value as a text, with other names for some tasks.
 fn renamed_text<'a>(
     alloc: Global,
     arena: &'a Bump,
@@ -56,7 +56,7 @@ fn renamed_text<'a>(
     certified(alloc, &value, changes)
 }
 
-/// The bytes of a canvas, as they are.
+/// Returns the bytes of a canvas unchanged.
 fn unchanged(alloc: Global, bytes: &[u8], canvas: &Canvas) -> Result<AdaptedText, SigFault>
     requires { text_reading bytes.now ≡ Ok canvas.now }
     ensures reads { IfOk result (λ a. Reads a) }
@@ -69,8 +69,8 @@ fn unchanged(alloc: Global, bytes: &[u8], canvas: &Canvas) -> Result<AdaptedText
     })
 }
 
-/// What is written of a value that is refused so as a canvas. What came of it is a canvas before
-/// its tasks are named.
+/// Returns the text for a value that is refused with this fault as a canvas. The adapted value has
+/// to be a canvas before its tasks are renamed.
 fn text_refused<'a>(
     alloc: Global,
     arena: &'a Bump,
@@ -93,7 +93,7 @@ fn text_refused<'a>(
     renamed_text(alloc, arena, &value, renames, changes)
 }
 
-/// What is written of a canvas.
+/// Returns the text for a canvas.
 fn text_of_canvas<'a>(
     alloc: Global,
     arena: &'a Bump,
@@ -112,7 +112,7 @@ fn text_of_canvas<'a>(
     renamed_text(alloc, arena, value, renames, Changes::none())
 }
 
-/// What is written of a text's value.
+/// Returns the text for the value of a text.
 #[tactic(auto, using(crate::proofs::Settled::text_settles, crate::proofs::Settled::text_fault_settles))]
 fn text_parsed<'a>(
     alloc: Global,
@@ -132,11 +132,11 @@ fn text_parsed<'a>(
     }
 }
 
-/// A canvas of the engine's profile as JSON, from a text that Celery writes, in which some tasks
-/// have other names. They go by their numbers in the order of the file: a task, its links, its
-/// error callbacks, then what follows; a header before its body. A canvas without other names
-/// stays as it is, byte for byte; any other text that is JSON is adapted as far as it goes, and
-/// written in a line. What comes of it reads as a canvas, or is refused as reading refuses it.
+/// Adapts a text that Celery writes to a canvas of the engine's profile as JSON, with other names
+/// for some tasks. The tasks go by their numbers in file order: a task, its links, its error
+/// callbacks, then what follows; a header before its body. Without other names a canvas is returned
+/// unchanged, byte for byte. Any other JSON text is adapted as far as possible, and written as one
+/// line. The result reads as a canvas, or is refused as reading refuses it.
 pub fn adapted_text(
     alloc: Global,
     bytes: &[u8],

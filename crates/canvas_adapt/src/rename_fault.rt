@@ -1,29 +1,29 @@
-//! Why a task gets no other name.
+//! The reasons why a text is no other name for a task.
 
 use std::alloc::{AllocError, AllocFailed};
 use thiserror::Error;
 
-/// Why a canvas's tasks don't get the names that are asked for.
+/// The reason why other names for a canvas's tasks are refused.
 #[derive(Clone, Copy, Debug, Drop, PartialEq, Eq, Error)]
 pub enum RenameFault {
-    /// No number of a task stands before the first `=`, or there is none.
+    /// The text has no `=`, or the part before the first `=` is no number of a task.
     #[error("#NUMBER=NAME is wanted")]
     NoNumber,
-    /// What stands behind the first `=` is no name of a task (`name_ok`).
+    /// The text after the first `=` is not a name that a task may have (`name_ok`).
     #[error("a name is 1 to 128 bytes from ! to ~")]
     BadName,
-    /// The number is there twice.
+    /// There is already a name for this number.
     #[error("the number is there twice")]
     Doubled,
-    /// A growth was refused.
+    /// An allocation failed.
     #[error("memory refused")]
     Memory,
 }
 
-/// The first of some names that no task gets.
+/// The first of several texts that is refused.
 #[derive(Clone, Copy, Debug, Drop, PartialEq, Eq)]
 pub struct BadRename {
-    /// How many stand before it.
+    /// The number of texts before it.
     pub before: usize,
     pub fault: RenameFault,
 }

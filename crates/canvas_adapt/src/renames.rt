@@ -1,4 +1,4 @@
-//! Other names for tasks, which go by their numbers in reports.
+//! Other names for tasks, by the numbers of the tasks in reports.
 
 ghost use Rattle.std.specs.Prelude.{◌≡◌, ◌∷◌, ◌++◌, [], IfOk, IfSome, OnOk, map};
 ghost use Rattle.std.specs.Option.{option_map};
@@ -18,7 +18,7 @@ pub struct Rename {
     pub name: String,
 }
 
-/// The number that a text says, as `#3`. It has no sign.
+/// Reads a number such as `#3`, without a sign.
 fn number_of(text: &str) -> Option<TaskNo>
     ensures { IfSome result (λ k. (digits : Text) × (text.now ≡ 35 ∷ digits)
         × IsNumberText digits k) }
@@ -33,7 +33,7 @@ fn number_of(text: &str) -> Option<TaskNo>
     }
 }
 
-/// Reads a name for a task, as `#3=shop.ship`. The number ends before the first `=`.
+/// Reads another name for a task, as `#3=shop.ship`. The first `=` ends the number.
 pub fn read_rename(alloc: Global, text: &str) -> Result<Rename, RenameFault>
     ensures { IfOk result (IsRenameText text.now) }
 {
@@ -50,7 +50,7 @@ pub fn read_rename(alloc: Global, text: &str) -> Result<Rename, RenameFault>
     Ok(Rename { task, name })
 }
 
-/// The name that the task of a number gets: of two for one number the first counts.
+/// Returns the other name of the task of a number. If there are several, the first counts.
 pub(crate) fn name_of(renames: &[Rename], task: u32) -> Option<&str>
     ensures { option_map (λ name. name.now) result ≡ name_for renames.now task }
 {
@@ -74,7 +74,8 @@ fn add_text(alloc: Global, renames: &mut Vec<Rename>, text: &str) -> Result<(), 
     Ok(())
 }
 
-/// Reads names for tasks, one a text, as `read_rename` does. A number is there once.
+/// Reads other names for tasks, one from each text, as `read_rename` does. A number may occur only
+/// once.
 pub fn read_renames(alloc: Global, texts: &[&str]) -> Result<Vec<Rename>, BadRename>
     ensures { IfOk result
         (λ renames. AreRenameTexts (map (λ t. t.now) texts.now) renames.items) }

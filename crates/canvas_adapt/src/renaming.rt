@@ -1,4 +1,4 @@
-//! Giving the tasks of a canvas other names, by their numbers.
+//! Renaming the tasks of a canvas by their numbers.
 
 ghost use Rattle.std.specs.Prelude.{◌≡◌, ◌≢◌, ◌≤◌, ◌+◌, List, [], Some, IfOk, IfErr, map};
 ghost use Rattle.canvas_semantics.specs.Tree.{Tree, count, count_task};
@@ -15,7 +15,7 @@ use canvas_task::{ListOf, TextOf, copy_args, copy_kwargs};
 use canvas_values::{Canvas, Node, SigFault, TaskSig};
 use std::alloc::{AllocError, Global};
 
-/// The name that the task of a number gets, which is its own where it gets no other.
+/// Returns the other name of the task of a number, or else its own.
 fn name_at(
     alloc: Global,
     name: &TextOf,
@@ -30,7 +30,7 @@ fn name_at(
     }
 }
 
-/// A copy of a task whose number is `next`, and the number after its last.
+/// Clones a task with the number `next`, renaming, and advances `next` past its last task.
 #[cycle(tasks)]
 fn rename_task(
     alloc: Global,
@@ -78,7 +78,8 @@ fn rename_tasks(
     Ok(copies)
 }
 
-/// A copy of a signature whose first task has the number `next`, and the number after its last.
+/// Clones a signature whose first task has the number `next`, renaming, and advances `next` past
+/// its last task.
 #[cycle(nodes)]
 fn rename_node(
     alloc: Global,
@@ -132,10 +133,10 @@ fn rename_nodes(
     Ok(copies)
 }
 
-/// The same canvas, in which the tasks of these numbers have other names. They go by their numbers
-/// in the order of the file: a task, its links, its error callbacks, then what follows; a header
-/// before its body. A number that the canvas doesn't have names no task, and of two names for one
-/// number the first counts. It is refused where a name is none.
+/// Clones a canvas with other names for the tasks of these numbers. The tasks are numbered in file
+/// order: a task, its links, its error callbacks, then what follows; a header before its body. A
+/// number that the canvas doesn't have is ignored, and of several names for one number the first
+/// counts. The result is refused if one of the names is not allowed.
 #[tactic(auto, using(crate::proofs::Names::few_tasks))]
 pub fn renamed(alloc: Global, canvas: &Canvas, renames: &[Rename]) -> Result<Canvas, SigFault>
     ensures ok { IfOk result (λ c. c ≡ renamed renames.now canvas.now) }
@@ -147,7 +148,8 @@ pub fn renamed(alloc: Global, canvas: &Canvas, renames: &[Rename]) -> Result<Can
     Canvas::of(alloc, node)
 }
 
-/// The laws of other names: with none a canvas is the same, and it keeps the number of its tasks.
+/// States that without other names a canvas is unchanged, and that names don't change the number of
+/// tasks.
 pub fn law_of_renames()
     ensures none { (c : Tree) → renamed [] c ≡ c }
     ensures count { (renames : List Rename) (c : Tree) → count (renamed renames c) ≡ count c }

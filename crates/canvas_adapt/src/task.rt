@@ -1,4 +1,4 @@
-//! Tasks.
+//! Adapting tasks.
 
 use crate::form::is_task;
 use crate::given::{Callback, Given, callbacks_of};
@@ -8,7 +8,7 @@ use canvas_sig::SigFault;
 use canvas_sig::parts::Datum;
 
 impl<'a> Work<'a> {
-    /// Makes the arguments of that name ones of the profile.
+    /// Adapts the arguments in a member of a task.
     fn set_arguments(&mut self, task: &mut Datum<'a>, name: &'a str) -> Result<(), SigFault> {
         match task.get(name) {
             Some(arguments) => {
@@ -20,7 +20,7 @@ impl<'a> Work<'a> {
         }
     }
 
-    /// Gives a task its own callbacks of that name, and behind them those that it is given.
+    /// Gives a task its own callbacks of a name, followed by the inherited ones.
     fn set_callbacks(
         &mut self,
         task: &mut Datum<'a>,
@@ -35,7 +35,7 @@ impl<'a> Work<'a> {
         set_inner(self.arena, task, "options", name, &Datum::List(callbacks))
     }
 
-    /// Gives a task its own links and error callbacks, and what it is given.
+    /// Gives a task its own links and error callbacks, followed by the inherited ones.
     fn give(
         &mut self,
         task: &mut Datum<'a>,
@@ -48,7 +48,7 @@ impl<'a> Work<'a> {
         self.set_callbacks(task, "link_error", errbacks, others)
     }
 
-    /// Tasks, each with what it is given. What is no task stays as it is, and is refused.
+    /// Adapts tasks in a context. A signature that is no task stays unchanged, and is refused.
     #[cycle(task)]
     pub(crate) fn adapted_tasks(
         &mut self,
@@ -66,7 +66,7 @@ impl<'a> Work<'a> {
         Ok(made)
     }
 
-    /// A task, with what it is given. What is no task stays as it is.
+    /// Adapts a task in its context. A signature that is no task stays unchanged.
     #[cycle(task)]
     pub(crate) fn adapt_task(
         &mut self,

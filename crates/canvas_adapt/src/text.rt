@@ -8,15 +8,15 @@ use json::Writer;
 use serde_json::Number;
 use std::alloc::{AllocError, Global};
 
-/// How deep values are written: what was read nests less deep, and a callback that was given to a
-/// task deep in the text stands at most twice as deep.
+/// The greatest depth to which values are written: a text that was read nests less deep, and a
+/// callback that was moved to a nested task is at most twice as deep.
 pub(crate) const MOST_WRITTEN: u32 = 512;
 
-/// How deep lists and objects nest at most in a text that is read.
+/// The greatest depth to which lists and objects nest in a text that can be read.
 const MOST_NESTED: u32 = 127;
 
-/// How many bytes of text a value takes at most for each step of the room that it takes: an escaped
-/// byte takes six, and the longest number and what stands around it less than this.
+/// The most bytes of text for each step of a value's room: an escaped byte takes six, and the
+/// longest number with the punctuation around it less than this.
 const BYTES_OF_STEP: usize = 32;
 
 fn write_number(out: &mut Writer, number: &Number) -> Result<(), AllocError>
@@ -78,15 +78,15 @@ fn write_members(
     out.end_object()
 }
 
-/// A value as compact JSON.
+/// Returns a value as compact JSON.
 pub(crate) fn text_of(alloc: Global, value: &Datum<'_>) -> Result<String, AllocError> {
     let mut out = Writer::new(Vec::new(alloc));
     write_value(&mut out, value, MOST_WRITTEN)?;
     Ok(String::from_utf8(out.into_inner()).unwrap())
 }
 
-/// How much room is left behind a value, whose text takes no less than what it takes of the room;
-/// none where there is too little, or where lists and objects nest in it more than `left` deep.
+/// Subtracts the room of a value from `room`; its text takes at least as many bytes. Returns None
+/// if there is too little room, or if lists and objects nest more than `left` deep in the value.
 #[cycle(room)]
 pub(crate) fn room_behind(value: &Datum<'_>, room: usize, left: u32) -> Option<usize> {
     let room = room.checked_sub(1)?;
@@ -117,13 +117,14 @@ fn room_behind_members(members: &[(&str, Datum<'_>)], room: usize, left: u32) ->
     Some(room)
 }
 
-/// Whether the text of a value is surely short enough to be read, and nests no deeper than one that
-/// is read.
+/// Returns whether the text of a value is certain to be short enough to be read, and nests no
+/// deeper than a text that can be read.
 pub(crate) fn is_surely_short(value: &Datum<'_>) -> bool {
     room_behind(value, MOST_BYTES / BYTES_OF_STEP, MOST_NESTED).is_some()
 }
 
-/// A value as compact JSON in a line. One that is too large to be read isn't written.
+/// Writes a value as compact JSON in a line. A value whose text is too large to be read isn't
+/// written.
 pub(crate) fn line_of(alloc: Global, value: &Datum<'_>) -> Result<Vec<u8>, SigFault> {
     if room_behind(value, MOST_BYTES, MOST_WRITTEN).is_none() {
         return Err(SigFault::TooLarge);

@@ -1,5 +1,5 @@
-//! Signatures that were frozen: Celery wrote their identifiers and places into them when they were
-//! started (`Signature.freeze`), and they are taken out again.
+//! Thawing frozen signatures: removing the identifiers and places that Celery wrote into them when
+//! it started them (`Signature.freeze`).
 
 use crate::changes::Change;
 use crate::made::Made;
@@ -11,7 +11,7 @@ use canvas_sig::SigFault;
 use canvas_sig::parts::{Datum, kwarg_of, listed, option_of, primitive_of};
 use canvas_values::Primitive;
 
-/// Whether Celery writes an option of this name besides the identifier.
+/// Returns whether Celery writes an option of this name, apart from the identifier.
 fn is_book(name: &str) -> bool {
     matches!(
         name,
@@ -39,12 +39,13 @@ fn has_book(value: &Datum<'_>) -> bool {
     false
 }
 
-/// Whether it was frozen: an identifier by itself is one that a user gave it.
+/// Returns whether a signature was frozen. An identifier without the other options was given by a
+/// user.
 fn is_frozen(value: &Datum<'_>) -> bool {
     has_identifier(value) && has_book(value)
 }
 
-/// The options that Celery didn't write.
+/// Returns the options that Celery didn't write.
 fn own_options<'a>(arena: &'a Bump, value: &Datum<'a>) -> Result<Members<'a>, SigFault> {
     let mut made = Made::new(arena);
     for option in options_of(value) {
@@ -55,7 +56,7 @@ fn own_options<'a>(arena: &'a Bump, value: &Datum<'a>) -> Result<Members<'a>, Si
     Ok(made.done())
 }
 
-/// Whether its header was a list, of which freezing made a group.
+/// Returns whether the header of a chord was a list, which freezing made into a group.
 fn had_list(value: &Datum<'_>) -> bool {
     match kwarg_of(value, "header") {
         Some(header) => {
@@ -68,7 +69,7 @@ fn had_list(value: &Datum<'_>) -> bool {
     }
 }
 
-/// Makes a list of a header again, unless the group that it is has options of its own.
+/// Makes the header a list again, unless the group that it is has options of its own.
 fn set_list<'a>(arena: &'a Bump, value: &mut Datum<'a>) -> Result<(), SigFault> {
     match kwarg_of(value, "header") {
         Some(header) if options_of(header).is_empty() => {
@@ -80,14 +81,14 @@ fn set_list<'a>(arena: &'a Bump, value: &mut Datum<'a>) -> Result<(), SigFault> 
 }
 
 impl<'a> Work<'a> {
-    /// Takes out what Celery wrote into a signature itself.
+    /// Removes the options that Celery wrote into a signature itself.
     fn thaw_own(&mut self, value: &mut Datum<'a>) -> Result<(), SigFault> {
         self.count(Change::Frozen, 1);
         let options = own_options(self.arena, value)?;
         set_member(self.arena, value, "options", &Datum::Object(options))
     }
 
-    /// The signatures that stand somewhere in one.
+    /// Thaws the signatures of a part.
     #[cycle(thaw)]
     fn thaw_part(&mut self, value: &mut Datum<'a>, part: Part, left: u32) -> Result<(), SigFault> {
         let before = self.changes.frozen;
@@ -101,7 +102,7 @@ impl<'a> Work<'a> {
         set_values(self.arena, value, part, thawed)
     }
 
-    /// What stands in a chain, group or chord. A chord's header is a list again.
+    /// Thaws the signatures in a chain, group or chord. The header of a chord becomes a list again.
     #[cycle(thaw)]
     fn thaw_inner(&mut self, value: &mut Datum<'a>, left: u32) -> Result<(), SigFault> {
         let had_list = had_list(value);
@@ -114,8 +115,8 @@ impl<'a> Work<'a> {
         Ok(())
     }
 
-    /// A signature and all that stand in it, at most `left` deep. A chord has its identifier by
-    /// itself, so it was frozen where something in it was.
+    /// Thaws a signature and those nested in it, at most `left` deep. A chord has only its
+    /// identifier, so it counts as frozen if something in it was.
     #[cycle(thaw)]
     pub(crate) fn thaw(&mut self, value: &mut Datum<'a>, left: u32) -> Result<(), SigFault> {
         if left == 0 {

@@ -1,4 +1,4 @@
-//! Giving the tasks of a JSON value other names.
+//! Renaming the tasks of a JSON value.
 
 use crate::member::set_member;
 use crate::part::{Part, callback_parts, inner_parts, set_values, values_at};
@@ -18,7 +18,7 @@ struct Walk<'a> {
 }
 
 impl<'a> Walk<'a> {
-    /// Gives the next task its other name, where it has one.
+    /// Renames the next task, if it has another name.
     fn name_task(&mut self, task: &mut Datum<'a>) -> Result<(), SigFault> {
         self.task = self.task.saturating_add(1);
         match name_of(self.renames, self.task) {
@@ -44,7 +44,7 @@ impl<'a> Walk<'a> {
         set_values(self.arena, value, part, renamed)
     }
 
-    /// A signature. Signatures in it nest at most `left` deep.
+    /// Renames the tasks in a signature. Signatures in it nest at most `left` deep.
     #[cycle(node)]
     fn rename_node(&mut self, value: &mut Datum<'a>, left: u32) -> Result<(), SigFault> {
         if left == 0 {
@@ -64,8 +64,8 @@ impl<'a> Walk<'a> {
     }
 }
 
-/// Gives the tasks of these numbers other names, in the order of the file: a task, its links, its
-/// error callbacks, then what follows; a header before its body.
+/// Renames the tasks of these numbers, which are in file order: a task, its links, its error
+/// callbacks, then what follows; a header before its body.
 pub(crate) fn name_tasks<'a>(
     arena: &'a Bump,
     value: &mut Datum<'a>,

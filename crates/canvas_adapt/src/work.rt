@@ -1,4 +1,4 @@
-//! What adapting works with.
+//! The state of adapting.
 
 use crate::changes::{Change, Changes};
 use bumpalo::Bump;
@@ -6,24 +6,25 @@ use canvas_semantics::MOST_TASKS;
 use canvas_sig::SigFault;
 use std::alloc::Global;
 
-/// How many steps comparing and copying callbacks may take. A canvas that takes more would have
-/// more tasks than a canvas may have.
+/// The greatest number of steps for comparing and copying callbacks. A canvas that takes more would
+/// have too many tasks.
 const MOST_STEPS: usize = 67_108_864;
 
-/// How many steps a callback takes that is copied into a list.
+/// The number of steps for each callback that is copied into a list.
 const STEPS_OF_COPY: usize = 64;
 
-/// How many callbacks may be given to tasks, each of which is a task more of the canvas.
+/// The greatest number of callbacks that tasks may inherit, each of which is one more task of the
+/// canvas.
 const MOST_GIVEN: usize = MOST_TASKS as usize;
 
-/// Where values are made, and what has been changed.
+/// The arena of new values, the changes so far, and the remaining budgets.
 #[derive(Drop)]
 pub(crate) struct Work<'a> {
     pub(crate) alloc: Global,
     pub(crate) arena: &'a Bump,
     pub(crate) changes: Changes,
     steps: usize,
-    /// How many callbacks may still be given to tasks.
+    /// The number of callbacks that tasks may still inherit.
     room: usize,
 }
 
@@ -42,7 +43,7 @@ impl<'a> Work<'a> {
         self.changes.add(change, count);
     }
 
-    /// Takes so many steps.
+    /// Counts a number of steps. It is an error if too many were taken.
     pub(crate) fn step(&mut self, steps: usize) -> Result<(), SigFault> {
         match self.steps.checked_sub(steps) {
             Some(left) => {
@@ -53,12 +54,13 @@ impl<'a> Work<'a> {
         }
     }
 
-    /// Takes the steps of copying so many callbacks.
+    /// Counts the steps of copying a number of callbacks.
     pub(crate) fn step_copies(&mut self, count: usize) -> Result<(), SigFault> {
         self.step(count.saturating_mul(STEPS_OF_COPY))
     }
 
-    /// Counts so many callbacks that a task is given, before they are copied.
+    /// Counts callbacks that a task inherits, before they are copied. It is an error if there are
+    /// too many.
     pub(crate) fn count_given(&mut self, count: usize) -> Result<(), SigFault> {
         match self.room.checked_sub(count) {
             Some(room) => {

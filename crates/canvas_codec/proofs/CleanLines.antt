@@ -14,7 +14,7 @@ use Rattle.canvas_envelope.specs.Fits.{is_task_number, size_ok, task_ok, tasks_o
 use Rattle.canvas_envelope.specs.Wire.{task_id, place_id, member_unless_null, frozen_wire, task_options, call_wire, chain_wire, group_options, group_wire, chord_wire, task_wire, tasks_wire, carried_wire, line_wire, elements_wire, members_wire}
 use Rattle.canvas_codec.proofs.RoundTrip.{task_parts, chord_parts}
 
--- ---- optional members, behind those before
+-- ---- optional members, after the earlier ones
 
 null_clean : (before : Members) (k : List ℕ) (d : Data) (more : Members) → IsAbove k before → IsClean d → MembersClean before more
     → MembersClean (behind_members before k d) more

@@ -13,7 +13,7 @@ use Rattle.canvas_codec.proofs.Wholes.{RestFits, Whole, as_content, whole_of}
 
 -- ---- the three texts
 
--- what stands in a list clean, in the other order
+-- the items of a clean list, in reverse order
 reversed_clean : (ds more : Items) → AreClean ds → AreClean more → AreClean (onto_reversed ds more)
 reversed_clean no_items more h k = k
 reversed_clean (item d ds) more h k = reversed_clean ds (item d more) h.1 (h.0, k)

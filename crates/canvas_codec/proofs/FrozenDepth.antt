@@ -1,5 +1,4 @@
--- What stands in a value is less deep than it, so one level more than JSON that reads has leaves no
--- frozen signature out.
+-- The parts of a value are less deep than it, so one level more than JSON that can be read has leaves no frozen signature out.
 use Rattle.std.proofs.Common.{◌≡◌, ℕ, zero, suc, ◌<◌, ◌≤◌, List, [], ◌∷◌, ◌++◌, map, reverse, Bool, true, false, Option, Some, None, refl, sym, ap, ap₂, subst, arith, le_refl}
 use Rattle.std.specs.Prelude.{unwrap_or, codes, not, ◌&&◌, ◌||◌, if◌then◌else◌, is_some, is_none}
 use Rattle.std.specs.List.{list_any}
@@ -96,7 +95,7 @@ module _ (n : ℕ) where
         (same_elements s t e h tasks_same lasts_same (listed (tasks d)) (tasks_low d low))
         (same_bad_last (primitive_of (subtype d)) d low)
 
--- nothing stands in a value that is neither a list nor an object
+-- a value that is neither a list nor an object has no parts
 module _ (s t f g : Data → Bool) where
   flat_task : (d : Data) → depth d ≤ 0 → bad_task_by s f d ≡ bad_task_by t g d
   flat_task null low = refl
@@ -359,7 +358,7 @@ member_low k d n low = field_low k d n (omega arith)
 list_low : (k : Text) (d : Data) (n : ℕ) → depth d ≤ n → AllLow n (listed (field k d))
 list_low k d n low = listed_low (field k d) n (member_low k d n low)
 
--- a content, by what stands in the body
+-- a content, from the contents of the body
 abbrev content_with : (headers body : Data) → (links errbacks : List PTask) → PPlace → PLine → Content
 content_with h b ls es p r = record {
   parent = task_of (field (codes "parent_id") h);

@@ -233,7 +233,7 @@ module _ (f : Data → Result PLine SigFault) (bad : Data → Bool) (v : Data �
     apart false false false true u = refl
     apart false false false false u = refl
 
-    -- a signature that stands for a task
+    -- a signature of a task
     own_seen : (linked : Bool) (d : Data) (p : Option Primitive) → primitive_of (subtype d) ≡ p → p ≡ Some kind.Task
         → seen (task_as linked t f d) ≡ but_for (bad_task_by faulty bad d) (task_from w v d)
     own_seen linked d p here is_one =
@@ -260,7 +260,7 @@ module _ (f : Data → Result PLine SigFault) (bad : Data → Bool) (v : Data �
     unknown_fault true = refl
     unknown_fault false = refl
 
-    -- one that stands for none is no link
+    -- a signature of another kind is no link
     no_link : (d : Data) (p : Option Primitive) → is_task p ≡ false → is_some (but_a_place (fault_if (not_signature d) NotSignature or_else fault_as true d p))
         ≡ true
     no_link d None h = unknown_fault (not_signature d)

@@ -62,7 +62,7 @@ steps_pushed : (ts : List PTask) (t : PTask) → p_steps (ts ++ t ∷ []) p_stop
 steps_pushed [] t = refl
 steps_pushed (x ∷ ts) t = ap (p_step x) (steps_pushed ts t)
 
--- some tasks with one more behind them
+-- some tasks with one more at the end
 pub pushed_line : (ts new : List FrozenTask) (t : FrozenTask) → new ≡ ts ++ t ∷ []
     → p_line_view (roll-FrozenLine (record { tasks = new; tail = None })) ≡ p_steps (map p_task_view ts) (p_step (p_task_view t) p_stop)
 pushed_line ts new t is =

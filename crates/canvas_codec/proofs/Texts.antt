@@ -1,4 +1,4 @@
--- What is said of a text that was parsed.
+-- Facts about a text that was parsed.
 use Rattle.std.proofs.Common.{◌≡◌, ◌≢◌, Option, Some, None, Err, refl}
 use Rattle.serde_json.specs.Data.{Data}
 use Rattle.canvas_values.specs.declared.fault.SigFault.{SigFault}

@@ -1,10 +1,10 @@
--- What is said of a frozen signature, by what is said of those in it, however deep they are (Celery
--- task message protocol, version 2: `embed` of a body). JSON that reads nests at most `max_depth`
--- deep, so the number of levels by which the definitions go down leaves none out.
---     ReadsShallow                 what reads as JSON is no deeper than that
---     RefusedByParts, SaidByParts  the definitions of refusals, and of what is said, with no number
---     SameWithin n                 n levels say the same of a signature
---     SameEnvelope n               and so of the texts of an envelope
+-- The refusals and contents of a frozen signature follow from those of its parts, at any depth
+-- (Celery task message protocol, version 2: `embed` of a body). JSON that can be read nests at most
+-- `max_depth` deep, so the number of levels in the definitions leaves none out.
+--    ReadsShallow                 a value that can be read is no deeper than that
+--    RefusedByParts, SaidByParts  the definitions of refusals and of contents, without a number
+--    SameWithin n                 n levels give the same for a signature
+--    SameEnvelope n               and for the texts of an envelope
 use Rattle.std.specs.Prelude.{◌≡◌, ◌≤◌, ℕ, Bool, false, not, ◌||◌, if◌then◌else◌, List, [], ◌∷◌, map, reverse, Option, Some, is_some, codes}
 use Rattle.std.specs.List.{list_any}
 use Rattle.serde_json.specs.Data.{Data, depth}
@@ -24,7 +24,7 @@ use Rattle.canvas_envelope.specs.EnvelopeFaults.{not_json, not_version_2, bad_id
 use Rattle.canvas_envelope.specs.declared.fault.MessageFault.{MessageFault}
 use Rattle.canvas_envelope.specs.declared.fault.MessageFault.TheVariants.{NotJson, NotVersion2, BadId, BadContentType, BadBody, BadArgs, BadEmbed}
 
--- what a text reads as, and so all that stands in it
+-- the depth of a value that can be read, and so of all its parts
 abbrev pub ReadsShallow : Type 0
 ReadsShallow = (text : Text) (d : Data) → json_of text ≡ Some d → depth d ≤ max_depth
 
@@ -39,19 +39,19 @@ line_by t e f d =
     if is_chain d then line_from t e (listed (tasks d))
     else element_from (t d) f (primitive_of (subtype d)) d
 
--- whether one is refused
+-- whether a signature is refused
 pub record RefusedByParts (d : Data) : Type 0 where
   pub task : bad_task d ≡ bad_task_by bad_task bad_line d
   pub last : bad_last d ≡ bad_last_by bad_task bad_line (primitive_of (subtype d)) d
   pub line : bad_line d ≡ bad_line_by bad_task bad_last bad_line d
 
--- and what it says
+-- the contents of a signature
 pub record SaidByParts (d : Data) : Type 0 where
   pub task : task_in d ≡ task_from task_in line_in d
   pub last : last_in d ≡ element_from (task_in d) line_in (primitive_of (subtype d)) d
   pub line : line_in d ≡ line_by task_in last_in line_in d
 
--- both by another number of levels
+-- another number of levels gives the same refusals and contents of a signature
 pub record SameWithin (n : ℕ) (d : Data) : Type 0 where
   pub bad_task : bad_task_within n d ≡ bad_task d
   pub bad_last : bad_last_within n d ≡ bad_last d
@@ -60,7 +60,7 @@ pub record SameWithin (n : ℕ) (d : Data) : Type 0 where
   pub last : last_within n d ≡ last_in d
   pub line : line_within n d ≡ line_in d
 
--- ---- whole envelopes: their refusals and what they say, as they are defined, but by n levels
+-- ---- whole envelopes: the definitions of their refusals and contents, with n levels
 
 module _ (n : ℕ) where
   abbrev pub bad_members_within : (group embed : Data) → Bool
@@ -112,7 +112,7 @@ module _ (n : ℕ) where
       first_of ((not_json p || not_json h || not_json b, NotJson)
       ∷ refusals_within (json_in p) (json_in h) (json_in b))
 
-  -- the first refusal is the same, and so is what the texts say
+  -- the first refusal is the same, and so are the contents of the texts
   pub record SameEnvelope (p h b : Text) : Type 0 where
     pub fault : envelope_fault_within p h b ≡ envelope_fault p h b
     pub content : content_within (json_in h) (json_in b) ≡ content_said h b

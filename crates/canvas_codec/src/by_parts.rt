@@ -1,4 +1,4 @@
-//! The law of the definitions of an envelope's refusals and of what it says.
+//! The law of the definitions of an envelope's refusals and contents.
 
 ghost use Rattle.std.specs.Prelude.{◌≤◌, ℕ};
 ghost use Rattle.serde_json.specs.Data.{Data, depth};
@@ -7,10 +7,10 @@ ghost use Rattle.canvas_task.specs.Text.{Text};
 ghost use Rattle.canvas_envelope.specs.FrozenGrammar.{levels};
 ghost use Rattle.canvas_codec.specs.FrozenParts.{ReadsShallow, RefusedByParts, SaidByParts, SameEnvelope, SameWithin};
 
-/// What is said of a frozen signature is said by what is said of those in it, however deep they
-/// are, in all that reads as JSON: the number of levels by which the definitions go down leaves
-/// none out. More levels change neither which refusal of an envelope is the first, nor what it
-/// says.
+/// States that refusals and contents of a frozen signature follow from those of its parts, at any
+/// depth to which JSON can be read: the number of levels that bounds the recursion of the
+/// definitions leaves none out. More levels change neither the first refusal of an envelope nor its
+/// contents.
 pub fn law_of_frozen_parts()
     ensures reads { ReadsShallow }
     ensures refused { (d : Data) → depth d ≤ max_depth → RefusedByParts d }

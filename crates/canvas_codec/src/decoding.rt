@@ -1,4 +1,4 @@
-//! Reading messages out of envelopes.
+//! Reading messages from envelopes.
 
 ghost use Rattle.std.specs.Prelude.{◌≡◌, ◌≢◌, IfOk, IfErr};
 ghost use Rattle.canvas_sig.specs.Datum.{view, value_at};
@@ -19,7 +19,7 @@ use canvas_task::{TaskNo, TextOf};
 use json::Scratch;
 use std::alloc::{AllocError, Global};
 
-/// The JSON value that a text is.
+/// Parses a text as one JSON value.
 fn parsed<'a>(
     alloc: Global,
     arena: &'a Bump,
@@ -92,7 +92,8 @@ fn draft_of(
     })
 }
 
-/// The message, where its places, sizes and reach are in order.
+/// Makes the message, if its places, sizes and reach are allowed. The faults of each signature by
+/// itself have been checked before.
 fn checked(draft: Draft) -> Result<Message, MessageFault>
     ensures { Gives (λ m. m) result (if_fits (draft_view draft)) }
 {
@@ -124,8 +125,8 @@ fn read_message(
     checked(draft_of(alloc, headers, task, given, embed)?)
 }
 
-/// The message that three texts say. The arena holds their values, and each scratch the escaped
-/// texts of one.
+/// Reads the message that three texts encode. The arena holds their values, and each scratch is for
+/// the texts with escapes of one of them.
 fn decode_within<'a>(
     alloc: Global,
     arena: &'a Bump,
@@ -146,7 +147,7 @@ fn decode_within<'a>(
     read_message(alloc, &properties, &headers, &body)
 }
 
-/// The message that three texts say, or the first refusal of them.
+/// Reads the message that three texts encode, or returns their first refusal.
 pub fn decode(alloc: Global, envelope: &Envelope) -> Result<Message, MessageFault>
     ensures ok { IfOk result
         (λ m. Says envelope.now.properties envelope.now.headers envelope.now.body m) }

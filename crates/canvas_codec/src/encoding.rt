@@ -1,4 +1,4 @@
-//! The envelope of a message.
+//! Writing the envelope of a message.
 
 ghost use Rattle.std.specs.Prelude.{◌≡◌, true, IfOk, IfSome, string_bytes};
 ghost use Rattle.canvas_task.specs.Identifiers.{task_text};
@@ -15,7 +15,7 @@ use canvas_task::{ListOf, Memory, TaskNo, task_text};
 use canvas_writing::{Body, ascii, body_of, put_headers, put_properties};
 use std::alloc::{AllocError, Global};
 
-/// The bytes of a text, which are UTF-8.
+/// Returns the bytes of a text, which are UTF-8.
 fn bytes_of(text: String) -> ListOf<u8>
     ensures value { result ≡ string_bytes text }
     ensures utf8 { IsUtf8 result }
@@ -23,7 +23,7 @@ fn bytes_of(text: String) -> ListOf<u8>
     ListOf::of(text.into_bytes())
 }
 
-/// The three texts of a message with this identifier.
+/// Writes the three texts of a message with this identifier.
 fn texts_of(alloc: Global, message: &Message, id: &str) -> Result<Pieces, AllocError>
     requires { id.now ≡ task_text (number_of message.now.own) }
     ensures properties { IfOk result
@@ -53,7 +53,7 @@ fn texts_of(alloc: Global, message: &Message, id: &str) -> Result<Pieces, AllocE
     })
 }
 
-/// The number of a message's task.
+/// Returns the number of a message's task.
 fn number(message: &Message) -> TaskNo
     ensures value { result ≡ number_of message.now.own }
     ensures checked { fits message.now ≡ true }
@@ -61,7 +61,7 @@ fn number(message: &Message) -> TaskNo
     message.task
 }
 
-/// The three texts of a message, of which a piece may be shared.
+/// Writes the three texts of a message, with a shared piece if there is one.
 pub(crate) fn pieces_of(alloc: Global, message: &Message) -> Result<Pieces, Memory>
     ensures properties { IfOk result
         (λ p. (joined p).properties ≡ compact_text (properties_wire message.now)) }
@@ -75,7 +75,7 @@ pub(crate) fn pieces_of(alloc: Global, message: &Message) -> Result<Pieces, Memo
     Ok(texts_of(alloc, message, ascii(&id))?)
 }
 
-/// The three texts of a message, which are read as the message.
+/// Writes the three texts of a message, which read back as the message.
 pub fn encode(alloc: Global, message: &Message) -> Result<Envelope, Memory>
     ensures texts { IfOk result (λ e. (e.properties ≡ compact_text (properties_wire message.now))
         × (e.headers ≡ compact_text (headers_wire message.now))

@@ -1,4 +1,4 @@
-//! Envelopes and letters of messages, and the messages that their texts say.
+//! Envelopes and letters of messages, and reading messages from their texts.
 #![tactic(auto)]
 
 mod by_parts;

@@ -1,4 +1,4 @@
-//! Letters of messages that this process writes, and messages of letters.
+//! Sealing messages of this process in letters, and opening letters.
 
 ghost use Rattle.std.specs.Prelude.{◌≡◌, ◌≢◌, IfOk, IfErr, Some};
 ghost use Rattle.serde_json.specs.Written.{compact_text};
@@ -13,8 +13,8 @@ use canvas_task::Memory;
 use canvas_writing::line_text;
 use std::alloc::{AllocError, Global};
 
-/// Writes the text of what follows a message, and finds which tasks come first there, where
-/// something follows and it isn't written already.
+/// Writes the text of the rest of a message's line, and counts the first tasks there without a
+/// place, if anything follows and this wasn't done yet.
 fn write_rest(alloc: Global, message: &mut Message) -> Result<(), AllocError>
     ensures { message.new ≡ message.old }
 {
@@ -29,9 +29,9 @@ fn write_rest(alloc: Global, message: &mut Message) -> Result<(), AllocError>
     Ok(())
 }
 
-/// The envelope that `encode` writes of a message, with the message where there is memory to keep
-/// it. What several messages carry is written once: a body that a place carries, and what follows
-/// on a line.
+/// Makes a letter of the envelope that `encode` writes, with the message if memory suffices to keep
+/// it. Texts that several messages share are written once: a body that a place carries, and the
+/// rest of a line.
 pub fn seal(alloc: Global, message: Message) -> Result<Letter, Memory>
     ensures texts { IfOk result (λ e. (e.properties ≡ compact_text (properties_wire message))
         × (e.headers ≡ compact_text (headers_wire message))
@@ -45,7 +45,7 @@ pub fn seal(alloc: Global, message: Message) -> Result<Letter, Memory>
     Ok(letter)
 }
 
-/// The message that is read from an envelope.
+/// Reads the message from an envelope.
 fn read_whole(alloc: Global, envelope: &Envelope) -> Result<Box<Message>, MessageFault>
     ensures ok { IfOk result (λ m. Says envelope.now.properties envelope.now.headers
         envelope.now.body m.value) }
@@ -60,7 +60,7 @@ fn read_whole(alloc: Global, envelope: &Envelope) -> Result<Box<Message>, Messag
     }
 }
 
-/// The message that is read from a letter's envelope.
+/// Reads the message from a letter's envelope.
 fn read(alloc: Global, letter: &Letter) -> Result<Box<Message>, MessageFault>
     ensures ok { IfOk result
         (λ m. Says letter.now.properties letter.now.headers letter.now.body m.value) }
@@ -76,8 +76,8 @@ fn read(alloc: Global, letter: &Letter) -> Result<Box<Message>, MessageFault>
     }
 }
 
-/// The message that a letter's envelope says, or the first refusal of it, as `decode` answers.
-/// Where memory is refused the letter can be opened once more.
+/// Returns the message that a letter's envelope encodes, or its first refusal, as `decode` does.
+/// After an allocation failure the letter can be opened again.
 pub fn open(alloc: Global, letter: &mut Letter) -> Result<Box<Message>, MessageFault>
     ensures ok { IfOk result
         (λ m. Says letter.old.properties letter.old.headers letter.old.body m.value) }

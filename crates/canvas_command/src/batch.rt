@@ -21,11 +21,12 @@ use std::random::RandomSource;
 use std::sync::Wait;
 use std::thread::{Threads, for_each_mut};
 
-/// How many bytes are read at a time: as many as a pipe has.
-pub(crate) const READ_AHEAD: usize = 65_536;
+/// How many bytes are read at a time, at most. A pipe gives 64 KiB. Threads that have less to do
+/// end before the system moves them to other processors.
+pub(crate) const READ_AHEAD: usize = 1_048_576;
 
 /// The most items that are answered before their lines are printed.
-const MOST_AT_ONCE: usize = 256;
+const MOST_AT_ONCE: usize = 8_192;
 
 /// An item, and what is said of it: that it was stopped, until it is answered.
 #[derive(Drop)]

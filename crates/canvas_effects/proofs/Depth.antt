@@ -1,4 +1,4 @@
--- How many groups and chords a line has: what a walk of a line that is given up goes down by.
+-- The number of groups and chords of a line, which decreases in a walk of a consumed line.
 use Rattle.std.proofs.Common.{◌≡◌, ℕ, suc, ◌+◌, ◌≤◌, arith, List, [], ◌∷◌, map, Option, Some, None, refl, ap}
 use Rattle.canvas_semantics.specs.PlacedLine.{PLine, p_stop, p_step, p_group_end, p_chord_end, PLines, no_p_lines, and_p_line}
 use Rattle.canvas_rewrite.specs.FrozenView.{p_lines_of, p_line_view, p_end_view}

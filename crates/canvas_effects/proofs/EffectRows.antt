@@ -142,7 +142,7 @@ ten_states : states (evaluated builtin_tasks (chord_end 1 (lines (chord_end 2 (l
     ≡ (1, zd) ∷ (2, raised_by 1 (why.Plain ZeroDivision)) ∷ (3, ok 2) ∷ (4, raised_by 2 why.Chord) ∷ []
 ten_states = refl
 
--- ---- a group, and then a chord, behind a failed header
+-- ---- a group, and then a chord, after a failed header
 
 eighteen_states : states (evaluated builtin_tasks (chord_end 1 (lines (div 1 1 0 ∷ []))
     (group_end 2 (lines (one (logged 2 (codes "tasks.add") (int 1 ∷ []) 3) ∷ one (plain 4 (codes "tasks.mul") (int 2 ∷ [])) ∷ [])))))

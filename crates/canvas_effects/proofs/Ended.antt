@@ -65,7 +65,7 @@ mutual
       no_part_on (enter m (run x) p 0 u) (enter_all ms (run x) p u) (run_part false m x p 0 u (member_first m ms ok).ok)
       (run_all_part ms x p u (member_others m ms ok))
 
--- the task before matters to a part alone
+-- the task before matters only for a part
 run_any : (l : PLine) (x : Input) (p : PPlace) (k : ℕ) (u : Option ℕ) → messages_in (enter l (run x) p k u) ≡ started l x p u
 run_any p_stop x p k u = place_messages p k ∙ sym (place_messages p 0)
 run_any (p_step t l) x p k u = refl
@@ -192,7 +192,7 @@ Done c ss ms p o = record { stores = in_order (λ e. e.0) ss; messages = in_orde
 abbrev back : Content → Outcome → Jobs
 back c o = called (links_of c.own) (errbacks_of c.own) (number_of c.own) o
 
--- what is done behind the callbacks
+-- the jobs after the callbacks
 ended : (c : Content) (o : Outcome) (more : Jobs) (ss : List (ℕ × Outcome)) (ms : List Content) (p : Option Part) → after c o ≡ effect_of (back c o ++ more)
     → ss ≡ stores_in more → ms ≡ messages_in (back c o) ++ messages_in more → p ≡ part_in more → Done c ss ms p o
 ended c o more ss ms p is hs hm hp =

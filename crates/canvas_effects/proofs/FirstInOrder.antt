@@ -1,4 +1,4 @@
--- What a plan's line begins with stands in the order of the numbers, so that it can be made portion by portion.
+-- The first messages of a plan's line are in the order of their numbers, so that they can be made in portions.
 use Rattle.std.proofs.Common.{◌≡◌, ◌∙◌, ℕ, suc, ◌≤◌, true, false, List, [], ◌∷◌, ◌++◌, map, Option, Some, None, Box, Global, length, refl, sym, ap, subst, arith, append-nil}
 use Rattle.std.specs.Prelude.{◌==◌}
 use Rattle.canvas_semantics.specs.Tree.{Task, task}
@@ -95,7 +95,7 @@ pub portions_together : (ls : List PLine) (p : PPlace) → together (portions ls
 portions_together [] p = refl
 portions_together (l ∷ ls) p = ap (λ ms. started l no_input p None ++ ms) (portions_together ls p)
 
--- a line of which nothing stands in front of its group or chord
+-- a line without tasks before its group or chord
 pub begins_there : (l : FrozenLine) (ts : List FrozenTask) (b : Box FrozenEnd Global) (e : FrozenEnd) → ts ≡ (out-FrozenLine l).tasks
     → length ts ≡ 0
     → (out-FrozenLine l).tail ≡ Some b → e ≡ b.value
@@ -122,7 +122,7 @@ plan_can_stand l whole = ap (can_stand (bare l)) (sym (bare_place l)) ∙ stands
 line_stands : (l : Line) (v : PLine) → v ≡ bare l → is_whole (bare l) ≡ true → can_stand v p_nowhere ≡ true
 line_stands l v same whole = ap (λ w. can_stand w p_nowhere) same ∙ plan_can_stand l whole
 
--- a line alone
+-- a single line
 pub alone_stands : (l : Line) (f : FrozenLine) (ls : List FrozenLine) → p_line_view f ≡ bare l → is_whole (bare l) ≡ true → ls ≡ f ∷ []
     → AllStand p_nowhere (map p_line_view ls)
 alone_stands l f ls same whole is = subst (λ xs. AllStand p_nowhere (map p_line_view xs)) (sym is) (line_stands l (p_line_view f) same whole, tt)

@@ -1,4 +1,4 @@
--- The line of a plan can stand in a message.
+-- The line of a plan can be in a message.
 use Rattle.std.proofs.Common.{◌≡◌, ◌∙◌, ℕ, suc, ◌≤◌, ◌<◌, ◌+◌, ◌^◌, max, arith, Bool, true, false, List, [], ◌++◌, None, refl, ap, ap₂}
 use Rattle.std.specs.Prelude.{◌&&◌, not, nat_lt, nat_le}
 use Rattle.std.proofs.lemmas.Bool.{lt-ltb, le-leb}

@@ -24,7 +24,7 @@ use Rattle.canvas_envelope.proofs.Seen.{line_empty, end_none, end_some}
 use Rattle.canvas_effects.proofs.Standing.{Stepped, first_stepped, Member, member_first, group_whole, header_whole}
 use Rattle.canvas_effects.proofs.Walked.{number_seen, last_number, never_last}
 
--- ---- what is raised behind a header
+-- ---- the exception that is raised after a header
 
 pub fault_chord : (f g : Fault) (t : FrozenEnd) (b : FrozenLine) (ms : List FrozenLine) → (out-FrozenEnd t).body ≡ Some b → ms ≡ (out-FrozenEnd t).members
     → g ≡ fault_behind (p_lines_of (map p_line_view ms)) f → fault_at_end (p_line_view b) g ≡ fault_at_end (p_end_view t) f
@@ -133,7 +133,7 @@ pub never_whole : (l : FrozenLine) (all : List FrozenTask) → (out-FrozenLine l
     → is_whole (p_line_view l) ≡ true → ⊥
 never_whole l all none same few ok = let clash : is_whole p_stop ≡ true = sym (ap is_whole (line_empty l none all same few)) ∙ ok in cc
 
--- what holds whatever was answered
+-- for any result
 pub ok_there : {X : Type 0} (r : Result (Unit {0}) AllocError) (x a : List X) → x ≡ a → OnOk r (x ≡ a)
 ok_there (Ok u) x a e = e
 ok_there (Err f) x a e = tt

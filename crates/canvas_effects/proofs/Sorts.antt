@@ -145,7 +145,7 @@ module _ {A : Type 0} (key : A → ℕ) where
   ordered_by_sort xs ys sorted stable =
       same_lists ys (in_order key xs) (Rises-from_sort ys sorted) (Rises-in_order xs) (λ x. stable x ∙ sym (filter-in_order x xs))
 
-  -- a list that stands in the order of its numbers already stays as it is
+  -- a list that is already in the order of its numbers is unchanged
   pub in_order_stays : (xs : List A) → AllAdjacentBelow (λ x y. true ≡ is_some_and is_le (Some (nat_cmp (key x) (key y)))) xs (length xs) → in_order key xs ≡ xs
   in_order_stays xs h =
       sym (ordered_by_sort xs xs (IsNonDecreasingBy-from_all_adjacent key xs (λ k d lt. at_most (key (get_or xs k d)) (key (get_or xs (k + 1) d)) (h k d lt)))

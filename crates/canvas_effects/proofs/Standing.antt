@@ -1,4 +1,4 @@
--- Lines that can be walked: what stands in them can stand in a message.
+-- Lines that can be walked: their parts can be in a message.
 use Rattle.std.proofs.Common.{◌≡◌, ◌∙◌, ℕ, suc, ◌≤◌, ◌+◌, max, arith, Bool, true, false, List, [], ◌∷◌, Option, Some, None, refl, sym, ap}
 use Rattle.std.specs.Prelude.{◌&&◌, not, nat_lt, nat_le, if◌then◌else◌}
 use Rattle.std.specs.List.{list_all}
@@ -111,7 +111,7 @@ line_begun t (p_step u l) x = ap (λ r. 1 + max r (greatest_reach 0 (p_step u l)
 line_begun t (p_group_end g ms) x = ap (λ r. 1 + max r (greatest_reach 0 (p_group_end g ms))) (begun_reach t x)
 line_begun t (p_chord_end g ms b) x = ap (λ r. 1 + max r (greatest_reach 0 (p_chord_end g ms b))) (begun_reach t x)
 
--- a line that can stand in a message can be its line
+-- a line that can be in a message can be its line
 pub message_fits : (u : Option ℕ) (t : PTask) (x : Input) (l : PLine) → parent_ok u ≡ true → input_ok x ≡ true → is_whole (p_step t l) ≡ true
     → fits (message u t x l) ≡ true
 message_fits u t x l hu hx ok =
@@ -296,7 +296,7 @@ mutual
   placed_greatest p (p_chord_end g ms b) =
       let more = placed_reach p b in omega (arith, more, members_rise (line_reach 0 (placed p b)) (line_reach (place_reach p) b) ms more)
 
--- ---- what stands in a line
+-- ---- the parts of a line
 
 whole_by : (l : PLine) → line_ok true l ≡ true → line_reach 0 l ≤ 32 → is_whole l ≡ true
 whole_by l ok near = all_true (line_ok true l) (nat_le (line_reach 0 l) 32) ok (le-leb (line_reach 0 l) 32 near)
@@ -343,7 +343,7 @@ place_by last (p_task k call links errbacks place) ok near =
     all_true (place_ok true place) (nat_le (suc (place_reach place)) 32) (place_true last place (task_parts last k call links errbacks place ok).there)
     (le-leb (suc (place_reach place)) 32 (omega (arith, near)))
 
--- what stands behind a task
+-- the rest of a line after a task
 behind : (t : PTask) (l : PLine) → is_stop l ≡ false → line_reach 0 l ≤ line_reach 0 (p_step t l)
 behind t p_stop h = absurd cc
 behind t (p_step u p_stop) h = omega arith
@@ -454,7 +454,7 @@ body_stands g ms b p h = body_whole g ms (placed p b) h
 pub few_members : (g : ℕ) (ms : PLines) (b : PLine) (p : PPlace) → can_stand (p_chord_end g ms b) p ≡ true → how_many ms ≤ 1024
 few_members g ms b p h = leb-true (how_many ms) 1024 (chord_parts g ms (placed p b) (whole_ok (p_chord_end g ms (placed p b)) h)).few
 
--- a line as it stands goes where its last task says
+-- the end of a line goes to the place of its last task
 pub as_it_stands : (l : PLine) → placed (end_place l) l ≡ l
 as_it_stands p_stop = refl
 as_it_stands (p_step (p_task k call links errbacks place) p_stop) = refl

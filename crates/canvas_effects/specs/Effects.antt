@@ -1,6 +1,7 @@
--- What a task's end, the completion of a header, or the start of a plan makes a worker do (Celery
--- user guide, Canvas; the chord rule of Celery's Redis backend: the member that is returned last
--- has the body applied to the results).
+-- The effects of a task's end, of the completion of a header, and of the start of a plan: the jobs
+-- of a worker (Celery user guide, Canvas; the chord rule of Celery's Redis backend: the member that
+-- is returned last has the body applied to the results). They are defined once, as jobs in file
+-- order (`enter`), and then sorted into stores, messages and a part.
 use Rattle.std.specs.Prelude.{ℕ, List, [], ◌∷◌, ◌++◌, map, Option, Some, None}
 use Rattle.canvas_task.specs.declared.outcome.Fault.{Fault}
 use Rattle.canvas_task.specs.declared.outcome.Fault.TheVariants as fault
@@ -22,13 +23,13 @@ use Rattle.canvas_effects.specs.Placing.{last_at, placed, end_place, last_task}
 abbrev pub Jobs : Type 0
 Jobs = List (Job Content PCarried Outcome)
 
--- what the call of a message answers
+-- the outcome of the call of a message
 abbrev pub outcome_of : Behaviour → Content → Outcome
 outcome_of behaviour c = behaviour (call_of c.own).name (call_of c.own).args (call_of c.own).kwargs
 
 -- ---- messages
 
--- of a task that is run with an input and that a rest follows
+-- the message of a task that is run with an input, and that a rest follows
 abbrev pub message : Option ℕ → PTask → Input → PLine → Content
 message u t x rest =
     record {
@@ -37,21 +38,21 @@ message u t x rest =
       rest = rest;
     }
 
--- links or error callbacks
+-- the messages of links or error callbacks
 abbrev pub callbacks : PTasks → Input → Option ℕ → Jobs
 callbacks no_p_tasks x u = []
 callbacks (and_p_task t ts) x u = publish (message u t x p_stop) ∷ callbacks ts x u
 
--- ---- what flows into a line
+-- ---- the effects of a flow into a line
 
--- a line's end that goes to a chord returns a part of it
+-- a line's end whose place is in a chord returns a part of it
 abbrev pub part_of : PPlace → ℕ → Jobs
 part_of p_nowhere k = []
 part_of (p_group g) k = []
 part_of (p_chord g size body) k = job.part g k (record { size = size; body = body }) ∷ []
 
--- Where an exception is raised in a line: the one that its last task fails with. Behind a header it
--- is the ChordError that names the first member's last task.
+-- The exception with which a line's last task fails, if one is raised in the line. In the body
+-- after a header it is the ChordError that names the first member's last task.
 abbrev mutual
   pub fault_at_end : PLine → Fault → Fault
   fault_at_end p_stop f = f
@@ -68,8 +69,8 @@ abbrev pub when_empty : {A : Type 0} → PLines → List A → List A
 when_empty no_p_lines xs = xs
 when_empty (and_p_line m ms) xs = []
 
--- What is done at once where x flows into a line that stands behind task k and whose end goes to p,
--- in file order. u is the task whose end it is, if it is one's.
+-- The jobs that are done at once if x flows into a line after task k whose end goes to p, in file
+-- order. u is the task whose end it is, if any.
 abbrev mutual
   pub enter : PLine → LineFlow → PPlace → ℕ → Option ℕ → Jobs
   enter p_stop x p k u = part_of p k
@@ -133,7 +134,7 @@ effect_of js =
       part = part_in js;
     }
 
--- links on a success, error callbacks on a failure
+-- links after a success, error callbacks after a failure
 abbrev pub called : PTasks → PTasks → ℕ → Outcome → Jobs
 called links errbacks k (Success n) = callbacks links (number_input n) (Some k)
 called links errbacks k (Failure f) = callbacks errbacks (id_input k) (Some k)
@@ -145,7 +146,7 @@ after c o =
     effect_of (called (links_of c.own) (errbacks_of c.own) k o
     ++ enter c.rest (after_outcome o) (end_place (line c)) k (Some k))
 
--- what the outcomes of a header's members give to the body: the list of their numbers, or the
+-- the input of a body, from the outcomes of the header's members: the list of their numbers, or the
 -- ChordError of the first that failed. Nothing else is gathered
 abbrev pub into_body : eval.Flow → LineFlow
 into_body (eval.list ns) = run (list_input ns)
@@ -155,8 +156,8 @@ into_body x = run no_input
 abbrev pub header_flow : List (ℕ × Outcome) → LineFlow
 header_flow es = into_body (eval.gathered (map (λ e. (e.0, Some e.1)) es))
 
--- the completion of a header, by the outcomes of its members' last tasks in order, on what they
--- carry
+-- the completion of a header, from the outcomes of its members' last tasks in order, and from what
+-- they carry
 abbrev pub body_after : PCarried → List (ℕ × Outcome) → Effect
 body_after c es = effect_of (enter c.body (header_flow es) (end_place c.body) 0 None)
 
@@ -167,7 +168,7 @@ at_start l = effect_of (enter (bare l) (run no_input) p_nowhere 0 None)
 abbrev pub first_messages : Line → List Content
 first_messages l = (at_start l).messages
 
--- what a worker does of an effect, in this order
+-- the jobs of an effect, in this order
 abbrev pub part_jobs : Option Part → Jobs
 part_jobs None = []
 part_jobs (Some p) = job.part p.chord p.task p.carried ∷ []

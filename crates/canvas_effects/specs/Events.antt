@@ -1,5 +1,5 @@
--- Evaluation with events: all that is done in a run of a line, each thing with the event that does
--- it, in file order (Celery user guide, Canvas; the chord rule of Celery's Redis backend: a
+-- Evaluation with events: everything that is done in a run of a line, each job with the event that
+-- does it, in file order (Celery user guide, Canvas; the chord rule of Celery's Redis backend: a
 -- header's last part starts the body).
 use Rattle.std.specs.Prelude.{ℕ, pos, List, [], ◌∷◌, ◌++◌, Option, Some, None}
 use Rattle.canvas_task.specs.Apply.{Behaviour}
@@ -28,7 +28,7 @@ pub data Event : Type 0 where
 abbrev pub EventJobs : Type 0
 EventJobs = List (Event × Job Content PCarried Outcome)
 
--- the task whose end an event is
+-- the task whose end the event is
 abbrev pub parent_of : Event → Option ℕ
 parent_of start = None
 parent_of (running k) = None
@@ -39,27 +39,27 @@ abbrev pub labelled : Event → Jobs → EventJobs
 labelled v [] = []
 labelled v (j ∷ js) = (v, j) ∷ labelled v js
 
--- a line's last outcome, by what goes out of the line
+-- a line's last outcome, from the flow out of the line
 abbrev pub flow_outcome : LineFlow → Outcome
 flow_outcome (run (number_input n)) = Success n
 flow_outcome (run x) = Success (pos 0)
 flow_outcome (skips f) = Failure f
 flow_outcome (raise f) = Failure f
 
--- what goes out of a group or header, by what goes in and its members' outcomes
+-- the flow out of a group or header, from the flow in and its members' outcomes
 abbrev pub group_flow : LineFlow → List (ℕ × Outcome) → LineFlow
 group_flow (run x) es = header_flow es
 group_flow (skips f) es = skips f
 group_flow (raise f) [] = raise f
 group_flow (raise f) (e ∷ es) = header_flow (e ∷ es)
 
--- where the ends of a header's members go: only a header that runs is counted
+-- the place of the ends of a header's members: only a header that runs is counted
 abbrev pub header_place : LineFlow → ℕ → Lines → Line → PPlace → PPlace
 header_place (run x) g ms body p = p_chord g (how_many (all_bare ms)) (placed p (bare body))
 header_place (skips f) g ms body p = p_nowhere
 header_place (raise f) g ms body p = p_nowhere
 
--- and the event that starts its body; an empty header does so at once
+-- the event that starts the body; an empty header starts it at once
 abbrev pub body_event : LineFlow → Lines → ℕ → Event → Event
 body_event (run x) no_lines g v = v
 body_event (run x) (and_line m ms) g v = completion g
@@ -74,7 +74,7 @@ abbrev pub chosen : {A : Type 0} → Outcome → A → A → A
 chosen (Success n) x y = x
 chosen (Failure f) x y = y
 
--- the message of a task that is run with an input, where a rest follows it whose end goes to p
+-- the message of a task that is run with an input, and that a rest follows whose end goes to p
 abbrev pub message_of : Task → Input → Event → Line → PPlace → Content
 message_of t x v rest p =
     message (parent_of v) (last_at p (bare_task t) (bare rest)) x (placed p (bare rest))
@@ -88,7 +88,7 @@ errbacks_in (task k call links errbacks) = errbacks
 
 module _ (behaviour : Behaviour) where
   abbrev mutual
-    -- what goes out of a line
+    -- the flow out of a line
     pub out : Line → LineFlow → LineFlow
     out stop x = x
     out (step t rest) (run x) = out rest (after_outcome (outcome_with behaviour t x))
@@ -116,8 +116,7 @@ module _ (behaviour : Behaviour) where
     ran_all no_tasks x v = []
     ran_all (and_task t ts) x v = ran t x v stop p_nowhere ++ ran_all ts x v
 
-  -- all that comes of x flowing, by an event, into a line that stands behind task k and whose end
-  -- goes to p
+  -- everything that follows if x flows, by an event, into a line after task k whose end goes to p
   abbrev mutual
     pub events_in_file : Line → LineFlow → PPlace → ℕ → Event → EventJobs
     events_in_file stop x p k v = labelled v (part_of p k)
@@ -144,6 +143,6 @@ module _ (behaviour : Behaviour) where
   abbrev pub evaluated : Line → EventJobs
   evaluated l = events_in_file l (run no_input) p_nowhere 0 start
 
--- evaluating the plan, the event does the job
+-- in evaluating the plan, the event does the job
 abbrev pub DoesIn : Behaviour → Line → Event → Job Content PCarried Outcome → Type 0
 DoesIn behaviour l v j = In (v, j) (evaluated behaviour l)

@@ -1,4 +1,4 @@
--- What a worker is told to do, as data: the effects of `Effects` (Celery user guide, Canvas).
+-- The jobs of a worker as data: the effects of `Effects` (Celery user guide, Canvas).
 use Rattle.std.specs.Prelude.{option_map}
 use Rattle.canvas_effects.specs.Effects.{Effect, Part}
 use Rattle.canvas_envelope.specs.MessageView.{carried_view}

@@ -1,4 +1,4 @@
-//! What follows a chord, with its text.
+//! The body of a chord, with its text.
 
 ghost use Rattle.std.specs.Prelude.{◌≡◌, IfOk, IfSome};
 ghost use Rattle.canvas_envelope.specs.MessageView.{carried_view};
@@ -12,13 +12,13 @@ use std::alloc::{AllocError, Global};
 use std::marker::Model;
 use std::sync::Arc;
 
-/// How many members a chord has, and its body, with the text of the body where it is known.
+/// The number of members of a chord and its body, with the text of the body if it is known.
 #[derive(Drop)]
 pub struct ChordBody {
-    /// What a place carries.
+    /// The size and the body, as a place carries them.
     pub carried: Carried,
-    /// Its text, which changes no message, and saves writing once more what the end of the body
-    /// carries.
+    /// The text of the body. It changes no message, and saves writing again what the end of the
+    /// body carries.
     pub text: Option<Arc<CarriedText>>,
 }
 
@@ -41,7 +41,7 @@ impl Model for ChordBody {
 }
 
 impl ChordBody {
-    /// A body with its text, where that is known.
+    /// Makes a body with its text, if that is known.
     pub fn of(carried: Carried, text: Option<Arc<CarriedText>>) -> ChordBody
         requires { IfSome text
             (λ t. SaysCarried t.value (carrying_place (carried_view carried))) }
@@ -50,7 +50,7 @@ impl ChordBody {
         ChordBody { carried, text }
     }
 
-    /// A body of which no text is known.
+    /// Makes a body without a text.
     pub(crate) fn unwritten(carried: &Carried) -> Result<ChordBody, AllocError>
         ensures { IfOk result (λ b. b ≡ carried_view carried.now) }
     {
@@ -60,7 +60,7 @@ impl ChordBody {
         })
     }
 
-    /// The text of what the end of the body carries, where it is known.
+    /// Returns the text of what the end of the body carries, if it is known.
     pub(crate) fn inner_text(&self, alloc: Global) -> Result<Option<Arc<CarriedText>>, AllocError>
         ensures { IfOk result
             (λ o. IfSome o (λ t. SaysCarried t.value (end_place self.now.body))) }

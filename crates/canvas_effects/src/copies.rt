@@ -1,4 +1,4 @@
-//! Copies of frozen tasks and lines. A body that is carried is shared between them.
+//! Cloning frozen tasks and lines. A carried body is shared between the clones.
 
 ghost use Rattle.std.specs.Prelude.{◌≡◌, IfOk, map};
 ghost use Rattle.canvas_rewrite.specs.FrozenView.{p_task_view, p_line_view, p_end_view};
@@ -11,7 +11,7 @@ use canvas_rewrite::{FrozenEnd, FrozenLine, FrozenTask, Place};
 use canvas_task::{Arg, ListOf, MapOf, TextOf, copy_args, copy_kwargs};
 use std::alloc::{AllocError, Global};
 
-/// The same place once more.
+/// Clones a place. The clone shares the carried body.
 pub(crate) fn share_place(place: &Place) -> Result<Place, AllocError>
     ensures { IfOk result (λ same. place_view same ≡ place_view place.now) }
 {
@@ -39,7 +39,7 @@ pub(crate) fn share_if_some(place: &Option<Place>) -> Result<Option<Place>, Allo
     }
 }
 
-/// What a task is called with.
+/// The name and the arguments of a call.
 #[derive(Drop)]
 pub(crate) struct Call {
     pub(crate) name: TextOf,
@@ -63,7 +63,7 @@ pub(crate) fn copy_call(
     Ok(Call { name, args, kwargs })
 }
 
-/// What a task's end calls back.
+/// The callbacks of a task.
 #[derive(Drop)]
 struct Callbacks {
     links: ListOf<FrozenTask>,
@@ -85,7 +85,7 @@ fn copy_callbacks(alloc: Global, task: &FrozenTask) -> Result<Callbacks, AllocEr
     })
 }
 
-/// A copy of a task, with another place.
+/// Clones a task, with another place.
 #[cycle(copy)]
 pub(crate) fn copy_task(
     alloc: Global,
@@ -121,7 +121,7 @@ pub(crate) fn copy_tasks(alloc: Global, tasks: &[FrozenTask]) -> Result<Vec<Froz
     Ok(copies)
 }
 
-/// A copy of a line.
+/// Clones a line.
 #[cycle(copy_line)]
 pub(crate) fn copy_line(alloc: Global, line: &FrozenLine) -> Result<FrozenLine, AllocError>
     ensures { IfOk result (λ copy. p_line_view copy ≡ p_line_view line.now) }

@@ -1,4 +1,4 @@
-//! Where the end of a line goes, with the text of what the place carries.
+//! The place where the end of a line goes, with the text of what it carries.
 
 ghost use Rattle.std.specs.Prelude.{◌≡◌, IfOk, IfSome};
 ghost use Rattle.canvas_envelope.specs.MessageView.{place_view};
@@ -12,7 +12,7 @@ use std::alloc::{AllocError, Global};
 use std::marker::Model;
 use std::sync::Arc;
 
-/// A place that several lines end at, with the text that their messages share.
+/// A place at which several lines end, with the text that their messages share.
 #[derive(Drop)]
 pub(crate) struct Destination {
     pub place: Place,
@@ -36,8 +36,9 @@ impl Model for Destination {
 }
 
 impl Destination {
-    /// A place of members that start now: what it carries is written once for all of them. `inner`
-    /// is the text of what the end of the carried body carries, where it is known.
+    /// Makes the destination of members that start now, and writes what the place carries once for
+    /// all of them. `inner` is the text of what the end of the carried body carries, if it is
+    /// known.
     pub(crate) fn written(
         alloc: Global,
         place: Place,
@@ -51,7 +52,7 @@ impl Destination {
         Ok(Destination { place, text })
     }
 
-    /// The same once more.
+    /// Returns another handle to the same destination.
     pub(crate) fn share(&self) -> Result<Destination, AllocError>
         ensures { IfOk result (λ d. d ≡ self.now) }
     {

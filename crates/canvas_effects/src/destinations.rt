@@ -1,4 +1,4 @@
-//! Where the end of a line goes, if it goes anywhere.
+//! The place where the end of a line goes, if it goes anywhere.
 
 ghost use Rattle.std.specs.Prelude.{◌≡◌, IfOk, IfSome};
 ghost use Rattle.canvas_envelope.specs.MessageView.{place_seen};
@@ -12,7 +12,8 @@ use canvas_rewrite::Place;
 use std::alloc::AllocError;
 use std::sync::Arc;
 
-/// The place that a task says, with the text of what it carries where this is known.
+/// Makes the destination with a task's place, if it has one, and the text of what it carries, if
+/// that is known.
 pub(crate) fn with_text(
     place: &Option<Place>,
     text: Option<Arc<CarriedText>>,
@@ -29,7 +30,7 @@ pub(crate) fn with_text(
     }
 }
 
-/// The same once more.
+/// Returns another handle to the same destination.
 pub(crate) fn share_destination(
     destination: &Option<Destination>,
 ) -> Result<Option<Destination>, AllocError>
@@ -41,7 +42,7 @@ pub(crate) fn share_destination(
     }
 }
 
-/// The place and the text.
+/// Returns the place and the text.
 pub(crate) fn parts(destination: Option<Destination>) -> (Option<Place>, Option<Arc<CarriedText>>)
     ensures place { place_seen result.0 ≡ place_or destination }
     ensures text { IfSome result.1 (λ t. SaysCarried t.value (place_or destination)) }

@@ -1,4 +1,8 @@
-//! What the start of a plan, the end of a task and the end of a header's members make a worker do.
+//! The effects of the start of a plan, the end of a task, and the completion of a header.
+//!
+//! A line is walked in three ways: it is started, skipped, or an exception is raised in it.
+//! Messages that are made here fit by proof, and aren't checked again at run time. Outcomes have to
+//! be in range, since no envelope can contain another number.
 
 ghost use Rattle.std.specs.Prelude.{◌≡◌, true, None, IfOk, IfSome, All, map};
 ghost use Rattle.std.specs.Option.{option_map};
@@ -45,7 +49,7 @@ use std::alloc::{AllocError, Global};
 use std::sync::Arc;
 use task_messages::call_back;
 
-/// The messages that a run begins with.
+/// Returns the messages that a run begins with.
 pub fn first_messages(alloc: Global, plan: &Plan) -> Result<Vec<Message>, Memory>
     ensures { IfOk result (λ messages. messages.items ≡ first_messages plan.now) }
 {
@@ -56,7 +60,7 @@ pub fn first_messages(alloc: Global, plan: &Plan) -> Result<Vec<Message>, Memory
     Ok(messages)
 }
 
-/// What follows the end of a message's task: as `into_todo` of a copy.
+/// Returns what follows the end of a message's task. Like `into_todo`, but clones the message.
 pub fn after(alloc: Global, message: &Message, outcome: &Outcome) -> Result<Todo, Memory>
     requires { IsInRange outcome.now }
     ensures { IfOk result (λ todo. todo_view todo ≡ after message.now outcome.now) }
@@ -64,8 +68,8 @@ pub fn after(alloc: Global, message: &Message, outcome: &Outcome) -> Result<Todo
     into_todo(alloc, copy_message(alloc, message)?, outcome)
 }
 
-/// The messages that the end of a message's task calls back: of its links, or of its error
-/// callbacks.
+/// Returns the messages that the end of a message's task calls back: those of its links, or of its
+/// error callbacks.
 fn called_back(
     alloc: Global,
     message: &Message,
@@ -92,7 +96,7 @@ fn called_back(
     }
 }
 
-/// The messages of links or error callbacks.
+/// Returns the messages of links or error callbacks.
 fn all_called(
     alloc: Global,
     tasks: &[FrozenTask],
@@ -111,8 +115,8 @@ fn all_called(
     Ok(messages)
 }
 
-/// What follows the end of a header's members on what they carry, by the outcomes of their last
-/// tasks in order.
+/// Returns what follows the completion of a header, from what its members carry and the outcomes of
+/// their last tasks, in order.
 pub fn body_after(
     alloc: Global,
     carried: &Carried,
@@ -127,8 +131,8 @@ pub fn body_after(
     into_body(alloc, chord, outcomes)
 }
 
-/// The same of a body of which the text may be known, and which is given up: where nobody shares it
-/// any more it is moved, not copied.
+/// Like `body_after`, but consumes the chord, and uses the text of its body if that is known. If
+/// nobody else shares the body, it is moved and not cloned.
 pub fn into_body(
     alloc: Global,
     chord: ChordBody,
@@ -152,7 +156,7 @@ pub fn into_body(
     }
 }
 
-/// A body that is shared, or a copy of it where others share it.
+/// Returns a shared body, or a clone of it if others share it.
 fn own_body(alloc: Global, body: Arc<FrozenLine>) -> Result<FrozenLine, AllocError>
     ensures { IfOk result (λ line. p_line_view line ≡ p_line_view body.value) }
 {
@@ -181,7 +185,7 @@ fn start_body(
     todo_of(Vec::new(alloc), messages, None)
 }
 
-/// The body, as contracts see what is carried.
+/// Borrows the body of a chord.
 fn body_of(chord: &ChordBody) -> &FrozenLine
     ensures { p_line_view result.now ≡ chord.now.body }
 {
@@ -201,7 +205,7 @@ fn raise_body(alloc: Global, body: &FrozenLine, fault: &Fault) -> Result<Todo, A
     todo_of(stores, messages, part)
 }
 
-/// The part that the end of a line returns.
+/// Returns the part that the end of a line returns.
 fn last_part(line: &FrozenLine) -> Result<Option<PartCall>, AllocError>
     requires { is_whole (p_line_view line.now) ≡ true }
     ensures { IfOk result (λ part. option_map part_view part ≡ part_at_end (p_line_view line.now)) }
@@ -212,7 +216,7 @@ fn last_part(line: &FrozenLine) -> Result<Option<PartCall>, AllocError>
     }
 }
 
-/// The part that the task of a place returns.
+/// Returns the part that a task with this place returns.
 fn part_of(place: &Option<Place>, task: TaskNo) -> Result<Option<PartCall>, AllocError>
     requires { place_stands (place_seen place.now) ≡ true }
     ensures { IfOk result
@@ -235,7 +239,7 @@ fn part_of(place: &Option<Place>, task: TaskNo) -> Result<Option<PartCall>, Allo
     }
 }
 
-/// What is to be done, in the order of the tasks' numbers.
+/// Sorts the stores and messages by the numbers of their tasks.
 fn todo_of(
     stores: Vec<(TaskNo, Outcome)>,
     messages: Vec<Message>,

@@ -1,4 +1,4 @@
-//! What a task is run with.
+//! The input of a task.
 
 ghost use Rattle.std.specs.Prelude.{◌≡◌, ◌++◌, OnOk};
 ghost use Rattle.canvas_semantics.specs.Evaluation.{value};
@@ -8,8 +8,7 @@ ghost use Rattle.canvas_effects.specs.steps.Walks.{input_seen};
 use canvas_task::{Arg, ListOf, TaskNo, TextOf};
 use std::alloc::{AllocError, Global};
 
-/// What a task is run with, besides its own arguments. The identifier is that of a task that
-/// failed.
+/// The input of a task, in addition to its own arguments. The identifier is that of a failed task.
 #[derive(Drop)]
 pub(crate) enum Input {
     Nothing,
@@ -19,7 +18,7 @@ pub(crate) enum Input {
 }
 
 impl Input {
-    /// Puts the input in front of a task's own arguments.
+    /// Inserts the input before a task's own arguments.
     pub(crate) fn put_before(&self, alloc: Global, args: &mut Vec<Arg>) -> Result<(), AllocError>
         ensures { OnOk result
             (args.new.items ≡ value (input_flow (input_seen self.now)) ++ args.old.items) }

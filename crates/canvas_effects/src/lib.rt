@@ -1,5 +1,5 @@
-//! What follows a message: what the start of a plan, the end of a task and the end of a header's
-//! members make a worker do.
+//! The effects of the start of a plan, the end of a task, and the completion of a header: the
+//! outcomes to store, the messages to publish, and the part to return.
 #![tactic(auto)]
 
 mod chord_body;

@@ -1,4 +1,4 @@
-//! Lines that are given up, whose end goes to a place: what they hold is moved, not copied.
+//! Consumed lines whose end goes to a place: their contents are moved and not cloned.
 
 ghost use Rattle.std.specs.Prelude.{◌≡◌, IfOk, map};
 ghost use Rattle.canvas_rewrite.specs.FrozenView.{p_steps, p_task_view, p_line_view, p_end_view};
@@ -11,7 +11,7 @@ use canvas_rewrite::{FrozenEnd, FrozenLine, FrozenTask, Place};
 use canvas_task::ListOf;
 use std::alloc::{AllocError, Global};
 
-/// A task with another place.
+/// Returns a task with another place.
 pub(crate) fn into_place(task: FrozenTask, place: Option<Place>) -> FrozenTask
     ensures { p_task_view result ≡ at_place (place_seen place) (p_task_view task) }
 {
@@ -37,7 +37,7 @@ pub(crate) fn into_place(task: FrozenTask, place: Option<Place>) -> FrozenTask
     }
 }
 
-/// Tasks of which the last has this place.
+/// Sets the place of the last of some tasks.
 fn into_placed_tasks(
     tasks: Vec<FrozenTask>,
     place: Option<Place>,
@@ -55,7 +55,7 @@ fn into_placed_tasks(
     }
 }
 
-/// A line whose end goes to the place.
+/// Sets the place of a line's end.
 #[cycle(placed)]
 pub(crate) fn into_placed(
     alloc: Global,
@@ -115,7 +115,7 @@ fn into_placed_end(
     }
 }
 
-/// The same of what follows a task.
+/// Sets the place of the end of a line's rest.
 pub(crate) fn into_placed_rest(
     alloc: Global,
     rest: Option<FrozenLine>,

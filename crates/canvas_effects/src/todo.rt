@@ -1,4 +1,4 @@
-//! What follows the end of a task, or of the members of a header.
+//! The jobs of a worker after the end of a task, or after the completion of a header.
 
 ghost use Rattle.std.specs.Prelude.{◌≡◌, true};
 ghost use Rattle.canvas_effects.specs.Carrying.{carried_ok};
@@ -10,30 +10,32 @@ use canvas_rewrite::Carried;
 use canvas_task::{GroupNo, ListOf, Outcome, TaskNo};
 use std::sync::Arc;
 
-/// The part of a chord that a member's last task returns, with what follows the chord. It is one
-/// that can be read from an envelope.
+/// The part of a chord that a member's last task returns, with the body of the chord. It can be
+/// read from an envelope.
 #[derive(Drop)]
 pub struct PartCall {
     /// The chord.
     pub group: GroupNo,
     /// The member's last task.
     pub task: TaskNo,
-    /// How many members the chord has, and its body.
+    /// The number of members of the chord, and its body.
     pub chord: Carried,
-    /// The text of the body, where it is known. It changes no part.
+    /// The text of the body, if it is known. It doesn't change the part.
     pub text: Option<Arc<CarriedText>>,
     ghost fits: { carried_ok (carried_view chord) ≡ true },
     ghost says: { SaysBody text (carried_view chord) } by { known_prop text (carried_view chord) },
 }
 
-/// What a worker stores, publishes and returns, in this order. Stores and messages are in the order
-/// of their tasks' numbers.
+/// The jobs of a worker: it stores, publishes and returns, in this order. Stores and messages are
+/// in the order of their tasks' numbers.
 #[derive(Drop)]
 pub struct Todo {
-    /// Of tasks that fail without being run. The outcome of a message's own task isn't among them.
+    /// The outcomes of tasks that fail without being run. The outcome of a message's own task isn't
+    /// among them.
     pub stores: ListOf<(TaskNo, Outcome)>,
-    /// Of tasks that start now.
+    /// The messages of tasks that start now.
     pub messages: ListOf<Message>,
-    /// Of the line's end, where nothing on the line is left to run and its place is in a chord.
+    /// The part of the line's end, if nothing on the line is left to run and its place is in a
+    /// chord.
     pub part: Option<PartCall>,
 }

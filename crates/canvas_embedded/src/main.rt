@@ -5,10 +5,10 @@
 ghost use Rattle.std.specs.Prelude.{◌-ℤ◌, Ok};
 
 use anyhow::Result;
-use canvas_engine::{OpenGate, Report, Stop, report_text, run};
-use canvas_rewrite::Plan;
-use canvas_sig::{Canvas, Node};
-use canvas_task::{Add, Kind, OfTwo, TaskOfTwo, Xsum, registry_of};
+use canvas::{
+    Add, Canvas, Kind, Node, OfTwo, OpenGate, Plan, Report, Stop, TaskOfTwo, Xsum, registry_of,
+    report_text, run,
+};
 use std::alloc::{AllocError, AllocGlobal, Global};
 use std::random::RandomSource;
 use std::sync::Wait;

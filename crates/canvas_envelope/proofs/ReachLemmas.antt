@@ -1,4 +1,4 @@
--- The reach past the limit is the same whatever is past it.
+-- Every reach past the limit is capped to the same.
 use Rattle.std.proofs.Common.{◌≡◌, ◌∙◌, ℕ, ◌+◌, max, arith, List, [], ◌∷◌, ◌++◌, map, Option, Some, None, Box, Global, false, refl, sym, ap, subst}
 use Rattle.canvas_values.specs.steps.LineReach.{capped, above}
 use Rattle.canvas_semantics.specs.PlacedLine.{PTask, p_task, PLine, p_stop, p_step, p_group_end, p_chord_end, PLines, no_p_lines, and_p_line}

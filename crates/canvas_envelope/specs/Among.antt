@@ -1,4 +1,4 @@
--- What stands in a list.
+-- Membership in a list.
 use Rattle.std.specs.Prelude.{List, [], ◌∷◌, ◌⊎◌, ◌≡◌}
 
 -- x is one of the elements

@@ -1,6 +1,6 @@
--- What the JSON texts of an envelope say, whether they are refused or not (Celery task message
--- protocol, version 2). Where a member is missing or of another kind, it says 0, nothing or an
--- empty list; `EnvelopeFaults` has the cases in which that counts.
+-- The contents of the JSON texts of an envelope, refused or not (Celery task message protocol,
+-- version 2). For a member that is missing or of a wrong kind it is 0, nothing or an empty list;
+-- `EnvelopeFaults` defines when that is a fault.
 use Rattle.std.specs.Prelude.{ℕ, zero, suc, ℤ, pos, false, if◌then◌else◌, List, [], ◌∷◌, map, reverse, Option, Some, unwrap_or, codes}
 use Rattle.serde_json.specs.Data.{Data, null, array, item, no_items}
 use Rattle.canvas_values.specs.CanvasText.{json_of}
@@ -27,27 +27,27 @@ abbrev pub natural : ℤ → ℕ
 natural (pos n) = n
 natural z = 0
 
--- how many members the header of a carried body has
+-- the number of members that a carried body names for its header
 abbrev pub size_in : (body : Data) → ℕ
 size_in d = natural (whole_number (field (codes "chord_size") d))
 
 -- ---- frozen signatures: those of a canvas, with identifiers and places in their options
 
--- the place that a group's identifier and a chord's body give; f says what line the body is
+-- the place with a group's identifier and a chord's body; f gives the line of the body
 abbrev pub place_from : (Data → PLine) → (group body : Data) → PPlace
 place_from f group body =
     if is_null group then p_nowhere
     else (if is_null body then p_group (group_number group) else p_chord (group_number group)
     (size_in body) (f body))
 
--- a task, by what its links and error callbacks are and by what line a carried body is
+-- a task, from the functions for its links and error callbacks and for the line of a carried body
 abbrev pub task_from : (Data → PTask) → (Data → PLine) → Data → PTask
 task_from t f d =
     p_task (task_number (option (codes "task_id") d)) (spelled_call d)
     (p_tasks_of (map t (as_list (link d)))) (p_tasks_of (map t (as_list (link_error d))))
     (place_from f (option (codes "group_id") d) (option (codes "chord") d))
 
--- the last element of a line, by what it is as a task, and by what lines stand in it
+-- the last element of a line, from its own task and the function for the lines in it
 abbrev pub element_from : PTask → (Data → PLine) → Option Primitive → Data → PLine
 element_from t f (Some kind.Group) d =
     p_group_end (group_number (option (codes "group_id") d)) (p_lines_of (map f (listed (tasks d))))
@@ -57,7 +57,7 @@ element_from t f (Some kind.Chord) d =
     (f (body d))
 element_from t f p d = p_step t p_stop
 
--- the line of some elements, of which only the last may be more than a task
+-- the line of some elements; only the last may be something other than a task
 abbrev pub line_from : (Data → PTask) → (Data → PLine) → List Data → PLine
 line_from s e [] = p_stop
 line_from s e (d ∷ []) = e d
@@ -83,7 +83,7 @@ abbrev mutual
       else element_from (task_from (task_within n) (line_within n) d) (line_within n)
       (primitive_of (subtype d)) d
 
--- ---- to any depth that JSON reads at
+-- ---- to any depth to which JSON is read
 
 unfoldable pub task_in : Data → PTask
 task_in d = task_within levels d
@@ -94,7 +94,7 @@ last_in d = last_within levels d
 unfoldable pub line_in : Data → PLine
 line_in d = line_within levels d
 
--- ---- the body: arguments, keyword arguments, and what goes with the call
+-- ---- the body: arguments, keyword arguments, and the embed
 
 abbrev pub args_in : (body : Data) → Data
 args_in (array (item a (item k (item e no_items)))) = a
@@ -110,8 +110,8 @@ embed_in d = null
 
 -- ---- messages
 
--- the headers' task, called with the body's arguments; its input is among them, so it is not marked
--- immutable
+-- The task of the headers, called with the body's arguments. Its input is among these, so it is not
+-- marked immutable.
 abbrev pub own_in : (headers body : Data) → PTask
 own_in h b =
     p_task (task_number (field (codes "id") h))
@@ -125,7 +125,7 @@ own_in h b =
     (p_tasks_of (map task_in (listed (field (codes "errbacks") (embed_in b)))))
     (place_from line_in (field (codes "group") h) (field (codes "chord") (embed_in b)))
 
--- what follows stands in `chain`, the last element first
+-- the rest of the line is in `chain`, the last element first
 abbrev pub content_in : (headers body : Data) → Content
 content_in h b =
     record {
@@ -134,7 +134,7 @@ content_in h b =
       rest = line_from task_in last_in (reverse (listed (field (codes "chain") (embed_in b))));
     }
 
--- the JSON value of a text, where it is one
+-- the JSON value of a text, null if there is none
 abbrev pub json_in : Text → Data
 json_in text = unwrap_or (json_of text) null
 

@@ -17,19 +17,19 @@ use Rattle.canvas_envelope.specs.FrozenGrammar.{task_of, group_of, but_a_place, 
 use Rattle.canvas_envelope.specs.declared.fault.MessageFault.{MessageFault}
 use Rattle.canvas_envelope.specs.declared.fault.MessageFault.TheVariants.{NotJson, NotVersion2, BadId, BadContentType, BadBody, BadArgs, BadEmbed}
 
--- ---- frozen signatures: one refusal for whatever is wrong with one
+-- ---- frozen signatures: any fault of one gives the same refusal
 
 abbrev pub is_size : Option ℤ → Bool
 is_size (Some (pos n)) = size_ok n
 is_size z = false
 
--- a size is a whole number that a header may have for its members
+-- a size is a whole number of members that a header may have
 abbrev pub bad_size : Data → Bool
 bad_size (number n) = not (is_size (as_i64 n))
 bad_size d = true
 
--- Where no group is named there is no place, so no body; a body needs its size. f says whether the
--- line in it is refused.
+-- Without a group there is no place, so no body; a body needs its size. f says whether the body's
+-- line is refused.
 abbrev pub bad_place : (Data → Bool) → (group body : Data) → Bool
 bad_place f group body =
     if is_null group then not (is_null body)
@@ -40,8 +40,8 @@ abbrev pub is_task : Option Primitive → Bool
 is_task (Some kind.Task) = true
 is_task p = false
 
--- no task; or a task with a fault of its own, as in a canvas, but that it may have a place; or
--- without its identifier, or with something refused in it
+-- a signature that is no task; or has a fault of its own, as in a canvas, except that it may have a
+-- place; or has no identifier, or something refused in it
 abbrev pub bad_task_by : (task line : Data → Bool) → Data → Bool
 bad_task_by t f d =
     not (is_task (primitive_of (subtype d))) || is_some (but_a_place (own_fault false d))
@@ -49,8 +49,8 @@ bad_task_by t f d =
     || list_any t (as_list (link d)) || list_any t (as_list (link_error d))
     || bad_place f (option (codes "group_id") d) (option (codes "chord") d)
 
--- a group or chord: a fault of its own, no identifier, or something refused in it; a chord's header
--- is a list
+-- a group or chord with a fault of its own, without an identifier, or with something refused in it;
+-- a chord's header is a list
 abbrev pub bad_group_by : (line : Data → Bool) → Data → Bool
 bad_group_by f d =
     is_some (own_fault false d) || is_none (group_of (option (codes "group_id") d))
@@ -114,7 +114,7 @@ abbrev pub same_task : Option ℕ → Option ℕ → Bool
 same_task (Some j) (Some k) = j == k
 same_task j k = false
 
--- a correlation's identifier, where there is one, is that of another task or of none
+-- a correlation's identifier, if there is one, is that of another task or of none
 abbrev pub other_task : (task : Option ℕ) → (correlation : Option Data) → Bool
 other_task k None = false
 other_task k (Some d) = not (same_task (task_of d) k)
@@ -145,8 +145,8 @@ bad_args b =
     || list_any bad_argument (listed (args_in b))
     || list_any bad_argument (contents (kwargs_in b))
 
--- what goes with the call, in JSON: a null or an object of links, error callbacks, the place of the
--- line, and what follows
+-- the embed in JSON: null, or an object with links, error callbacks, the place of the line, and the
+-- rest of the line
 abbrev pub bad_members : (group embed : Data) → Bool
 bad_members group e =
     not (is_object_or_null e) || not (is_list_or_null (field (codes "callbacks") e))
@@ -157,7 +157,7 @@ bad_members group e =
     || bad_place bad_line group (field (codes "chord") e)
     || bad_elements bad_task bad_last (reverse (listed (field (codes "chain") e)))
 
--- That, or what is said has places, sizes or a reach that no message has.
+-- A bad embed, or contents with places, sizes or a reach that no message has.
 abbrev pub bad_embed : (headers body : Data) → Bool
 bad_embed h b = bad_members (field (codes "group") h) (embed_in b) || not (fits (content_in h b))
 
@@ -180,6 +180,6 @@ envelope_fault p h b =
 
 -- ---- messages
 
--- Nothing refuses the texts, and they say this.
+-- Nothing refuses the texts, and these are their contents.
 abbrev pub Says : (properties headers body : Text) → Content → Type 0
 Says p h b c = (envelope_fault p h b ≡ None) × (content_said h b ≡ c)

@@ -1,5 +1,6 @@
--- What a message can hold: what reading its three texts can give (Celery's task message protocol,
--- version 2).
+-- The contents that a message can have: those that reading three texts can give (Celery's task
+-- message protocol, version 2). They are rules about the line that begins with the message's own
+-- task, so the rules for lines cover also its own place and the rest of its line.
 use Rattle.std.specs.Prelude.{ℕ, ◌+◌, ◌^◌, max, Bool, true, false, not, ◌&&◌, List, [], ◌∷◌, Option, Some, None, nat_lt, nat_le}
 use Rattle.std.specs.Ordering.{nat_cmp}
 use Rattle.std.specs.declared.cmp.Ordering.{Ordering}
@@ -14,7 +15,7 @@ use Rattle.canvas_semantics.specs.Line.{in_group}
 use Rattle.canvas_semantics.specs.PlacedLine.{PTask, p_task, PTasks, no_p_tasks, and_p_task, PPlace, p_nowhere, p_group, p_chord, PLine, p_stop, p_step, p_group_end, p_chord_end, PLines, no_p_lines, and_p_line, strip}
 use Rattle.canvas_envelope.specs.Content.{Content, line, call_of}
 
--- how many members a header may have: each is a task at least
+-- the greatest number of members of a header: each is at least one task
 abbrev pub most_members : ℕ
 most_members = most_tasks
 
@@ -29,7 +30,7 @@ parent_ok (Some k) = is_task_number k
 abbrev pub size_ok : ℕ → Bool
 size_ok n = nat_lt 0 n && nat_le n most_members
 
--- keyword arguments stand in the order of their names, each name once
+-- the names of keyword arguments ascend, each once
 abbrev pub is_less : Ordering → Bool
 is_less Less = true
 is_less o = false
@@ -49,8 +50,8 @@ abbrev pub how_many : PLines → ℕ
 how_many no_p_lines = 0
 how_many (and_p_line m ms) = 1 + how_many ms
 
--- Only the last task of a line may have a place: where the line ends in a chord, the last task of
--- its body. The lines of members have none yet: `last` says whether the line's end may have one.
+-- Only the last task of a line may have a place: if the line ends in a chord, the last task of its
+-- body. The lines of members have none yet: `last` says whether the line's end may have one.
 abbrev mutual
   pub task_ok : (last : Bool) → PTask → Bool
   task_ok last (p_task k call links errbacks place) =
@@ -81,7 +82,7 @@ abbrev mutual
   members_ok no_p_lines = true
   members_ok (and_p_line m ms) = line_ok false m && not (in_group (strip m)) && members_ok ms
 
--- ---- how deeply signatures stand in each other: c is the reach of what the last task of the line
+-- ---- the depth to which signatures are nested: c is the reach of what the last task of the line
 -- carries
 
 abbrev mutual
@@ -105,7 +106,7 @@ abbrev mutual
   line_reach c (p_group_end g ms) = 1 + members_reach 0 ms
   line_reach c (p_chord_end g ms b) = 1 + max (line_reach c b) (members_reach (line_reach c b) ms)
 
-  -- the greatest of a line's elements
+  -- the greatest reach of a line's elements
   pub greatest_reach : ℕ → PLine → ℕ
   greatest_reach c p_stop = 0
   greatest_reach c (p_step t p_stop) = task_reach c t

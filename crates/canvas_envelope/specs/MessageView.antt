@@ -1,4 +1,4 @@
--- What the fields of a message say (Celery's task message protocol, version 2).
+-- The contents of the fields of a message (Celery's task message protocol, version 2).
 use Rattle.std.specs.Prelude.{ℕ, false, List, map, Option, Some, None}
 use Rattle.canvas_task.specs.declared.arg.Arg.{Arg}
 use Rattle.canvas_rewrite.specs.declared.frozen.FrozenTask.{FrozenTask}

@@ -1,4 +1,4 @@
--- An envelope whose body has a piece that is shared.
+-- An envelope whose body has a shared piece.
 use Rattle.std.specs.Prelude.{ℕ, ◌-◌, List, [], ◌++◌, take, drop, Option, Some, None, string_bytes}
 use Rattle.canvas_envelope.specs.SharedTexts.{carried_bytes, head_text}
 use Rattle.canvas_envelope.specs.declared.envelope.Envelope.{Envelope}
@@ -9,7 +9,7 @@ use Rattle.canvas_envelope.specs.declared.pieces.Pieces.{Pieces}
 use Rattle.canvas_envelope.specs.declared.pieces.Sheets.{Sheets}
 use Rattle.canvas_envelope.specs.declared.pieces.Sheets.TheVariants as sheets
 
--- the head, and so much of what stands behind it
+-- the head, and a prefix of the text after it
 abbrev pub line_piece_text : LinePiece → List ℕ
 line_piece_text p = head_text p.text.value.head ++ take p.end (string_bytes p.text.value.own)
 

@@ -13,7 +13,7 @@ code_of BadArgs = 6
 code_of BadEmbed = 7
 code_of Memory = 8
 
--- as a refusal is printed
+-- the printed name
 abbrev pub printed_name : MessageFault → List ℕ
 printed_name NotJson = codes "NotJson"
 printed_name NotVersion2 = codes "NotVersion2"

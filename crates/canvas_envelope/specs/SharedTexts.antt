@@ -1,10 +1,10 @@
--- What the texts say that messages share (Celery's task message protocol, version 2: `chain` and
--- `chord` in the embed of a body). They stand beside the values that they are the texts of, so that
--- each is written once.
---     AreEnds       where the text of what follows on a line ends, and that of what is left of it
---                   as one task after the other is taken
---     SaysCarried   the text of the body that a place carries, and, where a text stands in it, that
---                   this one is of what the end of the body carries
+-- The texts that messages share (Celery's task message protocol, version 2: `chain` and `chord` in
+-- the embed of a body). They are kept with the values that they encode, so that each is written
+-- once.
+--    AreEnds       the ends of the text of a line's rest, and of the text of what is left of it
+--                  each time that a task is taken
+--    SaysCarried   the text of the body that a place carries; a text nested in it is that of what
+--                  the end of the body carries
 use Rattle.std.specs.Prelude.{◌≡◌, ◌≤◌, ℕ, false, List, [], ◌∷◌, ◌++◌, length, map, take, reverse, Option, Some, None, IfSome, string_bytes}
 use Rattle.std.specs.Str.{IsUtf8}
 use Rattle.serde_json.specs.Data.{Items, no_items}
@@ -23,11 +23,11 @@ use Rattle.canvas_envelope.specs.Unplaced.{AreUnplaced}
 abbrev pub IsListed : List ℕ → Items → Type 0
 IsListed text ds = text ++ 93 ∷ [] ≡ items_text false ds
 
--- what follows on a line, the last element first
+-- the rest of a line, the last element first
 abbrev pub backwards : PLine → Items
 backwards l = onto_reversed (elements_wire l) no_items
 
--- what is left of a line when its next task is taken
+-- the rest of a line when its next task is taken
 abbrev pub after_next : PLine → PLine
 after_next p_stop = p_stop
 after_next (p_step t l) = l
@@ -35,7 +35,7 @@ after_next (p_group_end g ms) = p_stop
 after_next (p_chord_end g ms b) = p_stop
 
 -- With the head, the first e bytes of the text are the text of the line, and those up to the next
--- of the ends that of what is left.
+-- of the ends are the text of the rest.
 abbrev pub AreEnds : (head text ends : List ℕ) → PLine → Type 0
 AreEnds head text [] l = Unit {0}
 AreEnds head text (e ∷ es) l =
@@ -44,7 +44,7 @@ AreEnds head text (e ∷ es) l =
 
 -- ---- the text of a carried body
 
--- what stands before and behind another text
+-- the text before and the text after another text
 abbrev pub ring_view : Ring → List ℕ × List ℕ
 ring_view r = (string_bytes r.before.value, string_bytes r.behind.value)
 
@@ -68,7 +68,7 @@ SaysText text p_nowhere = Unit {0}
 SaysText text (p_group g) = Unit {0}
 SaysText text (p_chord g size body) = text ≡ compact_text (line_wire (Some size) body)
 
--- where the end of the body goes that a place carries
+-- the place of the end of the body that a place carries
 abbrev pub inner_place : PPlace → PPlace
 inner_place p_nowhere = p_nowhere
 inner_place (p_group g) = p_nowhere
@@ -82,7 +82,7 @@ SaysRinged (r ∷ rs) core p =
 abbrev pub SaysCarried : CarriedText → PPlace → Type 0
 SaysCarried t p = SaysRinged (rings_of t) (core_of t) p
 
--- ---- what a message holds
+-- ---- the contents of a message
 
 abbrev pub head_text : Option Head → List ℕ
 head_text None = []
@@ -97,14 +97,14 @@ elements_own t = string_bytes t.text.value.own
 abbrev pub IsLineText : LineText → PLine → Type 0
 IsLineText t l = AreEnds (elements_head t) (elements_own t) (reverse t.ends.items) l
 
--- where the line goes that begins with a task at a place
+-- the place of the end of a line that begins with a task at a place
 abbrev pub place_behind : PPlace → PLine → PPlace
 place_behind own p_stop = own
 place_behind own (p_step t l) = end_place (p_step t l)
 place_behind own (p_group_end g ms) = end_place (p_group_end g ms)
 place_behind own (p_chord_end g ms b) = end_place (p_chord_end g ms b)
 
--- of a task at a place, and of what follows it
+-- the known texts of a task at a place, and of the rest of its line
 pub record AreTexts (texts : Texts) (place : PPlace) (rest : PLine) : Type 0 where
   pub line : IfSome texts.line (λ t. IsLineText t rest)
   pub carried : IfSome texts.carried

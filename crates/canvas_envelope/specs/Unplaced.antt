@@ -1,11 +1,11 @@
--- The tasks that come first on a line, as far as none of them has a place (Celery's task message
--- protocol, version 2: `group_id` and `chord` stand in the options of the last task alone). What
--- names no place names tasks only.
---     is_unplaced    whether neither a task nor one in it has a place
---     greatest       the greatest number in a task: its own, and those of its links and error
---                    callbacks
---     EachFirst      what holds of each of the first tasks of a line, or of all where there are
---                    fewer
+-- The first tasks of a line, as far as none has a place (Celery's task message protocol, version 2:
+-- only the last task has `group_id` and `chord` in its options). A task without a place refers only
+-- to tasks.
+--    is_unplaced    whether neither a task nor one nested in it has a place
+--    greatest       the greatest number in a task: its own, and those of its links and error
+--                   callbacks
+--    EachFirst      each of the first tasks of a line has a property, or all of them if there
+--                   are fewer
 use Rattle.std.specs.Prelude.{◌≡◌, ◌≤◌, ℕ, zero, suc, max, Bool, true, false, ◌&&◌}
 use Rattle.canvas_semantics.specs.PlacedLine.{PTask, p_task, PTasks, no_p_tasks, and_p_task, PPlace, p_nowhere, PLine, p_step}
 use Rattle.canvas_envelope.specs.declared.unplaced.Unplaced.{Unplaced}
@@ -37,7 +37,7 @@ EachFirst P zero l = Unit {0}
 EachFirst P (suc n) (p_step t l) = P t × EachFirst P n l
 EachFirst P (suc n) l = Unit {0}
 
--- a task with no place, in which no number is above the most
+-- a task without a place, in which no number is greater than `most`
 abbrev pub IsUnplaced : (most : ℕ) → PTask → Type 0
 IsUnplaced most t = (is_unplaced t ≡ true) × (greatest t ≤ most)
 

@@ -1,5 +1,5 @@
 -- The three JSON texts of a message, as data: Celery's task message protocol, version 2. Members
--- stand in the byte order of their names.
+-- are in the byte order of their names.
 use Rattle.std.specs.Prelude.{ℕ, Bool, false, List, Option, Some, None, codes, pos}
 use Rattle.serde_json.specs.Data.{Data, null, boolean, string, array, object, Items, no_items, item, Members, no_members, member}
 use Rattle.canvas_task.specs.Identifiers.{task_text, group_text}
@@ -28,17 +28,17 @@ place_id (p_chord g size body) = group_id g
 
 -- ---- frozen signatures: those of a canvas, with identifiers in their options
 
--- a member in front of others, left out where it is null
+-- a member before others, omitted if it is null
 abbrev pub member_unless_null : List ℕ → Data → Members → Members
 member_unless_null k null more = more
 member_unless_null k d more = member k d more
 
--- how many members a header has, which a carried body says
+-- the number of members of a header, which a carried body names
 abbrev pub size_member : Option ℕ → Members → Members
 size_member None more = more
 size_member (Some n) more = member (codes "chord_size") (number_wire (pos n)) more
 
--- a signature, by its six members, and by the size where it is a carried body
+-- a signature with its six members, and with the size if it is a carried body
 abbrev pub frozen_wire : (size : Option ℕ) (args : Items) (immutable : Bool)
     (kwargs options : Members) (kind : Data) (name : List ℕ) → Data
 frozen_wire size args immutable kwargs options kind name =
@@ -119,7 +119,7 @@ abbrev mutual
 
 -- ---- the three texts
 
--- items in front of others, the last of them first
+-- items before others, in reverse order
 abbrev pub onto_reversed : Items → Items → Items
 onto_reversed no_items more = more
 onto_reversed (item d ds) more = onto_reversed ds (item d more)
@@ -128,7 +128,7 @@ abbrev pub list_or_null : Items → Data
 list_or_null no_items = null
 list_or_null (item d ds) = array (item d ds)
 
--- What goes with the call: what follows on the line has its last element first.
+-- The embed. In it the rest of the line has its last element first.
 abbrev pub embed_wire : Content → Data
 embed_wire c =
     object (member (codes "callbacks") (list_or_null (tasks_wire (links_of c.own)))
@@ -141,7 +141,7 @@ body_wire c =
     array (item (array (args_wire (call_of c.own).args))
     (item (object (kwargs_wire (call_of c.own).kwargs)) (item (embed_wire c) no_items)))
 
--- The first task of a run is the root of all.
+-- The first task of a run is the root of all tasks.
 abbrev pub headers_wire : Content → Data
 headers_wire c =
     object (member (codes "group") (place_id (place_of c.own))

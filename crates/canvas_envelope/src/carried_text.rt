@@ -7,20 +7,20 @@ ghost use Rattle.canvas_envelope.specs.SharedTexts.{SaysCarried, carried_bytes, 
 use std::alloc::{AllocError, Global};
 use std::sync::Arc;
 
-/// What stands around a text in another.
+/// The text around another text.
 #[derive(Drop)]
 pub struct Ring {
-    /// What stands before it.
+    /// The part before it.
     pub before: Arc<String>,
-    /// What stands behind it.
+    /// The part after it.
     pub behind: Arc<String>,
 }
 
-/// The text of a carried body. Where the end of the body carries a body too, the text of that one
-/// stands in it, and is shared: a ring stands around it.
+/// The text of a carried body. If the end of the body carries a body too, the text of that one is
+/// nested in it and is shared. The nesting is a list of rings around a core, and not a tree.
 #[derive(Drop)]
 pub struct CarriedText {
-    /// What stands around the core, the outermost ring first.
+    /// The rings around the core, the outermost first.
     pub rings: Vec<Ring>,
     /// The text of the innermost body.
     pub core: Arc<String>,
@@ -46,7 +46,7 @@ impl Ring {
     }
 }
 
-/// The same rings once more, in the ones that they stand in.
+/// Appends handles to the same rings.
 fn share_rings(outer: Vec<Ring>, rings: &[Ring]) -> Result<Vec<Ring>, AllocError>
     ensures { IfOk result
         (λ all. map ring_view all.items ≡ map ring_view outer.items ++ map ring_view rings.now) }
@@ -58,7 +58,7 @@ fn share_rings(outer: Vec<Ring>, rings: &[Ring]) -> Result<Vec<Ring>, AllocError
     Ok(all)
 }
 
-/// The core with the rings around it.
+/// Appends the core with the rings around it.
 fn put_ringed(out: &mut Vec<u8>, rings: &[Ring], core: &str) -> Result<(), AllocError>
     ensures { OnOk result
         (out.new.items ≡ out.old.items ++ ringed (map ring_view rings.now) core.now) }
@@ -73,7 +73,7 @@ fn put_ringed(out: &mut Vec<u8>, rings: &[Ring], core: &str) -> Result<(), Alloc
     }
 }
 
-/// How many bytes rings have.
+/// Returns the length of rings, in bytes.
 fn rings_room(rings: &[Ring]) -> usize {
     let mut room: usize = 0;
     for ring in rings {
@@ -85,7 +85,7 @@ fn rings_room(rings: &[Ring]) -> usize {
 }
 
 impl CarriedText {
-    /// A text in which no other stands.
+    /// Makes a text that contains no other.
     pub fn alone(alloc: Global, text: String) -> Result<CarriedText, AllocError>
         ensures rings { IfOk result (λ t. rings_of t ≡ []) }
         ensures core { IfOk result (λ t. core_of t ≡ string_bytes text) }
@@ -96,7 +96,7 @@ impl CarriedText {
         })
     }
 
-    /// The core with these rings around it, and within them shared ones.
+    /// Makes a text of the core, with the outer rings around shared ones.
     fn within(
         outer: Vec<Ring>,
         rings: &[Ring],
@@ -111,7 +111,7 @@ impl CarriedText {
         Ok(CarriedText { rings, core })
     }
 
-    /// A text in which another stands, which the two share.
+    /// Makes a text around another, which the two share.
     pub fn around(
         alloc: Global,
         before: String,
@@ -128,8 +128,8 @@ impl CarriedText {
         CarriedText::within(rings, &inner.rings, &inner.core)
     }
 
-    /// The text that stands in it, where one does: that of the body that the end of the body
-    /// carries.
+    /// Returns the text that is nested in it, if there is one: that of the body that the end of the
+    /// body carries.
     pub fn inner(&self, alloc: Global) -> Result<Option<Arc<CarriedText>>, AllocError>
         ensures { IfOk result (λ o. IfSome o (λ t. (p : PPlace)
             → SaysCarried self.now p → SaysCarried t.value (inner_place p))) }
@@ -144,14 +144,14 @@ impl CarriedText {
         }
     }
 
-    /// Writes the text behind what stands there.
+    /// Appends the text.
     pub(crate) fn put(&self, out: &mut Vec<u8>) -> Result<(), AllocError>
         ensures { OnOk result (out.new.items ≡ out.old.items ++ carried_bytes self.now) }
     {
         put_ringed(out, &self.rings, &self.core)
     }
 
-    /// How many bytes it has.
+    /// Returns the length of the text, in bytes.
     pub(crate) fn room(&self) -> usize {
         rings_room(&self.rings).saturating_add(self.core.len())
     }

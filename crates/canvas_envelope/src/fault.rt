@@ -1,4 +1,4 @@
-//! Why an envelope isn't a message.
+//! The reasons why an envelope isn't a message.
 
 ghost use Rattle.std.specs.Prelude.{◌≡◌};
 ghost use Rattle.canvas_envelope.specs.declared.fault.MessageFault.TheVariants.{Memory};
@@ -8,32 +8,32 @@ use std::alloc::{AllocError, AllocFailed};
 use std::error::Error;
 use std::fmt;
 
-/// Why three texts aren't a message; where there are several reasons, the first in this order.
-/// Each is printed as its name here, and reported by the number in front.
+/// The reason why three texts aren't a message. If several hold, it is the first in this order.
+/// Each is printed by its name, and reported by its number, given first below.
 #[derive(Clone, Copy, Debug, Drop, PartialEq, Eq)]
 pub enum MessageFault {
-    /// 1: one of the texts is no JSON text (RFC 8259) in UTF-8.
+    /// 1: one of the texts is not a JSON text (RFC 8259) in UTF-8.
     NotJson,
-    /// 2: the headers are no object, or `task` is no name.
+    /// 2: the headers are not an object, or `task` is not a name.
     NotVersion2,
-    /// 3: `id` is no task's identifier, `group` neither null nor a group's, the properties no
-    /// object, or a `correlation_id` doesn't name the same task.
+    /// 3: `id` is not a task's identifier, `group` is neither null nor a group's, the properties
+    /// are not an object, or a `correlation_id` doesn't name the same task.
     BadId,
-    /// 4: another `content_type` than `application/json`, or another `content_encoding` than
+    /// 4: a `content_type` other than `application/json`, or a `content_encoding` other than
     /// `utf-8`.
     BadContentType,
-    /// 5: the body is no list of three.
+    /// 5: the body is not a list of three.
     BadBody,
-    /// 6: arguments of another form or kind, or a number out of range.
+    /// 6: arguments of a wrong form or kind, or a number out of range.
     BadArgs,
-    /// 7: any fault of the callbacks, the chain and the chord that go with the call.
+    /// 7: any fault of the callbacks, the chain and the chord in the embed.
     BadEmbed,
-    /// 8: a growth was refused. It may stand in place of any other, and of success.
+    /// 8: an allocation failed. It may replace any other refusal, and a success.
     Memory,
 }
 
 impl MessageFault {
-    /// The number that a refusal is reported by.
+    /// Returns the number by which a refusal is reported.
     pub fn code(&self) -> u8
         ensures { result ≡ code_of self.now }
     {

@@ -19,11 +19,11 @@ use canvas_task::TaskNo;
 use forms::{is_call, is_task, line_fits, place_fits, tasks_fit};
 use reach::{above, greatest, place_reach, tasks_reach};
 
-/// The most members that a header may have.
+/// The greatest number of members of a header.
 pub const MOST_MEMBERS: u32 = MOST_TASKS;
 
 impl Message {
-    /// The message with these fields, where a message can have them.
+    /// Makes the message with these fields, if a message can have them.
     pub fn of(draft: Draft) -> Option<Message>
         ensures { MatchOption result (fits (draft_view draft) ≡ false)
             (λ m. (fits (draft_view draft) ≡ true) × (m ≡ draft_view draft)) }
@@ -57,7 +57,7 @@ impl Message {
     }
 }
 
-/// What follows a message's own task, where something does.
+/// Returns the line that follows a message's own task, if there is one.
 pub fn following(rest: &Option<FrozenLine>) -> Option<&FrozenLine>
     ensures { MatchOption result (rest_seen rest.now ≡ p_stop)
         (λ l. (rest_seen rest.now ≡ p_line_view l.now) × (is_stop (p_line_view l.now) ≡ false)) }

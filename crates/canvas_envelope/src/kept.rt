@@ -12,7 +12,7 @@ use std::collections::BTreeMap;
 use std::marker::Model;
 use std::mem;
 
-/// A message whose keyword arguments stand in a list, in the order of their names.
+/// A message with its keyword arguments in a list, in the order of their names.
 #[derive(Drop)]
 pub(crate) struct Waiting {
     task: TaskNo,
@@ -49,7 +49,7 @@ impl Model for Waiting {
         × AreTexts m.texts (place_seen m.place) (rest_seen m.rest) };
 }
 
-/// The entries of a map, which take no more room than they need.
+/// Returns the entries of a map, in a vector without spare room.
 fn entries_of(alloc: Global, map: BTreeMap<String, Arg>) -> Result<Vec<(String, Arg)>, AllocError>
     ensures { IfOk result (λ entries. entries.items ≡ map.entries) }
 {
@@ -60,7 +60,7 @@ fn entries_of(alloc: Global, map: BTreeMap<String, Arg>) -> Result<Vec<(String, 
     Ok(entries)
 }
 
-/// The map of entries in the order of their names.
+/// Makes a map of entries that are in the order of their names.
 fn map_of(alloc: Global, entries: Vec<(String, Arg)>) -> Result<BTreeMap<String, Arg>, AllocError>
     requires { Ascends (named entries.items) }
     ensures { IfOk result (λ map. named map.entries ≡ named entries.items) }
@@ -134,13 +134,14 @@ impl Waiting {
     }
 }
 
-/// The message that a letter keeps, if it keeps one.
+/// The message that a letter keeps, if any.
 #[derive(Drop)]
 pub(crate) enum Kept {
     Nothing,
     Whole(Box<Message>),
-    /// One with keyword arguments: a map takes room for fifteen with its first, and as many letters
-    /// may wait as a canvas has tasks.
+    /// A message with keyword arguments. A map with one entry takes room for fifteen, and all
+    /// messages of a group wait at once, so they are kept in a list; the map is made when the
+    /// message is taken. If that allocation fails, the envelope is read instead.
     Waiting(Box<Waiting>),
 }
 
@@ -158,7 +159,7 @@ impl Kept {
         Ok(Kept::Whole(Box::new(alloc, message)?))
     }
 
-    /// The message, where there is memory to keep it.
+    /// Keeps the message, if memory suffices.
     pub(crate) fn of(alloc: Global, message: Message) -> Kept
         ensures { IfSome (kept result) (λ m. m ≡ message) }
     {
@@ -173,7 +174,7 @@ impl Kept {
         }
     }
 
-    /// The message, where one is kept and there is memory to give it: it is kept no more.
+    /// Takes the message out, if one is kept and memory suffices. Afterwards none is kept.
     pub(crate) fn take(&mut self, alloc: Global) -> Option<Box<Message>>
         ensures message { IfSome result (λ m. kept self.old ≡ Some m.value) }
         ensures left { kept self.new ≡ None }

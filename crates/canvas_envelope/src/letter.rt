@@ -1,4 +1,7 @@
 //! Letters: envelopes in a queue of one process.
+//!
+//! The texts are written although the message is kept: the history of the queue and the report are
+//! about them, and they are what another process would get.
 
 ghost use Rattle.std.specs.Prelude.{◌≡◌, IfOk, IfSome};
 ghost use Rattle.canvas_envelope.specs.EnvelopeFaults.{Says};
@@ -12,7 +15,7 @@ use std::alloc::Global;
 use std::fmt;
 use std::marker::Model;
 
-/// What a letter holds: an envelope, and perhaps the message that it says.
+/// The contents of a letter: an envelope, and perhaps the message that it encodes.
 #[derive(Drop)]
 struct Held {
     sheets: Sheets,
@@ -35,13 +38,12 @@ impl Model for Held {
         (envelope_seen h.sheets).body m) };
 }
 
-/// An envelope, whose body may share a piece with others, and that may still hold the message that
-/// it was sealed with, so that who opens it need not read what this process wrote. Contracts see
-/// the envelope alone: how it is held changes nothing but the time and the memory that it takes.
-/// Its `Debug` shows nothing of it.
+/// An envelope, whose body may share a piece with others. It may still hold the message that it was
+/// sealed with, so that opening it need not read the texts that this process wrote. Contracts see
+/// only the envelope: how it is held affects only time and memory. `Debug` shows nothing of it.
 #[derive(Drop)]
 pub struct Letter {
-    // on the heap, since a letter is moved from hand to hand
+    // boxed, since letters are moved often
     held: Box<Held>,
 }
 
@@ -54,7 +56,7 @@ impl Model for Letter {
 }
 
 impl Letter {
-    /// An envelope that comes from elsewhere: who opens it reads it.
+    /// Makes a letter of an envelope from elsewhere, which has to be read to be opened.
     pub fn new(alloc: Global, envelope: Envelope) -> Result<Letter, Memory>
         ensures { IfOk result (λ l. l ≡ envelope) }
     {
@@ -67,7 +69,8 @@ impl Letter {
         })
     }
 
-    /// An envelope with the message that it says, where there is memory to keep it.
+    /// Makes a letter of an envelope and the message that it encodes. The message is kept if memory
+    /// suffices.
     pub fn sealed(alloc: Global, pieces: Pieces, message: Message) -> Result<Letter, Memory>
         requires says { Says (joined pieces).properties (joined pieces).headers
             (joined pieces).body message }
@@ -82,7 +85,7 @@ impl Letter {
         })
     }
 
-    /// The envelope of a letter that came from elsewhere.
+    /// Borrows the envelope of a letter that came from elsewhere.
     pub fn whole(&self) -> Option<&Envelope>
         ensures { IfSome result (λ e. e.now ≡ self.now) }
     {
@@ -99,15 +102,15 @@ impl Letter {
         self.held.sheets.properties()
     }
 
-    /// The envelope, written once more.
+    /// Writes the envelope as three texts.
     pub fn envelope(&self, alloc: Global) -> Result<Envelope, Memory>
         ensures { IfOk result (λ e. e ≡ self.now) }
     {
         self.held.sheets.envelope(alloc)
     }
 
-    /// The message that the letter held, if it held one and there is memory to give it. It holds
-    /// none any more.
+    /// Takes out the message that the letter holds, if it holds one and memory suffices. Afterwards
+    /// it holds none.
     pub fn take_message(&mut self, alloc: Global) -> Option<Box<Message>>
         ensures message { IfSome result
             (λ m. Says self.old.properties self.old.headers self.old.body m.value) }
@@ -116,8 +119,8 @@ impl Letter {
         self.held.message.take(alloc)
     }
 
-    /// A letter of an equal envelope, as a broker delivers it a second time. It holds no message,
-    /// and shares what this one shares.
+    /// Clones the letter, as a broker that redelivers it does. The clone holds no message, and
+    /// shares the same piece.
     pub fn copy(&self, alloc: Global) -> Result<Letter, Memory>
         ensures { IfOk result (λ l. l ≡ self.now) }
     {

@@ -1,4 +1,5 @@
-//! Messages, as a queue carries them.
+//! Messages as a queue carries them: their data, and what they can hold. What their texts are is
+//! defined here too (`Wire`), since a message may hold some of them.
 #![tactic(auto)]
 
 mod carried;

@@ -1,42 +1,42 @@
-//! Messages: a task to run, and what follows it.
+//! Messages: a task to run, with its callbacks, the rest of its line and its place.
 
 use crate::Texts;
 use canvas_rewrite::{FrozenLine, FrozenTask, Place};
 use canvas_task::{Arg, ListOf, MapOf, TaskNo, TextOf};
 use std::marker::Model;
 
-/// A call of a task, with all that follows it: its links and error callbacks, the rest of its line,
-/// and the place that the end of this line has in a group or chord. Contracts compare two messages
-/// by what they say; there is no `PartialEq` at run time.
+/// A call of a task, with everything that follows: its links and error callbacks, the rest of its
+/// line, and the place of this line's end in a group or chord. Contracts compare two messages by
+/// their contents; there is no `PartialEq` at run time.
 ///
 /// `parent` is the task whose end published the message. A message holds only what can be read from
-/// an envelope: names and numbers are in order, a place stands on the last task of a line alone,
-/// and signatures stand in each other at most 32 deep.
+/// an envelope: names and numbers are valid, only the last task of a line has a place, and
+/// signatures are nested at most 32 deep. The type guarantees it, so `encode` needs no condition.
 #[derive(Drop)]
 pub struct Message {
-    /// The task that is called: `id` in the headers.
+    /// The called task: `id` in the headers.
     pub task: TaskNo,
-    /// `task` in the headers.
+    /// The name: `task` in the headers.
     pub name: TextOf,
-    /// `parent_id` in the headers. The first messages have none, nor those of a body that a
-    /// completed header starts.
+    /// The parent: `parent_id` in the headers. The first messages have none, nor have those of a
+    /// body that a completed header starts.
     pub parent: Option<TaskNo>,
-    /// `group` in the headers and `chord` in the body. None where something follows on the line,
-    /// whose end has the place then.
+    /// The place: `group` in the headers and `chord` in the body. None if something follows on the
+    /// line, whose end then has the place.
     pub place: Option<Place>,
-    /// Positional arguments, with the input in front already.
+    /// Positional arguments, already with the input in front.
     pub args: ListOf<Arg>,
     /// Keyword arguments.
     pub kwargs: MapOf<Arg>,
-    /// `callbacks` in the body.
+    /// The links: `callbacks` in the body.
     pub links: ListOf<FrozenTask>,
-    /// `errbacks` in the body.
+    /// The error callbacks: `errbacks` in the body.
     pub errbacks: ListOf<FrozenTask>,
-    /// What follows on the line: `chain` in the body, where the last element comes first. A line of
-    /// nothing says the same as None.
+    /// The rest of the line: `chain` in the body, where the last element comes first. An empty line
+    /// means the same as None.
     pub rest: Option<FrozenLine>,
-    /// What is written already of what follows, and of what the place at the end of the line
-    /// carries.
+    /// Texts that are already written: of the rest of the line, and of the body that the place at
+    /// the end of the line carries.
     pub texts: Texts,
 }
 

@@ -1,4 +1,4 @@
-//! The three texts of a message, the body of which may share a piece with others.
+//! The three texts of a message. The body may share a piece with others.
 
 ghost use Rattle.std.specs.Prelude.{◌≡◌, ◌++◌, IfOk, OnOk, take, drop};
 ghost use Rattle.canvas_envelope.specs.Pieces.{body_text, envelope_seen, joined, line_piece_text, piece_text, shared_text};
@@ -9,49 +9,49 @@ use canvas_task::{ListOf, Memory};
 use std::alloc::{AllocError, Global};
 use std::sync::Arc;
 
-/// The text of a line's elements, up to the end of one of them.
+/// A prefix of the text of a line's elements, up to the end of one of them.
 #[derive(Drop)]
 pub struct LinePiece {
     /// The text that the messages of the line share.
     pub text: Arc<ElementsText>,
-    /// How many of the bytes behind its head belong to the piece.
+    /// The number of bytes after its head that belong to the piece.
     pub end: usize,
 }
 
-/// A text that several bodies hold.
+/// A text that several bodies share.
 #[derive(Drop)]
 pub enum Piece {
-    /// Of the body that a place carries.
+    /// A text of the body that a place carries.
     Carried(Arc<CarriedText>),
-    /// Of what follows on a line.
+    /// A text of the rest of a line.
     Line(LinePiece),
 }
 
-/// An envelope whose body is the front, then the shared piece, then the back. What isn't shared
-/// stands in one text as far as it can, which is one piece of memory.
+/// An envelope whose body is the front, then the shared piece, then the back. As much as possible
+/// of the rest is in one text, and so in one allocation.
 #[derive(Drop)]
 pub struct Pieces {
-    /// The front of the body, then the properties, then the headers. Where nothing is shared the
-    /// front is all of the body.
+    /// The front of the body, then the properties, then the headers. If nothing is shared, the
+    /// front is the whole body.
     pub own: ListOf<u8>,
-    /// Where the front ends, in bytes.
+    /// The end of the front, in bytes.
     pub front_end: usize,
-    /// Where the properties end.
+    /// The end of the properties.
     pub properties_end: usize,
-    /// A text that several bodies hold.
+    /// A text that several bodies share.
     pub shared: Option<Piece>,
-    /// The body from there on.
+    /// The rest of the body.
     pub back: ListOf<u8>,
 }
 
-/// The bytes before an index.
+/// Returns the bytes before an index.
 fn up_to(bytes: &[u8], end: usize) -> &[u8]
     ensures { result.now ≡ take end bytes.now }
 {
     &bytes[..end.min(bytes.len())]
 }
 
-/// The bytes from an index on.
+/// Returns the bytes from an index on.
 fn behind(bytes: &[u8], start: usize) -> &[u8]
     ensures { result.now ≡ drop start bytes.now }
 {
@@ -117,7 +117,7 @@ impl Piece {
         }
     }
 
-    /// How many bytes it has.
+    /// Returns its length in bytes.
     fn room(&self) -> usize {
         match self {
             Piece::Carried(text) => text.room(),
@@ -144,7 +144,7 @@ fn copy_piece(piece: &Option<Piece>) -> Result<Option<Piece>, AllocError>
     }
 }
 
-/// How many bytes a piece has.
+/// Returns the length of a piece in bytes.
 fn room(piece: &Option<Piece>) -> usize {
     match piece {
         Some(piece) => piece.room(),
@@ -162,7 +162,7 @@ fn put_piece(body: &mut Vec<u8>, piece: &Option<Piece>) -> Result<(), AllocError
 }
 
 impl Pieces {
-    /// The body, in one text.
+    /// Returns the body as one text.
     fn body(&self, alloc: Global) -> Result<Vec<u8>, AllocError>
         ensures { IfOk result (λ text. text.items ≡ body_text self.now) }
     {
@@ -179,7 +179,7 @@ impl Pieces {
         Ok(body)
     }
 
-    /// The properties.
+    /// Borrows the properties.
     fn properties(&self) -> &[u8]
         ensures { result.now ≡ (joined self.now).properties }
     {
@@ -187,7 +187,7 @@ impl Pieces {
         up_to(behind(self.own.get(), self.front_end), length)
     }
 
-    /// The envelope, written once more.
+    /// Writes the envelope as three texts.
     pub fn join(&self, alloc: Global) -> Result<Envelope, Memory>
         ensures { IfOk result (λ e. e ≡ joined self.now) }
     {
@@ -201,7 +201,7 @@ impl Pieces {
         })
     }
 
-    /// The same envelope once more, which shares the piece.
+    /// Clones the envelope. The clone shares the piece.
     fn copy(&self) -> Result<Pieces, Memory>
         ensures { IfOk result (λ p. joined p ≡ joined self.now) }
     {
@@ -221,7 +221,7 @@ impl Pieces {
 /// An envelope that came from elsewhere, or one in pieces.
 #[derive(Drop)]
 pub(crate) enum Sheets {
-    /// Three texts.
+    /// An envelope from elsewhere: three texts.
     Whole(Envelope),
     /// Texts of which one is shared.
     Pieced(Pieces),

@@ -1,4 +1,4 @@
-//! Texts of what messages carry, which several of them share.
+//! Texts of the contents of messages, which several messages share.
 
 ghost use Rattle.std.specs.Prelude.{◌≡◌, IfOk, None};
 ghost use Rattle.std.specs.Option.{option_map};
@@ -7,51 +7,51 @@ use crate::{CarriedText, Unplaced};
 use std::alloc::AllocError;
 use std::sync::Arc;
 
-/// The front of a text, up to and with another that it shares.
+/// The front of a text, up to and including another text that it shares.
 #[derive(Drop)]
 pub struct Head {
-    /// What stands before the other.
+    /// The part before the other.
     pub before: String,
     /// The other: the text of the body that the place at the end of the line carries.
     pub carried: Arc<CarriedText>,
 }
 
-/// The elements of a line, its last element first, with a comma between two. The last element may
-/// hold the text of a carried body.
+/// The elements of a line, its last element first, separated by commas. The last element may
+/// contain the text of a carried body.
 #[derive(Drop)]
 pub struct ElementsText {
-    /// The text up to and with that of the carried body, where it is shared.
+    /// The text up to and including that of the carried body, if that is shared.
     pub head: Option<Head>,
-    /// What stands behind the head.
+    /// The text after the head.
     pub own: String,
 }
 
-/// The text of all that follows on a line, its last element first, without the brackets of the
-/// list. What is left when the line's next task is taken is the text up to an earlier end, so that
-/// the messages of a line share one text.
+/// The text of the rest of a line, its last element first, without the brackets of the list. When
+/// the next task is taken, the text of what is left is a prefix of this one, so that the messages
+/// of a line share one text.
 #[derive(Drop)]
 pub struct LineText {
     /// The elements.
     pub text: Arc<ElementsText>,
-    /// Where each element of what still follows ends, in bytes behind the head: that of the next
-    /// one stands last.
+    /// The end of each element that still follows, in bytes after the head. That of the next
+    /// element is the last.
     pub ends: Vec<usize>,
 }
 
-/// What is known already of what a message carries. It changes no message, and saves writing it or
-/// going through it once more.
+/// Facts that are already known of a message's contents. They don't change the message: its
+/// invariant says that they agree with it, and they save writing or walking through it again.
 #[derive(Drop)]
 pub struct Texts {
-    /// The text of what follows on its line.
+    /// The text of the rest of its line.
     pub line: Option<LineText>,
     /// The text of the body that the place at the end of its line carries.
     pub carried: Option<Arc<CarriedText>>,
-    /// The tasks that come first of what follows on its line, as far as none has a place.
+    /// The first tasks of the rest of its line that have no place.
     pub unplaced: Unplaced,
 }
 
 impl Texts {
-    /// Nothing is known.
+    /// Makes the value that knows nothing.
     pub fn none() -> Texts
         ensures line { result.line ≡ None }
         ensures carried { result.carried ≡ None }
@@ -65,7 +65,7 @@ impl Texts {
     }
 }
 
-/// The same text once more.
+/// Returns another handle to the same text.
 pub fn share_text(text: &Option<Arc<CarriedText>>) -> Result<Option<Arc<CarriedText>>, AllocError>
     ensures { IfOk result
         (λ same. option_map (λ t. t.value) same ≡ option_map (λ t. t.value) text.now) }

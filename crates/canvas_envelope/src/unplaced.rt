@@ -1,4 +1,9 @@
-//! The tasks that come first on a line, as far as none of them has a place.
+//! The first tasks of a line, as far as none has a place.
+//!
+//! They are counted once for a line, and each task that is taken decreases the count. A worker
+//! whose plan has all tasks up to the greatest number need not look these up one by one, so the
+//! look-ups of a chain are linear in its length and not quadratic. A message that was read from its
+//! texts has the count 0, and everything in it is looked up.
 
 ghost use Rattle.std.specs.Prelude.{◌≡◌, ◌-◌, map, take};
 ghost use Rattle.std.specs.List.{prefix_len};
@@ -9,18 +14,18 @@ ghost use Rattle.canvas_envelope.specs.Unplaced.{AreUnplaced, all_unplaced, grea
 
 use canvas_rewrite::{FrozenTask, Place};
 
-/// How many tasks come first on a line of which none has a place, nor any task in them, and which
-/// number in them is the greatest. Whoever knows each task up to that number knows them all.
+/// The number of first tasks of a line without a place, also in nested tasks, and the greatest task
+/// number in them. A plan that has each task up to that number has them all.
 #[derive(Clone, Copy)]
 pub struct Unplaced {
-    /// How many they are at least.
+    /// A lower bound of their number.
     pub count: usize,
-    /// None of their numbers is above this one, nor one of their links and error callbacks.
+    /// An upper bound of their numbers, and of those of their links and error callbacks.
     pub greatest: u32,
 }
 
 impl Unplaced {
-    /// No task.
+    /// Makes the value for no tasks.
     pub fn none() -> Unplaced
         ensures { result ≡ record { count = 0; greatest = 0 } }
     {
@@ -30,7 +35,7 @@ impl Unplaced {
         }
     }
 
-    /// Those that some tasks begin with.
+    /// Counts the first of some tasks that have no place.
     pub fn of(tasks: &[FrozenTask]) -> Unplaced
         ensures count { result.count ≡ prefix_len is_unplaced (map p_task_view tasks.now) }
         ensures greatest { result.greatest
@@ -45,7 +50,7 @@ impl Unplaced {
         }
     }
 
-    /// What is left of them when the first is taken.
+    /// Returns the rest after the first task is taken.
     pub fn after_first(self) -> Unplaced
         ensures { result ≡ record { count = self.count - 1; greatest = self.greatest } }
     {
@@ -100,7 +105,7 @@ fn greatest_in(tasks: &[FrozenTask]) -> u32
     most
 }
 
-/// How many tasks come before the first that has a place, or one in it.
+/// Returns the number of tasks before the first with a place, or with a nested task that has one.
 fn how_many(tasks: &[FrozenTask]) -> usize
     ensures { result ≡ prefix_len is_unplaced (map p_task_view tasks.now) }
 {

@@ -97,7 +97,7 @@ in_each_both f [] gs = refl
 in_each_both f (e ∷ es) gs =
     ap (λ xs. map (behind (e.0 ∷ [])) (f e.1) ++ xs) (in_each_both f es gs) ∙ sym (append_assoc (map (behind (e.0 ∷ [])) (f e.1)) (in_each f es) (in_each f gs))
 
--- what stands in one member, and then what stands in another
+-- the contents of one member, and then those of another
 pub and_then_in : {A E : Type 0} (r : Result A E) (f : Data → List Sighted) (es gs : List (Step × Data)) (a b c : Listing)
     → Lists (in_each f es) a b → OnOk r (Lists (in_each f gs) b c) → OnOk r (Lists (in_each f (es ++ gs)) a c)
 and_then_in r f es gs a b c p h =

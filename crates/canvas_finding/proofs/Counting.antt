@@ -26,7 +26,7 @@ number_both p (x ∷ xs) ys =
     let both : number p (xs ++ ys) ≡ number p xs + number p ys = number_both p xs ys in
     omega arith
 
--- ---- behind a step
+-- ---- with a step in front
 
 pub last_behind : {A : Type 0} (x y : A) (ys : List A) → last_of (x ∷ y ∷ ys) ≡ last_of (y ∷ ys)
 last_behind x y ys =
@@ -34,7 +34,7 @@ last_behind x y ys =
     let shorter : suc (length ys) - 1 ≡ length ys = omega arith in
     ap (slice_get (x ∷ y ∷ ys)) longer ∙ ap (slice_get (y ∷ ys)) (sym shorter)
 
--- of the steps the test looks at the last alone
+-- the test looks only at the last of the steps
 abbrev pub LooksAtLast : (Sighted → Bool) → Type 0
 LooksAtLast p = (s e : Step) (x : Sighted) → p (behind (s ∷ []) (behind (e ∷ []) x)) ≡ p (behind (e ∷ []) x)
 

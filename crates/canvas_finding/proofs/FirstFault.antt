@@ -17,7 +17,7 @@ use Rattle.canvas_finding.specs.declared.step.Field.{Field}
 use Rattle.canvas_finding.specs.declared.step.Field.TheVariants as field
 use Rattle.canvas_finding.specs.declared.step.Step.{Step}
 
--- ---- the data of what stands in a signature
+-- ---- the data of the signatures nested in a signature
 
 abbrev pub data_of : List (Step × Data) → List Data
 data_of es = map (λ e. e.1) es

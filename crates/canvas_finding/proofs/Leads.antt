@@ -116,7 +116,7 @@ in_link_error = record {
   spelled = λ rest. refl;
 }
 
--- ---- a step leads to what it stands with
+-- ---- a step leads to the value in its pair
 
 abbrev Goes : Data → Step × Data → Type 0
 Goes d e = (rest : Text) → IsPointer rest → IsIndex e.0.index → pointer (step_text e.0 ++ rest) d ≡ pointer rest e.1
@@ -269,7 +269,7 @@ top_leads d (Some x) s f h = f s h
 own_leads : (d : Data) (s : Sighted) → first_refused d ≡ Some s → Leads d s
 own_leads d s h = found_leads d is_refused (signatures d) s (all_lead d) h
 
--- where a refusal stands
+-- the steps to a refusal's place lead to its signature
 pub place_leads : (e : SigFault) (d : Data) (s : Sighted) → place_of e d ≡ Some s → AreIndices s.steps → pointer (pointer_text s.steps) d ≡ Some s.signature
 place_leads fault.TooLarge d s h = absurd cc
 place_leads fault.NotJson d s h = absurd cc

@@ -86,7 +86,7 @@ same_end (suc n) (suc levels) low d h =
 
 -- ---- the signatures of a listing
 
--- nested, where a look at so many levels says so
+-- nested, as a look at a given number of levels finds
 abbrev pub nested_by : ℕ → Sighted → Bool
 nested_by levels s = steps_to_member (last_of s.steps) && ends_in_group levels s.signature
 

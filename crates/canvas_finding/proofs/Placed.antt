@@ -67,7 +67,7 @@ refused_first : (o : Option Sighted) (e : SigFault) → option_and_then refusal_
 refused_first None e h = absurd cc
 refused_first (Some s) e h = (is_own s.is_linked s.signature e h, refl)
 
--- a refusal of its own stands at the first signature that has one
+-- a refusal that is a signature's own has as its place the first signature with one
 own_placed : (d : Data) (e : SigFault) → IsOwn e → IsSome (first_refused d) → IsSome (place_of e d)
 own_placed d fault.TooLarge own some = absurd own
 own_placed d fault.NotJson own some = absurd own

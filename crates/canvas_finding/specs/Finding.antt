@@ -1,4 +1,4 @@
--- What is found of a text that is refused.
+-- The refusal of a text, and its place.
 use Rattle.std.specs.Prelude.{◌≡◌, List, Option, Some, None, Ok, Err}
 use Rattle.serde_json.specs.Data.{Data}
 use Rattle.serde_json.specs.Find.{pointer}
@@ -15,7 +15,7 @@ use Rattle.canvas_finding.specs.declared.finding.Spot.TheVariants as spot
 use Rattle.canvas_finding.specs.declared.step.Step.{Step}
 use Rattle.canvas_finding.specs.declared.finding.Finding.{Finding}
 
--- The steps lead to the first signature of the text that has the refusal: their text, as a JSON
+-- The steps lead to the first signature of the text that has the refusal. Their text, as a JSON
 -- Pointer (RFC 6901), leads there too.
 pub record IsPlace (d : Data) (fault : SigFault) (steps : List Step) : Type 0 where
   pub place : Sighted
@@ -36,7 +36,7 @@ abbrev pub StandsAt : Text → SigFault → Spot → Type 0
 StandsAt bytes fault (spot.Json line column) = json_of bytes ≡ None
 StandsAt bytes fault at = (d : Data) × (json_of bytes ≡ Some d) × IsSpot d fault at
 
--- A text that is refused is too large, no JSON, or has the refusal at a signature.
+-- A refused text is too large, is not JSON, or has the refusal at a signature.
 abbrev pub IsFoundAs : Text → SigFault → Spot → Type 0
 IsFoundAs bytes TooLarge at = at ≡ spot.Text
 IsFoundAs bytes fault at = StandsAt bytes fault at

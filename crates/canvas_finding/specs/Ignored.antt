@@ -1,6 +1,7 @@
--- The options of signatures that are read and ignored (Celery user guide, Calling Tasks): all but
--- the callbacks, and but what Celery writes into a signature for its own books (celery/canvas.py,
--- `Signature.freeze`, `_chord.freeze`). One that is null isn't given.
+-- The options of signatures that are read and ignored (Celery user guide, Calling Tasks): all
+-- except callbacks, and except those that Celery writes into a signature for its own bookkeeping
+-- (celery/canvas.py, `Signature.freeze`, `_chord.freeze`). An option that is null counts as
+-- missing.
 use Rattle.std.specs.Prelude.{Bool, ◌||◌, not, if◌then◌else◌, List, [], ◌∷◌}
 use Rattle.std.specs.Prelude.{codes}
 use Rattle.std.specs.List.{flat_map}
@@ -24,11 +25,11 @@ is_book name =
 abbrev pub is_ignored : Text → Data → Bool
 is_ignored name d = not (is_callback name || is_book name || is_null d)
 
--- the name of an option, if it is
+-- the name of an option, if the option is ignored
 abbrev pub if_ignored : Text → Data → List Text
 if_ignored name d = if is_ignored name d then name ∷ [] else []
 
--- of all options of a signature
+-- the names of a signature's ignored options
 abbrev pub ignored_in : Data → List Text
 ignored_in d =
     flat_map (λ e. if_ignored e.0 e.1) (object_members (field (codes "options") d))

@@ -1,6 +1,6 @@
--- The chords that Celery doesn't start for their keyword arguments (celery/canvas.py,
+-- The chords that Celery doesn't start because of their keyword arguments (celery/canvas.py,
 -- `_chord.from_dict`, `_chord.apply_async`): they have others than a header and a body, and not the
--- `kwargs` that Celery itself writes beside these.
+-- `kwargs` that Celery itself writes there.
 use Rattle.std.specs.Prelude.{Bool, true, false, ◌||◌, ◌&&◌, not, Option, Some, is_some}
 use Rattle.std.specs.Prelude.{codes}
 use Rattle.std.specs.List.{list_any}
@@ -16,11 +16,11 @@ use Rattle.canvas_finding.specs.Limits.{kind_of}
 abbrev pub is_part : Text → Bool
 is_part name = bytes_eq name (codes "header") || bytes_eq name (codes "body")
 
--- keyword arguments have others than the parts of a chord
+-- keyword arguments contain more than the parts of a chord
 abbrev pub has_others : Data → Bool
 has_others d = list_any (λ e. not (is_part e.0)) (object_members d)
 
--- and Celery's own isn't among them
+-- they do, and they don't contain Celery's own `kwargs`
 abbrev pub lacks_own : Data → Bool
 lacks_own d = not (is_some (get (codes "kwargs") d)) && has_others d
 
@@ -28,6 +28,6 @@ abbrev pub is_chord : Option Primitive → Bool
 is_chord (Some kind.Chord) = true
 is_chord o = false
 
--- a signature is such a chord
+-- a signature is a chord that Celery doesn't start
 abbrev pub is_unstarted : Data → Bool
 is_unstarted d = is_chord (kind_of d) && lacks_own (kwargs d)

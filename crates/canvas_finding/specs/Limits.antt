@@ -1,5 +1,5 @@
--- Which signature of a text, in file order, is the first that goes past a limit of whole canvases.
--- The limits are this project's own.
+-- The first signature of a text, in file order, that exceeds a limit of whole canvases. The limits
+-- are this project's own.
 use Rattle.std.specs.Prelude.{ℕ, zero, suc, ◌+◌, ◌-◌, Bool, true, false, not, ◌&&◌, List, [], ◌∷◌, length, Option, Some, None, nat_lt, ◌==◌, find, count_by, slice_get, is_some, if◌then◌else◌}
 use Rattle.serde_json.specs.Data.{Data}
 use Rattle.canvas_semantics.specs.Bounds.{most_nesting, most_tasks, most_groups}
@@ -19,7 +19,7 @@ use Rattle.canvas_finding.specs.declared.step.Step.{Step}
 abbrev pub kind_of : Data → Option Primitive
 kind_of d = primitive_of (subtype d)
 
--- ---- depth: 1 at the top, one more in a signature; a header's group signature adds nothing
+-- ---- depth: 1 at the top, one more in a signature; a header's group signature adds none
 
 abbrev pub is_group_step : Field → Option ℕ → Bool
 is_group_step field.Header None = true
@@ -49,8 +49,8 @@ steps_to_member (Some s) = is_member_step s.field s.index
 abbrev pub last_of : {A : Type 0} → List A → Option A
 last_of xs = slice_get xs (length xs - 1)
 
--- Whether the line of a signature ends in a group. The number bounds how deep it looks; JSON that
--- reads nests less deep than 128 levels.
+-- Whether the line of a signature ends in a group. The number bounds how deep it descends; JSON
+-- that can be read nests less deep than 128 levels.
 abbrev pub in_some : (Data → Bool) → Option Data → Bool
 in_some f None = false
 in_some f (Some d) = f d
@@ -77,7 +77,7 @@ abbrev pub is_task_kind : Option Primitive → Bool
 is_task_kind (Some kind.Task) = true
 is_task_kind p = false
 
--- a group or chord; a header's group signature isn't counted beside its chord
+-- a group or chord; a header's group signature isn't counted in addition to its chord
 abbrev pub is_group_kind : Option Primitive → Bool
 is_group_kind (Some kind.Group) = true
 is_group_kind (Some kind.Chord) = true
@@ -94,7 +94,7 @@ abbrev pub is_counted_group : Sighted → Bool
 is_counted_group s =
     is_group_kind (kind_of s.signature) && not (is_header_group (last_of s.steps))
 
--- the first behind so many tasks and so many groups and chords that is one more of them
+-- the first that exceeds t tasks or g groups and chords
 abbrev pub past : (tasks groups : ℕ) → List Sighted → Option Sighted
 past t g [] = None
 past t g (s ∷ ss) =
@@ -102,15 +102,15 @@ past t g (s ∷ ss) =
     else (if is_counted_group s then (if g == 0 then Some s else past t (g - 1) ss)
     else past t g ss)
 
--- ---- where a refusal stands
+-- ---- the place of a refusal
 
--- Signatures that stand too deep in a message of the run are those of the whole canvas, which is
--- the first past that limit.
+-- Signatures nested too deep in a message of the run are those of the whole canvas, which is the
+-- first to exceed that limit.
 abbrev pub too_deep : Data → Option Sighted → Option Sighted
 too_deep d None = Some (itself false d)
 too_deep d (Some s) = Some s
 
--- the first signature that has a refusal, or that goes past a limit
+-- the first signature that has a refusal, or that exceeds a limit
 abbrev pub place_of : SigFault → Data → Option Sighted
 place_of fault.TooLarge d = None
 place_of fault.NotJson d = None

@@ -10,7 +10,7 @@ use Rattle.canvas_finding.specs.Limits.{place_of}
 use Rattle.canvas_finding.specs.declared.finding.Finding.{Finding}
 use Rattle.canvas_finding.specs.declared.finding.Spot.TheVariants as spot
 
--- a text with this refusal has a signature where it stands
+-- a text with this refusal has a signature as its place
 abbrev pub HasPlace : SigFault → Type 0
 HasPlace fault =
     (bytes : Text) (d : Data) → json_of bytes ≡ Some d → text_reading bytes ≡ Err fault
@@ -19,7 +19,7 @@ HasPlace fault =
 abbrev pub EachHasPlace : Type 0
 EachHasPlace = (fault : SigFault) → fault ≢ TooLarge → HasPlace fault
 
--- what is found names a text as a whole only where that is too large
+-- a finding refers to the text as a whole only if the text is too large
 abbrev pub WholeIsTooLarge : Type 0
 WholeIsTooLarge =
     (bytes : Text) (f : Finding) → IsFound bytes (Some f) → f.spot ≡ spot.Text

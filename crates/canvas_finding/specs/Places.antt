@@ -1,4 +1,4 @@
--- What a listing holds, and what a step of it adds.
+-- The contents of a listing, and what a step appends.
 use Rattle.std.specs.Prelude.{◌≡◌, List, ◌++◌, map}
 use Rattle.canvas_sig.specs.Datum.{view}
 use Rattle.canvas_finding.specs.FileOrder.{Sighted, behind}
@@ -8,7 +8,7 @@ use Rattle.canvas_finding.specs.declared.listing.Listing.{Listing}
 abbrev pub shown : Place → Sighted
 shown p = record { steps = p.steps.items; is_linked = p.is_linked; signature = view p.value.now }
 
--- these were added, behind the steps to where the listing is
+-- these signatures were appended, with the steps to the current one in front
 pub record Lists (added : List Sighted) (l l' : Listing) : Type 0 where
   pub places : map shown l'.places.items
       ≡ map shown l.places.items ++ map (behind l.steps.items) added

@@ -26,7 +26,7 @@ abbrev pub pointer_text : List Step → Text
 pointer_text [] = []
 pointer_text (s ∷ steps) = step_text s ++ pointer_text steps
 
--- each index is one that a pointer can write: it fits 64 bits
+-- each index fits in 64 bits, so that a pointer can contain it
 abbrev pub IsIndex : Option ℕ → Type 0
 IsIndex None = Unit {0}
 IsIndex (Some i) = i < 2 ^ 64

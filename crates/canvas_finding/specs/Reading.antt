@@ -1,4 +1,4 @@
--- What one reading of a text gives: the canvas with its signatures, or why there is none.
+-- The result of reading a text: the canvas with its signatures, or the refusal.
 use Rattle.std.specs.Prelude.{◌≡◌, Some, Ok}
 use Rattle.canvas_task.specs.Text.{Text}
 use Rattle.canvas_values.specs.CanvasText.{text_reading}

@@ -1,4 +1,4 @@
--- The first signature of a text that is refused for itself, in file order.
+-- The first signature of a text with a fault of its own, in file order.
 use Rattle.std.specs.Prelude.{Bool, Option, is_some, find}
 use Rattle.serde_json.specs.Data.{Data}
 use Rattle.canvas_values.specs.Grammar.{own_fault}

@@ -1,4 +1,4 @@
--- How a text is shown to a person: in quotes, cut after 40 characters, and with nothing that isn't
+-- A text in short form for people: in quotes, truncated after 40 characters, and escaped except for
 -- printable ASCII.
 use Rattle.std.specs.Prelude.{ℕ, Bool, false, ◌&&◌, ◌||◌, ◌==◌, not, nat_lt, nat_le, List, ◌∷◌, []}
 use Rattle.std.specs.Prelude.{◌++◌, if◌then◌else◌, codes, chars, take, length, flat_map}
@@ -10,14 +10,14 @@ use Rattle.canvas_task.specs.Text.{Text}
 abbrev pub is_printable : ℕ → Bool
 is_printable c = nat_le 32 c && nat_le c 126
 
--- a character between quotes
+-- a character of a quoted text
 abbrev pub shown_char : ℕ → Text
 shown_char c =
     if c == 34 then codes "\\\""
     else (if c == 92 then codes "\\\\"
     else (if is_printable c then c ∷ [] else codes "\\u{" ++ digits 16 false c ++ codes "}"))
 
--- at most 40 characters, and the quote behind them
+-- at most 40 characters, and the closing quote
 abbrev pub inside : List ℕ → Text
 inside cs =
     if nat_lt 40 (length cs) then flat_map shown_char (take 40 cs) ++ codes "..\""
@@ -37,6 +37,6 @@ is_short name = nat_lt 0 (length name) && nat_le (length name) 40
 abbrev pub is_plain : Text → Bool
 is_plain name = is_short name && list_all is_plain_byte name
 
--- a name: as it is where it is plain, else like any text
+-- a name: unchanged if it is plain, otherwise quoted
 abbrev pub shown_name : Text → Text
 shown_name name = if is_plain name then name else quoted name

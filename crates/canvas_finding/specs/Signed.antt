@@ -1,4 +1,4 @@
--- The signatures of a text, as they are listed for those who read it.
+-- The signatures of a text, as they are listed for readers of the text.
 use Rattle.std.specs.Prelude.{◌≡◌, Bool, List, map, Some, string_bytes}
 use Rattle.serde_json.specs.Data.{Data}
 use Rattle.canvas_task.specs.Text.{Text}
@@ -9,14 +9,14 @@ use Rattle.canvas_finding.specs.Keywords.{is_unstarted}
 use Rattle.canvas_finding.specs.declared.step.Step.{Step}
 use Rattle.canvas_finding.specs.declared.signature.Signature.{Signature}
 
--- what leads to one, whether Celery doesn't start it, and the names of its options that are ignored
+-- the steps to one, whether Celery doesn't start it, and the names of its ignored options
 abbrev pub listed : Signature → List Step × (Bool × List Text)
 listed s = (s.steps.items, (s.is_unstarted, map string_bytes s.ignored.items))
 
 abbrev pub sighted : Sighted → List Step × (Bool × List Text)
 sighted s = (s.steps, (is_unstarted s.signature, ignored_in s.signature))
 
--- those of the JSON value of a text, in file order
+-- the signatures of the JSON value of a text, in file order
 abbrev pub AreSignatures : Text → List Signature → Type 0
 AreSignatures bytes found =
     (d : Data) → json_of bytes ≡ Some d

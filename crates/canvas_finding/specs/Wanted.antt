@@ -1,4 +1,4 @@
--- What is looked for in a listing.
+-- The signatures to look for in a listing.
 use Rattle.std.specs.Prelude.{Bool}
 use Rattle.canvas_finding.specs.FileOrder.{Sighted}
 use Rattle.canvas_finding.specs.Limits.{is_nested, is_too_deep}

@@ -1,4 +1,4 @@
-//! The note on a task's first argument that is of no allowed kind, or holds a bad number.
+//! The note on the first argument of a task that is of no allowed kind, or contains a bad number.
 
 use crate::notes::found;
 use crate::shown::quoted;
@@ -6,14 +6,14 @@ use canvas_sig::parts::{Datum, listed};
 use canvas_task::in_range;
 use std::alloc::{AllocError, Global};
 
-/// What is wanted in place of an argument, and in place of an item of one that is a list.
+/// The texts that say what is wanted instead of an argument, and instead of an item of a list.
 const ARGUMENT: &str = "a whole number, a text or a list of whole numbers";
 
 const ITEM: &str = "a whole number, as all of a list are";
 
 const NUMBER: &str = "a whole number from -2^60 to 2^60";
 
-/// Which fault of an argument is looked for.
+/// The fault of an argument to look for.
 #[derive(Clone, Copy)]
 pub(crate) enum Bad {
     Kind,
@@ -41,7 +41,7 @@ fn is_bad_item(value: &Datum<'_>, bad: Bad) -> bool {
     }
 }
 
-/// The first item of a list that is bad, and its place.
+/// Returns the first bad item of a list, and its index.
 fn bad_item<'v>(values: &'v [Datum<'v>], bad: Bad) -> Option<(usize, &'v Datum<'v>)> {
     for (index, value) in values.iter().enumerate() {
         if is_bad_item(value, bad) {
@@ -60,7 +60,8 @@ fn is_bad(value: &Datum<'_>, bad: Bad) -> bool {
     }
 }
 
-/// What is bad in an argument, which may be an item of it, where it stands, and what is wanted.
+/// Makes the note on a bad argument or on a bad item of it: the place, the value, and what is
+/// wanted.
 fn of_argument(alloc: Global, at: &str, value: &Datum<'_>, bad: Bad) -> Result<String, AllocError> {
     let (wanted, of_item) = match bad {
         Bad::Kind => (ARGUMENT, ITEM),
@@ -75,7 +76,7 @@ fn of_argument(alloc: Global, at: &str, value: &Datum<'_>, bad: Bad) -> Result<S
     }
 }
 
-/// The note on the first argument that is bad.
+/// Makes the note on the first bad argument of a signature.
 pub(crate) fn of_bad_argument(
     alloc: Global,
     signature: &Datum<'_>,

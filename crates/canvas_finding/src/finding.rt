@@ -1,4 +1,4 @@
-//! Where a text is refused.
+//! Finding the place where a text is refused.
 
 ghost use Rattle.std.specs.Prelude.{◌≡◌, ◌≤◌, IfOk};
 ghost use Rattle.std.specs.Option.{option_map};
@@ -28,24 +28,24 @@ use std::alloc::{AllocError, Global};
 pub enum Spot {
     /// The text as a whole.
     Text,
-    /// Where a text is no JSON: a line and a column of it, from 1.
+    /// The place where a text stops being JSON: its line and column, counted from 1.
     Json { line: usize, column: usize },
-    /// A signature, by the steps that lead to it.
+    /// A signature, given by the steps that lead to it. A missing body is a fault of its chord.
     Signature(Vec<Step>),
 }
 
-/// Why a text is refused, and where.
+/// The refusal of a text, and its place.
 #[derive(Drop)]
 pub struct Finding {
     pub fault: SigFault,
     pub spot: Spot,
-    /// The task that the signature there names, where that is a name.
+    /// The task that the signature there names, if that is a name.
     pub name: Option<String>,
-    /// What was found there and what is wanted, in a line.
+    /// The found and the wanted value, in one line.
     pub note: String,
 }
 
-/// The first signature of a text that has a refusal, or that goes past its limit.
+/// Returns the first signature of a text that has a refusal, or that exceeds its limit.
 fn place_of<'v>(
     alloc: Global,
     value: &'v Datum<'v>,
@@ -71,7 +71,9 @@ fn place_of<'v>(
     }
 }
 
-/// The first signature that stands too deep in others, or else the whole canvas.
+/// Returns the first signature that is nested too deep, or the whole canvas if there is none: then
+/// the depth is exceeded only in a message of the run, and the whole canvas is the first to exceed
+/// it.
 fn first_too_deep<'v>(
     alloc: Global,
     value: &'v Datum<'v>,
@@ -90,7 +92,7 @@ fn first_too_deep<'v>(
     }
 }
 
-/// Where a refusal stands in a value.
+/// Finds the place of a refusal in a value.
 pub(crate) fn find_in(
     alloc: Global,
     value: &Datum<'_>,
@@ -117,7 +119,7 @@ pub(crate) fn find_in(
     }
 }
 
-/// The task that a signature names, where that is a name.
+/// Returns the task that a signature names, if that is a name.
 pub(crate) fn name_in(alloc: Global, value: &Datum<'_>) -> Result<Option<String>, AllocError> {
     let task = value.get("task");
     if is_name(task) {
@@ -148,7 +150,7 @@ pub(crate) fn too_large(alloc: Global) -> Result<Finding, AllocError>
     Ok(whole(SigFault::TooLarge, note))
 }
 
-/// What serde_json says of a text, without the place, which a finding has apart.
+/// Returns the message of serde_json without the place, which a finding has separately.
 fn reason_of(said: &str) -> &str {
     match said.split_once(" at line ") {
         Some((reason, _place)) => reason,
@@ -162,7 +164,7 @@ fn json_note(alloc: Global, error: &serde_json::Error) -> Result<String, AllocEr
     format!(in alloc; "found no JSON ({reason}), wanted one JSON text in UTF-8")
 }
 
-/// Where a text is no JSON, as serde_json says it.
+/// Finds the place where a text is not JSON, as serde_json reports it.
 pub(crate) fn find_no_json(
     alloc: Global,
     bytes: &[u8],
@@ -200,7 +202,7 @@ fn find_parsed<'a>(
     }
 }
 
-/// Where a text is refused that isn't too large.
+/// Finds the place where a text that isn't too large is refused.
 fn find_at(alloc: Global, bytes: &[u8], fault: SigFault) -> Result<Finding, Memory>
     ensures fault { IfOk result (λ f. f.fault ≡ fault) }
     ensures spot { IfOk result (λ f. StandsAt bytes.now fault f.spot) }
@@ -210,7 +212,10 @@ fn find_at(alloc: Global, bytes: &[u8], fault: SigFault) -> Result<Finding, Memo
     find_parsed(alloc, &arena, &mut scratch, bytes, fault)
 }
 
-/// Why a text is no canvas, and where; none where it is one.
+/// Returns the refusal of a text and its place, or None if the text is a canvas. The place of a
+/// limit is the first signature that exceeds it: a member that ends in a group; a signature more
+/// than 8 deep, or the whole canvas if it is too deep only in a message; the task, group or chord
+/// that is one too many.
 pub fn find(alloc: Global, bytes: &[u8]) -> Result<Option<Finding>, Memory>
     ensures { IfOk result (IsFound bytes.now) }
 {

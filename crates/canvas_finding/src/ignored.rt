@@ -1,4 +1,4 @@
-//! The options of a canvas's signatures that are read and ignored.
+//! The options of a canvas's signatures that are read and then ignored.
 
 ghost use Rattle.std.specs.Prelude.{◌≡◌, map, IfOk, OnOk, string_bytes};
 ghost use Rattle.std.specs.List.{flat_map};
@@ -32,7 +32,7 @@ fn is_ignored(name: &str, value: &Datum<'_>) -> bool
     !(is_callback(name) || is_book(name) || matches!(value, Datum::Null))
 }
 
-/// An option's name, where it is ignored, behind the others.
+/// Appends the name of an option, if the option is ignored.
 fn push_name(
     alloc: Global,
     names: &mut Vec<String>,
@@ -62,7 +62,7 @@ fn push_members(
     Ok(())
 }
 
-/// The options that an object has.
+/// Appends the names of the ignored options in an object.
 fn push_object(
     alloc: Global,
     names: &mut Vec<String>,
@@ -78,7 +78,7 @@ fn push_object(
     }
 }
 
-/// The options of a signature.
+/// Appends the names of a signature's ignored options.
 fn push_options(
     alloc: Global,
     names: &mut Vec<String>,
@@ -93,7 +93,7 @@ fn push_options(
     }
 }
 
-/// The names of the options of a signature that are ignored.
+/// Returns the names of a signature's ignored options.
 pub(crate) fn ignored_in(alloc: Global, signature: &Datum<'_>) -> Result<Vec<String>, AllocError>
     ensures { IfOk result
         (λ names. map string_bytes names.items ≡ ignored_in (view signature.now)) }

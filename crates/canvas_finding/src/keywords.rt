@@ -1,4 +1,4 @@
-//! The chords that Celery doesn't start for their keyword arguments.
+//! The chords that Celery doesn't start because of their keyword arguments.
 
 ghost use Rattle.std.specs.Prelude.{◌≡◌, not};
 ghost use Rattle.std.specs.List.{list_any};
@@ -21,7 +21,7 @@ fn has_other_names(members: &[(&str, Datum<'_>)]) -> bool
     members.iter().any(|member| !is_part(member.0))
 }
 
-/// Whether keyword arguments have others than the parts of a chord.
+/// Returns whether keyword arguments contain more than the parts of a chord.
 fn has_others(kwargs: &Datum<'_>) -> bool
     ensures { result ≡ has_others (view kwargs.now) }
 {
@@ -31,7 +31,8 @@ fn has_others(kwargs: &Datum<'_>) -> bool
     }
 }
 
-/// The same where Celery's own isn't among them.
+/// Returns whether keyword arguments contain more than the parts of a chord, but not Celery's own
+/// `kwargs`.
 fn lacks_own(kwargs: &Datum<'_>) -> bool
     ensures { result ≡ lacks_own (view kwargs.now) }
 {
@@ -47,7 +48,8 @@ fn is_chord(kind: Option<Primitive>) -> bool
     matches!(kind, Some(Primitive::Chord))
 }
 
-/// Whether a signature is a chord that Celery doesn't start for its keyword arguments.
+/// Returns whether a signature is a chord that Celery doesn't start because of its keyword
+/// arguments.
 pub(crate) fn is_unstarted(signature: &Datum<'_>) -> bool
     ensures { result ≡ is_unstarted (view signature.now) }
 {

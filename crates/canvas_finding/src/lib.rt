@@ -1,4 +1,4 @@
-//! Where a text that is no canvas is refused, and what was found there.
+//! The place where a text is refused as a canvas, and what was found there.
 #![tactic(auto)]
 
 ghost use Rattle.std.specs.Prelude.{◌≡◌, option_and_then};
@@ -25,15 +25,15 @@ pub use shown::shown_name;
 pub use signature::Signature;
 pub use step::{Field, Step, pointer_text};
 
-/// The refusal of the first signature that is refused for itself, in file order, is the one that
-/// reading a text answers.
+/// States that the first signature with a fault of its own, in file order, has the refusal that
+/// reading the text gives.
 #[tactic(auto, using(crate::proofs::FirstFault::first_refusal))]
 pub fn law_of_first_refusals()
     ensures { (d : Data) → option_and_then refusal_of (first_refused d) ≡ signature_fault d }
 {}
 
-/// A text of JSON that is refused, and not for its size, is refused at a signature. So what is
-/// found names a text as a whole only where that is too large.
+/// States that a text of JSON that is refused, and not for its size, is refused at a signature. So
+/// a finding refers to the text as a whole only if the text is too large.
 #[tactic(auto, using(crate::proofs::Placed::each_placed, crate::proofs::Placed::whole_text))]
 pub fn law_of_places()
     ensures each { EachHasPlace }

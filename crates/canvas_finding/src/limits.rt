@@ -1,4 +1,4 @@
-//! The first signature of a text that is refused, or that goes past a limit of whole canvases.
+//! The first signature of a text that is refused, or that exceeds a limit of whole canvases.
 
 ghost use Rattle.std.specs.Prelude.{◌≡◌, ◌≤◌, map, find, false};
 ghost use Rattle.std.specs.Option.{option_map, option_copied};
@@ -48,7 +48,7 @@ pub(crate) fn leads_to_header_group(steps: &[Step]) -> bool
     }
 }
 
-/// Whether the line of a signature ends in a group. It looks at most `left` signatures deep.
+/// Returns whether the line of a signature ends in a group. It descends at most `left` signatures.
 #[cycle(ends)]
 #[tactic(auto, using(crate::proofs::Searches::ends_below))]
 fn ends_in_group(value: &Datum<'_>, left: u32) -> bool
@@ -114,7 +114,7 @@ fn is_counted_group(place: &Place<'_>) -> bool
     }
 }
 
-/// What is looked for.
+/// The signatures to look for.
 #[derive(Clone, Copy, Drop)]
 pub(crate) enum Wanted {
     Refused,
@@ -143,7 +143,8 @@ pub(crate) fn first_wanted(places: Vec<Place<'_>>, wanted: Wanted) -> Option<Pla
     None
 }
 
-/// The first behind so many tasks and so many groups and chords that is one more of them.
+/// Returns the first place that exceeds the given number of tasks or the given number of groups and
+/// chords.
 pub(crate) fn first_past(listed: Vec<Place<'_>>, tasks: u32, groups: u32) -> Option<Place<'_>>
     ensures { option_map shown result ≡ past tasks groups (map shown listed.entry.items) }
 {

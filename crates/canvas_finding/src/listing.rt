@@ -1,4 +1,4 @@
-//! The signatures of a text in file order.
+//! The signatures of a text, in file order.
 
 ghost use Rattle.std.specs.Prelude.{◌≡◌, ◌≤◌, ◌∷◌, [], false, map, OnOk, IfOk};
 ghost use Rattle.serde_json.specs.Data.{depth};
@@ -20,7 +20,8 @@ pub(crate) struct Place<'v> {
     pub(crate) value: &'v Datum<'v>,
 }
 
-/// What was listed, and the steps to where the listing is. After an error it is given up.
+/// The signatures listed so far, and the steps to the current signature. After an error it is
+/// discarded.
 #[derive(Drop)]
 struct Listing<'v> {
     places: Vec<Place<'v>>,
@@ -28,7 +29,7 @@ struct Listing<'v> {
 }
 
 impl<'v> Listing<'v> {
-    /// A signature and those in it, which nest at most `left` deep.
+    /// Lists a signature and those nested in it, at most `left` deep.
     #[cycle(listing)]
     fn list(
         &mut self,
@@ -47,7 +48,7 @@ impl<'v> Listing<'v> {
         self.list_inside(alloc, value, left - 1)
     }
 
-    /// A signature, without those in it.
+    /// Lists a signature, without those nested in it.
     fn push(
         &mut self,
         alloc: Global,
@@ -116,7 +117,7 @@ impl<'v> Listing<'v> {
         }
     }
 
-    /// The signatures in a list, one signature, or none.
+    /// Lists the signatures of a member that is a list, a single signature or null.
     #[cycle(listing)]
     fn list_some(
         &mut self,
@@ -155,7 +156,7 @@ impl<'v> Listing<'v> {
         }
     }
 
-    /// A signature that stands in a member, or none.
+    /// Lists the signature of a member, if there is one.
     #[cycle(listing)]
     fn list_one(
         &mut self,
@@ -220,7 +221,8 @@ impl<'v> Listing<'v> {
     }
 }
 
-/// The signatures of a text, in file order. Arrays and objects in it nest at most `left` deep.
+/// Returns the signatures of a text, in file order. Arrays and objects in it nest at most `left`
+/// deep.
 pub(crate) fn places_of<'v>(
     alloc: Global,
     value: &'v Datum<'v>,

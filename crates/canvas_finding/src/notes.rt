@@ -1,4 +1,4 @@
-//! What was found where a text is refused, and what is wanted there, in a line.
+//! The note of a refusal: the found and the wanted value, in one line.
 
 use crate::arguments::{Bad, of_bad_argument};
 use crate::listing::Place;
@@ -13,10 +13,10 @@ use std::alloc::{AllocError, Global};
 
 const SIGNATURES: &str = "a list of signatures";
 
-/// What Celery calls signatures that apply another one to each of a list.
+/// Celery's names for signatures that apply another one to each item of a list.
 static MAPS: [&str; 3] = ["celery.map", "celery.starmap", "celery.chunks"];
 
-/// The note on what stands somewhere.
+/// Makes a note on the value of a member.
 pub(crate) fn found(
     alloc: Global,
     what: &str,
@@ -91,7 +91,7 @@ fn is_group(field: Option<&Datum<'_>>) -> bool {
     }
 }
 
-/// The header is looked at before the body.
+/// Makes the note on a bad chord. The header is checked before the body.
 fn of_bad_chord(alloc: Global, value: &Datum<'_>) -> Result<String, AllocError> {
     let header = kwarg_of(value, "header");
     if is_list(header) || is_group(header) {
@@ -106,7 +106,7 @@ fn of_bad_chord(alloc: Global, value: &Datum<'_>) -> Result<String, AllocError> 
     )
 }
 
-/// Which of these signatures one is that holds the one to apply.
+/// Returns which of the `MAPS` a signature is, if it holds the signature to apply.
 fn map_name(value: &Datum<'_>) -> Option<&'static str> {
     if !matches!(kwarg_of(value, "task"), Some(Datum::Object(_))) {
         return None;
@@ -119,7 +119,7 @@ fn map_name(value: &Datum<'_>) -> Option<&'static str> {
     None
 }
 
-/// A task with an argument of no allowed kind.
+/// Makes the note on a task with an argument of no allowed kind.
 fn of_bad_kind(alloc: Global, value: &Datum<'_>) -> Result<String, AllocError> {
     match map_name(value) {
         Some(name) => format!(in alloc;
@@ -138,7 +138,7 @@ fn kind_name(value: &Datum<'_>) -> &'static str {
     }
 }
 
-/// Whether something stands in a member: more than null, or a list of nothing.
+/// Returns whether a member has a value other than null and the empty list.
 fn is_given(field: Option<&Datum<'_>>) -> bool {
     match field {
         None | Some(Datum::Null) => false,
@@ -147,7 +147,7 @@ fn is_given(field: Option<&Datum<'_>>) -> bool {
     }
 }
 
-/// What a chain, group or chord has that only a task may have.
+/// Returns the member of a chain, group or chord that only a task may have.
 fn given_on(value: &Datum<'_>) -> &'static str {
     if is_given(value.get("args")) {
         return "args";
@@ -161,7 +161,7 @@ fn given_on(value: &Datum<'_>) -> &'static str {
     "options.link_error"
 }
 
-/// What only a task has, or where only a task may stand.
+/// Makes the note on a member that only a task may have, or on a callback that is no task.
 fn of_canvas(alloc: Global, place: &Place<'_>) -> Result<String, AllocError> {
     let value = place.value;
     let kind = kind_name(value);
@@ -200,7 +200,7 @@ fn of_number(alloc: Global, place: &Place<'_>) -> Result<String, AllocError> {
     }
 }
 
-/// The note on a signature that has a refusal, or that goes past a limit.
+/// Makes the note on a signature that has a refusal, or that exceeds a limit.
 pub(crate) fn note_of(
     alloc: Global,
     place: &Place<'_>,

@@ -1,4 +1,4 @@
-//! Reading a text once, for all that is asked of it.
+//! Reading a text once, as a canvas with its signatures or a refusal with its place.
 
 ghost use Rattle.std.specs.Prelude.{◌≡◌, Some, IfOk};
 ghost use Rattle.canvas_sig.specs.Datum.{view};
@@ -15,20 +15,20 @@ use canvas_task::Memory;
 use json::Scratch;
 use std::alloc::Global;
 
-/// What a text is.
+/// The result of reading a text.
 #[derive(Drop)]
 pub enum Reading {
-    /// A canvas, and its signatures in file order: a signature before those in it, a header before
-    /// its body, and links before error callbacks.
+    /// A canvas, and its signatures in file order: a signature before those nested in it, a header
+    /// before its body, and links before error callbacks.
     Canvas {
         canvas: Canvas,
         signatures: Vec<Signature>,
     },
-    /// None, and why.
+    /// No canvas: the refusal and its place.
     Refused(Finding),
 }
 
-/// What a text is whose JSON value this is.
+/// Reads a text from its JSON value.
 fn read_value(alloc: Global, bytes: &[u8], value: &Datum<'_>) -> Result<Reading, Memory>
     requires { json_of bytes.now ≡ Some (view value.now) }
     ensures { text_reading bytes.now ≡ canvas_reading (view value.now)
@@ -61,8 +61,8 @@ fn read_parsed<'a>(
     }
 }
 
-/// The canvas that a text spells, with its signatures; or why it spells none, and where. The text
-/// is read once, but one that is no JSON a second time, to say where.
+/// Reads the canvas that a text spells, with its signatures, or the refusal and its place. The text
+/// is parsed once; if it is not JSON, it is parsed again to find the place.
 pub fn read(alloc: Global, bytes: &[u8]) -> Result<Reading, Memory>
     ensures { IfOk result (IsReading bytes.now) }
 {

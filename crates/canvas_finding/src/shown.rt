@@ -1,4 +1,4 @@
-//! Texts, names and JSON values in a few words, as a note shows them.
+//! Texts, names and JSON values in short form, for notes.
 
 ghost use Rattle.std.specs.Prelude.{◌≡◌, ◌++◌, false, IfOk, OnOk, codes, chars, flat_map};
 ghost use Rattle.std.specs.Prelude.{string_bytes};
@@ -10,7 +10,7 @@ ghost use Rattle.canvas_finding.specs.Shown.{is_plain_byte, is_plain, is_short};
 use canvas_sig::parts::Datum;
 use std::alloc::{AllocError, Global};
 
-/// How many characters of a text are shown.
+/// The greatest number of characters of a text that are shown.
 const MOST_SHOWN: usize = 40;
 
 fn push_code(shown: &mut String, code: u32) -> Result<(), AllocError>
@@ -21,7 +21,7 @@ fn push_code(shown: &mut String, code: u32) -> Result<(), AllocError>
     Ok(())
 }
 
-/// A character between quotes.
+/// Appends a character of a quoted text.
 fn push_char(shown: &mut String, c: char) -> Result<(), AllocError>
     ensures { OnOk result (string_bytes shown.new ≡ string_bytes shown.old ++ shown_char c) }
 {
@@ -43,7 +43,7 @@ fn push_chars(shown: &mut String, characters: &[char]) -> Result<(), AllocError>
     Ok(())
 }
 
-/// The first characters of a text, and the quote behind them.
+/// Appends the first characters of a text, and the closing quote.
 fn push_inside(shown: &mut String, characters: &[char]) -> Result<(), AllocError>
     ensures { OnOk result (string_bytes shown.new
         ≡ string_bytes shown.old ++ inside characters.now) }
@@ -64,7 +64,7 @@ fn characters_of(alloc: Global, text: &str) -> Result<Vec<char>, AllocError>
     text.chars().collect(alloc)
 }
 
-/// A text in quotes, cut where it is long. What isn't printable ASCII is escaped.
+/// Returns a text in quotes, truncated if it is long. Everything but printable ASCII is escaped.
 pub(crate) fn quoted(alloc: Global, text: &str) -> Result<String, AllocError>
     ensures { IfOk result (λ shown. string_bytes shown ≡ quoted text.now) }
 {
@@ -99,8 +99,8 @@ fn is_plain(name: &str) -> bool
     is_short(name) && are_plain(name.as_bytes())
 }
 
-/// A name as a line shows it to a person: as it is where it is 1 to 40 printable characters of
-/// ASCII with no space, quote or backslash, and else as any text.
+/// Returns a name as a line shows it to a person: unchanged if it is 1 to 40 characters of
+/// printable ASCII without spaces, quotes and backslashes, and otherwise quoted.
 pub fn shown_name(alloc: Global, name: &str) -> Result<String, AllocError>
     ensures { IfOk result (λ shown. string_bytes shown ≡ shown_name name.now) }
 {
@@ -111,7 +111,7 @@ pub fn shown_name(alloc: Global, name: &str) -> Result<String, AllocError>
     }
 }
 
-/// What stands in a member.
+/// Returns the value of a member in short form.
 pub(crate) fn shown(alloc: Global, found: Option<&Datum<'_>>) -> Result<String, AllocError> {
     match found {
         None => String::from_str(alloc, "nothing"),
@@ -119,7 +119,8 @@ pub(crate) fn shown(alloc: Global, found: Option<&Datum<'_>>) -> Result<String, 
     }
 }
 
-/// A value; of a list and an object only that it is one.
+/// Returns a value in short form: for a list only its length, and for an object only that it is
+/// one.
 pub(crate) fn shown_value(alloc: Global, value: &Datum<'_>) -> Result<String, AllocError> {
     match value {
         Datum::List(values) => {

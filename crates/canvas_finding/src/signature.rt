@@ -1,4 +1,4 @@
-//! The signatures of a text that is accepted, with what they have that is ignored.
+//! The signatures of an accepted text, with their ignored parts.
 
 ghost use Rattle.std.specs.Prelude.{◌≡◌, ◌≤◌, IfOk, map};
 ghost use Rattle.serde_json.specs.Data.{depth};
@@ -19,16 +19,17 @@ use std::alloc::{AllocError, Global};
 /// A signature of a text.
 #[derive(Drop)]
 pub struct Signature {
-    /// What leads to it.
+    /// The steps that lead to it.
     pub steps: Vec<Step>,
-    /// The task that it names, where that is a name.
+    /// The task that it names, if that is a name.
     pub name: Option<String>,
-    /// Whether it is the group that a header is written as, of which a canvas has only the members.
+    /// Whether it is the group signature of a header. The canvas has only the members of this
+    /// group.
     pub is_header_group: bool,
     /// Whether it is a chord that Celery doesn't start: it has keyword arguments besides its header
     /// and body, but not the `kwargs` that Celery writes there.
     pub is_unstarted: bool,
-    /// The names of its options that are read and ignored.
+    /// The names of its ignored options.
     pub ignored: Vec<String>,
 }
 
@@ -59,7 +60,7 @@ fn signatures_at(alloc: Global, places: Vec<Place<'_>>) -> Result<Vec<Signature>
     Ok(found)
 }
 
-/// The signatures of a value, in file order.
+/// Returns the signatures of a value, in file order.
 pub(crate) fn signatures_in(
     alloc: Global,
     value: &Datum<'_>,

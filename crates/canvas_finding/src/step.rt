@@ -1,4 +1,4 @@
-//! The steps from a signature to one in it, and their text.
+//! The steps from a signature to a nested one, and their text.
 
 ghost use Rattle.std.specs.Prelude.{◌≡◌, IfOk, string_bytes};
 ghost use Rattle.canvas_finding.specs.Pointer.{field_text, pointer_text, AreIndices};
@@ -7,7 +7,7 @@ ghost use Rattle.canvas_finding.specs.Limits.{goes_deeper};
 use std::alloc::{AllocError, Global};
 use std::fmt;
 
-/// A member of a signature in which signatures stand.
+/// A member of a signature that contains signatures.
 #[derive(Clone, Copy, Drop)]
 pub enum Field {
     /// `kwargs.tasks` of a chain.
@@ -39,8 +39,8 @@ impl Field {
     }
 }
 
-/// A step from a signature into it: to a place in the list that stands in a member, or to the one
-/// signature that stands there. It is printed as a JSON Pointer (RFC 6901).
+/// A step from a signature to a nested one: to an item of the list in a member, or to the only
+/// signature there. It is printed as part of a JSON Pointer (RFC 6901).
 #[derive(Clone, Copy, Drop)]
 pub struct Step {
     pub field: Field,
@@ -48,8 +48,8 @@ pub struct Step {
 }
 
 impl Step {
-    /// Whether what it leads to stands one deeper than the signature that it leads from. A header's
-    /// group signature doesn't.
+    /// Returns whether the step leads to a signature that is nested one deeper. The step to a
+    /// header's group signature doesn't.
     pub(crate) fn goes_deeper(&self) -> bool
         ensures { result ≡ goes_deeper self.now }
     {
@@ -75,7 +75,7 @@ impl fmt::Display for Step {
     }
 }
 
-/// The JSON Pointer to what steps lead to; that of the whole text is empty.
+/// Returns the JSON Pointer of steps. That of no steps, the whole text, is empty.
 pub fn pointer_text(alloc: Global, steps: &[Step]) -> Result<String, AllocError>
     ensures { IfOk result (λ text. string_bytes text ≡ pointer_text steps.now) }
 {
@@ -86,7 +86,7 @@ pub fn pointer_text(alloc: Global, steps: &[Step]) -> Result<String, AllocError>
     Ok(text)
 }
 
-/// For the proof alone, which knows of a number that it fits its type once it was read.
+/// Reads each index, which has no effect: the proof then knows that each fits its type.
 pub(crate) fn read_indices(steps: &[Step])
     ensures { AreIndices steps.now }
 {

@@ -47,7 +47,7 @@ mutual
   all_alone (and_line m ms) h n =
       let p = or_parts _ _ h in let q = or_parts _ _ n in (same_group m ∙ p.0, alone m q.0, all_alone ms p.1 q.1)
 
--- ---- how often a number stands in lists
+-- ---- how many times a number occurs in lists
 
 abbrev times_in : ℕ → List ℕ → ℕ
 times_in k xs = count_by (λ x. x == k) xs

@@ -23,7 +23,7 @@ pub onto_last : (ns : List Node) (n : Node) (after : Trees)
 onto_last [] n after = refl
 onto_last (m ∷ ms) n after = ap (onto (view m)) (onto_last ms n after)
 
--- ---- what stands in a signature is lighter
+-- ---- the signatures nested in a signature are lighter
 
 pub in_chain : (n : Node) (ns xs : List Node) → n ≡ Chain ns → xs ≡ ns → weight_of xs < weight (view n)
 in_chain n ns xs is same = omega (arith, ap weight_of same, weight_is ns, ap weight (ap view is ∙ view-Chain ns))

@@ -1,5 +1,5 @@
--- The tasks whose outcomes are a canvas's result (Celery user guide, Canvas: the last task's of a
--- chain, a list of the members' of a group, the body's of a chord).
+-- The tasks whose outcomes are a canvas's result (Celery user guide, Canvas: for a chain its last
+-- task's, for a group the list of its members', for a chord its body's).
 use Rattle.std.specs.Prelude.{ℕ, Bool, true, false, List, [], ◌∷◌}
 use Rattle.canvas_rewrite.specs.declared.ends.Ends.{Ends}
 use Rattle.canvas_rewrite.specs.declared.ends.Ends.TheVariants.{One, Many}

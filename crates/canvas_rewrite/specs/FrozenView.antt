@@ -1,5 +1,5 @@
--- The data of the types of the code: of lines without numbers, and of numbered lines with their
--- places (Celery's `Signature.freeze`: ids, and where results go, before anything runs).
+-- The data that contracts see of lines without numbers, and of numbered lines with their places
+-- (Celery's `Signature.freeze`: identifiers, and where results go, before anything runs).
 use Rattle.std.specs.Prelude.{ℕ, List, [], ◌∷◌, map, Option, Some, None, Box}
 use Rattle.std.specs.declared.alloc.Global.{Global}
 use Rattle.canvas_semantics.specs.Tree.{Task}
@@ -70,7 +70,7 @@ abbrev pub place_or : Option PPlace → PPlace
 place_or None = p_nowhere
 place_or (Some p) = p
 
--- size and body of what is carried
+-- the size and the body that a chord's member carries
 pub record PCarried : Type 0 where
   pub size : ℕ
   pub body : PLine

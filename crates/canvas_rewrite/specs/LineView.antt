@@ -1,4 +1,4 @@
--- The data that a line stands for: its tasks, and then its group or chord (Celery user guide,
+-- The data that contracts see of a line: its tasks, and then its group or chord (Celery user guide,
 -- Canvas: a group that a task follows is a chord).
 use Rattle.std.specs.Prelude.{List, [], ◌∷◌, Option, Some, None}
 use Rattle.canvas_semantics.specs.Tree.{Tree, chain, group, chord, Trees, no_trees, and_tree}
@@ -11,7 +11,7 @@ abbrev pub chains : List Trees → Trees
 chains [] = no_trees
 chains (l ∷ ls) = and_tree (chain l) (chains ls)
 
--- a group, or a chord where there is a body
+-- a group, or a chord if there is a body
 abbrev pub group_or_chord : List Trees → Option Trees → Tree
 group_or_chord members None = group 0 (chains members)
 group_or_chord members (Some body) = chord 0 (chains members) (chain body)

@@ -1,4 +1,4 @@
--- What a canvas that passed every check is, and so is its normal line.
+-- The canvases that can run: those that passed every check, and their normal lines.
 use Rattle.std.specs.Prelude.{◌≡◌, ◌≤◌, false, None}
 use Rattle.canvas_task.specs.Entries.{Ascends}
 use Rattle.canvas_semantics.specs.Tree.{Task, task, Tasks, no_tasks, and_task, Tree, one, chain, group, chord, Trees, no_trees, and_tree, IsFull, count, count_groups}

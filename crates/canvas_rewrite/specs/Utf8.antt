@@ -1,5 +1,5 @@
--- Lines whose texts are UTF-8, as all that a program's strings hold is: the names of tasks, and the
--- texts and the names among their arguments.
+-- Lines whose texts are UTF-8, like every string of a program: the names of tasks, and the texts
+-- and names among their arguments.
 use Rattle.std.specs.Prelude.{ℕ, List, [], ◌∷◌}
 use Rattle.std.specs.Str.{IsUtf8}
 use Rattle.canvas_task.specs.declared.arg.Arg.{Arg}

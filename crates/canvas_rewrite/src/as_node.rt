@@ -1,4 +1,4 @@
-//! A line as a signature.
+//! Turning a line into a signature.
 ghost use Rattle.std.specs.Prelude.{◌≡◌, ◌++◌, IfOk, map};
 ghost use Rattle.canvas_semantics.specs.Tree.{one, no_trees, and_tree};
 ghost use Rattle.canvas_values.specs.SignatureView.{view, task_view, trees_of};
@@ -12,7 +12,7 @@ use canvas_task::{ListOf, Memory};
 use canvas_values::{Node, TaskSig, copy_sig};
 use std::alloc::{AllocError, Global};
 
-/// One element as it is, and more as a chain.
+/// Returns a single element itself, and several as a chain.
 fn whole(nodes: Vec<Node>) -> Node
     ensures { view result ≡ element_or_chain (trees_of (map view nodes.items)) }
 {
@@ -77,7 +77,7 @@ fn line_nodes(alloc: Global, lines: &[Line]) -> Result<Vec<Node>, AllocError>
     Ok(nodes)
 }
 
-/// The line as a signature: a line of one element is that element, a longer one a chain.
+/// Clones a line as a signature: a line of one element is that element, a longer one a chain.
 pub fn node_of(alloc: Global, line: &Line) -> Result<Node, Memory>
     ensures value { IfOk result (λ node. view node ≡ compact (line_of line.now)) }
     ensures meaning { IfOk result (λ node. IsSame (view node) (line_view line.now)) }

@@ -1,4 +1,4 @@
-//! Copies of lines.
+//! Cloning lines.
 ghost use Rattle.std.specs.Prelude.{◌≡◌, IfOk, map};
 ghost use Rattle.canvas_rewrite.specs.FrozenView.{line_of, end_of};
 
@@ -7,7 +7,7 @@ use canvas_task::ListOf;
 use canvas_values::copy_sigs;
 use std::alloc::{AllocError, Global};
 
-/// A copy, with copies of all that stands in it.
+/// Clones a line, with everything in it.
 #[cycle(copy)]
 pub(crate) fn copy_line(alloc: Global, line: &Line) -> Result<Line, AllocError>
     ensures { IfOk result (λ copy. line_of copy ≡ line_of line.now) }

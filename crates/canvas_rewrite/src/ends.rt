@@ -1,4 +1,4 @@
-//! What a canvas ends in.
+//! The ends of a canvas.
 
 use canvas_task::TaskNo;
 

@@ -1,4 +1,4 @@
-//! The groups and chords of a plan, found by their numbers.
+//! The groups and chords of a plan, looked up by their numbers.
 ghost use Rattle.std.specs.Prelude.{◌≡◌, ◌<◌, ◌^◌, All, IfOk, IfSome, length, option_copied};
 ghost use Rattle.canvas_semantics.specs.Line.{entry_at, entry_members, entry_size};
 
@@ -22,7 +22,7 @@ impl Model for GroupEntry {
     ghost view = { λ t. record { chord = t.chord; members = t.members } };
 }
 
-/// Groups and chords in the order of their numbers, from 1 on. What shares them copies nothing.
+/// Groups and chords in the order of their numbers, from 1. Sharing them copies nothing.
 #[derive(Drop)]
 pub struct Groups {
     entries: Arc<ListOf<GroupEntry>>,
@@ -49,7 +49,7 @@ impl Groups {
         })
     }
 
-    /// The same groups and chords once more.
+    /// Returns another handle to the same groups and chords.
     pub fn share(&self) -> Result<Groups, AllocError>
         ensures { IfOk result (λ groups. groups ≡ self.now) }
     {
@@ -65,7 +65,7 @@ impl Groups {
         self.entries.get().get(group.get() as usize - 1)
     }
 
-    /// How many members a chord has; None of a plain group or an unknown number.
+    /// Returns the number of members of a chord, or None for a group or an unknown number.
     pub fn size(&self, group: GroupNo) -> Option<u32>
         ensures { result ≡ entry_size (entry_at self.now group) }
     {
@@ -77,8 +77,8 @@ impl Groups {
         }
     }
 
-    /// The last tasks of the members of a group or chord, in header order; none of an unknown
-    /// number.
+    /// Returns the last tasks of the members of a group or chord, in header order. An unknown
+    /// number has none.
     pub fn members(&self, group: GroupNo) -> &[TaskNo]
         ensures { result.now ≡ entry_members (entry_at self.now group) }
     {

@@ -1,4 +1,4 @@
-//! What a plan keeps beside its line.
+//! The tables that a plan keeps in addition to its line.
 ghost use Rattle.std.specs.Prelude.{◌≡◌, ◌++◌, IfOk, map, OnOk};
 ghost use Rattle.canvas_semantics.specs.Line.{ends_of, group_entries, in_group};
 ghost use Rattle.canvas_rewrite.specs.FrozenView.{line_in, end_in};
@@ -9,7 +9,7 @@ use crate::{FrozenEnd, FrozenLine};
 use canvas_task::{ListOf, TaskNo};
 use std::alloc::{AllocError, Global};
 
-/// The tasks that the line ends in, put behind the others.
+/// Appends the tasks that the line ends in.
 #[cycle(ends)]
 pub(crate) fn push_ends(line: &FrozenLine, ends: &mut Vec<TaskNo>) -> Result<(), AllocError>
     ensures { OnOk result (ends.new.items ≡ ends.old.items ++ ends_of (line_in line.now)) }
@@ -46,7 +46,7 @@ fn push_all(lines: &[FrozenLine], ends: &mut Vec<TaskNo>) -> Result<(), AllocErr
     Ok(())
 }
 
-/// Whether the line ends in a group, or in a chord whose body ends so.
+/// Returns whether the line ends in a group, or in a chord whose body does.
 pub fn is_in_group(line: &FrozenLine) -> bool
     ensures { result ≡ in_group (line_in line.now) }
 {
@@ -59,7 +59,7 @@ pub fn is_in_group(line: &FrozenLine) -> bool
     }
 }
 
-/// The groups and chords of the line in file order, put behind the others.
+/// Appends the groups and chords of the line, in file order.
 #[cycle(groups)]
 pub(crate) fn push_groups(
     alloc: Global,

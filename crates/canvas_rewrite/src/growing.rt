@@ -11,7 +11,8 @@ use canvas_task::ListOf;
 use canvas_values::TaskSig;
 use std::alloc::{AllocError, Global};
 
-/// The line's tasks from the last to the first, so that one more goes behind them.
+/// A line that grows at its front. Its tasks are kept from the last to the first, so that one more
+/// is pushed at the end.
 #[derive(Drop)]
 pub(crate) struct Growing {
     tasks: Vec<TaskSig>,
@@ -28,7 +29,7 @@ impl Growing {
         }
     }
 
-    /// A line of one group or chord.
+    /// Makes a line of one group or chord.
     pub(crate) fn of_end(
         alloc: Global,
         members: Vec<Line>,

@@ -17,7 +17,7 @@ mod plan;
 mod rewriting;
 mod texts;
 
-/// What messages, which carry lines, look at them with.
+/// A function that messages, which carry lines, use.
 pub mod parts {
     pub use crate::groups::is_in_group;
 }

@@ -7,18 +7,18 @@ use canvas_values::TaskSig;
 #[derive(Drop)]
 #[cycle(line)]
 pub struct Line {
-    /// The first is run first. There may be none in front of a group or chord.
+    /// The tasks, of which the first runs first. There may be none before a group or chord.
     pub tasks: ListOf<TaskSig>,
-    /// None where the line ends in a task.
+    /// The group or chord at the end, or None if the line ends in a task.
     pub tail: Option<Box<LineEnd>>,
 }
 
-/// A chord, or a group where there is no body.
+/// A chord, or a group if there is no body.
 #[derive(Drop)]
 #[cycle(line)]
 pub struct LineEnd {
     /// A line for each member, in header order.
     pub members: ListOf<Line>,
-    /// What follows the header, with all that follows the chord.
+    /// The line that follows the header, including all that follows the chord.
     pub body: Option<Line>,
 }

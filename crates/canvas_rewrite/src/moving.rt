@@ -1,4 +1,4 @@
-//! The normal line of a canvas that is given up: its parts are moved, and none is copied.
+//! The normal line of a consumed canvas: its parts are moved, and none is cloned.
 ghost use Rattle.std.specs.Prelude.{◌≡◌, IfOk, map};
 ghost use Rattle.canvas_semantics.specs.Tree.{no_trees};
 ghost use Rattle.canvas_values.specs.SignatureView.{view, trees_of};
@@ -15,7 +15,7 @@ use canvas_task::Memory;
 use canvas_values::{Canvas, Node};
 use std::alloc::{AllocError, Global};
 
-/// The line of a node that a line follows.
+/// Returns the line of a node followed by the line `after`.
 #[cycle(onto)]
 fn move_onto(alloc: Global, node: Node, after: Growing) -> Result<Growing, AllocError>
     ensures { IfOk result (λ line. growing line ≡ onto (view node) (growing after)) }
@@ -49,7 +49,7 @@ fn move_all_onto(alloc: Global, nodes: Vec<Node>, after: Growing) -> Result<Grow
     Ok(line)
 }
 
-/// A line for each node.
+/// Returns a line for each node.
 #[cycle(onto)]
 fn move_lines(alloc: Global, nodes: Vec<Node>) -> Result<Vec<Line>, AllocError>
     ensures { IfOk result
@@ -63,7 +63,7 @@ fn move_lines(alloc: Global, nodes: Vec<Node>) -> Result<Vec<Line>, AllocError>
     Ok(lines)
 }
 
-/// As `normalise`, of a canvas that is given up.
+/// Like `normalise`, but consumes the canvas.
 pub fn into_normal(alloc: Global, canvas: Canvas) -> Result<Line, Memory>
     ensures value { IfOk result (λ line. line_view line ≡ normal canvas) }
     ensures meaning { IfOk result (λ line. IsSame (line_view line) canvas) }

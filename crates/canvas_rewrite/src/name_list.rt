@@ -7,12 +7,12 @@ use canvas_task::TextOf;
 use std::alloc::{AllocError, Global};
 use std::marker::Model;
 
-/// Names. One that is alike to the one before it takes no memory of its own, since the tasks of a
-/// group are mostly calls of one function.
+/// A list of names. Equal names in a row share one text, since the tasks of a group are mostly
+/// calls of the same function.
 #[derive(Drop)]
 pub(crate) struct NameList {
     texts: Vec<TextOf>,
-    // of each name, the index of its text
+    // the index of each name's text
     places: Vec<usize>,
 }
 
@@ -30,7 +30,7 @@ impl Model for NameList {
     ghost invariant = { λ n. All (λ i. i < length n.texts.items) n.places.items };
 }
 
-/// Whether the last text is that of a name.
+/// Returns whether the last text is this name.
 fn ends_in(texts: &[TextOf], name: &TextOf) -> bool
     ensures { result ≡ true → EndsIn texts.now name.now }
 {
@@ -40,7 +40,7 @@ fn ends_in(texts: &[TextOf], name: &TextOf) -> bool
     }
 }
 
-/// Puts a name behind texts that don't end in it.
+/// Appends a name to the texts, unless it is the last of them.
 fn keep(texts: &mut Vec<TextOf>, name: &TextOf) -> Result<(), AllocError>
     ensures last { OnOk result (EndsIn texts.new.items name.now) }
     ensures before { Extends texts.old.items texts.new.items }
@@ -62,7 +62,7 @@ impl NameList {
         })
     }
 
-    /// One more name.
+    /// Appends a name.
     pub(crate) fn push(&mut self, name: &TextOf) -> Result<(), AllocError>
         ensures { OnOk result (self.new ≡ self.old ++ name.now ∷ []) }
     {
@@ -71,7 +71,7 @@ impl NameList {
         Ok(())
     }
 
-    /// The name of an index.
+    /// Returns the name at an index.
     pub(crate) fn get(&self, index: usize) -> Option<&str>
         ensures { option_map (λ name. name.now) result ≡ slice_get self.now index }
     {

@@ -8,7 +8,7 @@ use crate::name_list::NameList;
 use crate::{FrozenEnd, FrozenLine, FrozenTask};
 use std::alloc::{AllocError, Global};
 
-/// The names of the task, its links and its error callbacks, put behind the others.
+/// Appends the names of a task, its links and its error callbacks.
 #[cycle(task_names)]
 fn push_task(task: &FrozenTask, found: &mut NameList) -> Result<(), AllocError>
     ensures { OnOk result (found.new ≡ found.old ++ task_names (task_in task.now)) }
@@ -29,7 +29,7 @@ fn push_tasks(tasks: &[FrozenTask], found: &mut NameList) -> Result<(), AllocErr
     Ok(())
 }
 
-/// The names of the line's tasks in file order, put behind the others.
+/// Appends the names of the line's tasks, in file order.
 #[cycle(line_names)]
 fn push_names(line: &FrozenLine, found: &mut NameList) -> Result<(), AllocError>
     ensures { OnOk result (found.new ≡ found.old ++ names (line_in line.now)) }
@@ -63,7 +63,7 @@ fn push_lines(lines: &[FrozenLine], found: &mut NameList) -> Result<(), AllocErr
     Ok(())
 }
 
-/// The names of a line's tasks in file order, of which there are so many.
+/// Returns the names of a line's tasks, in file order. `count` is their number.
 pub(crate) fn names_of(
     alloc: Global,
     line: &FrozenLine,

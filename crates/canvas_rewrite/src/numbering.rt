@@ -1,4 +1,4 @@
-//! Numbers in file order, given to a line whose parts are moved: none is copied.
+//! Numbering a line in file order. The parts of the line are moved, and none is cloned.
 ghost use Rattle.std.specs.Prelude.{◌≡◌, ◌≤◌, ◌+◌, IfOk, OnOk, map};
 ghost use Rattle.canvas_semantics.specs.Tree.{count_task, number_task};
 ghost use Rattle.canvas_values.specs.SignatureView.{task_view, tasks_of};
@@ -28,7 +28,7 @@ pub(crate) fn group_no(number: u32) -> GroupNo
     GroupNo::new(number).unwrap()
 }
 
-/// The task, numbered from `next` on, and the number after its last.
+/// Numbers a task from `next`, and advances `next` past its last number.
 #[cycle(tasks)]
 #[tactic(auto, using(crate::proofs::FrozenViews::task_counted))]
 fn freeze_task(alloc: Global, sig: TaskSig, next: &mut u32) -> Result<FrozenTask, AllocError>
@@ -39,7 +39,7 @@ fn freeze_task(alloc: Global, sig: TaskSig, next: &mut u32) -> Result<FrozenTask
     ensures next { IfOk result (λ _. next.new ≡ next.old + count_task (task_view sig)) }
     ensures utf8 { OnOk result (IsUtf8Task (task_view sig)) }
 {
-    // For the proof alone: a text that is read is known to be UTF-8.
+    // Only for the proof: a text that is read is known to be UTF-8.
     read_call(&sig);
     let no = task_no(*next);
     *next += 1;
@@ -85,8 +85,8 @@ fn freeze_tasks(
     Ok(frozen)
 }
 
-/// The line, its tasks and groups numbered from `task` and `group` on, and the numbers after its
-/// last.
+/// Numbers the tasks of a line from `task` and its groups and chords from `group`, and advances
+/// both past its last numbers.
 #[cycle(lines)]
 pub(crate) fn freeze_line(
     alloc: Global,

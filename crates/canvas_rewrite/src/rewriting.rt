@@ -15,7 +15,7 @@ use canvas_task::Memory;
 use canvas_values::{Canvas, Node, copy_sig};
 use std::alloc::{AllocError, Global};
 
-/// A group that a line follows, which makes it a chord where it has an element.
+/// Returns the line of a group followed by the line `after`: a chord, if `after` has an element.
 pub(crate) fn group_onto(
     alloc: Global,
     members: Vec<Line>,
@@ -30,7 +30,7 @@ pub(crate) fn group_onto(
     Growing::of_end(alloc, members, Some(after.into_line()))
 }
 
-/// The line of a node that a line follows.
+/// Returns the line of a node followed by the line `after`.
 #[cycle(onto)]
 #[tactic(auto, using(crate::proofs::Lines::normal_chains))]
 fn onto(alloc: Global, node: &Node, after: Growing) -> Result<Growing, AllocError>
@@ -66,7 +66,7 @@ fn all_onto(alloc: Global, nodes: &[Node], after: Growing) -> Result<Growing, Al
     Ok(line)
 }
 
-/// A line for each node.
+/// Returns a line for each node.
 #[cycle(onto)]
 fn lines_of(alloc: Global, nodes: &[Node]) -> Result<Vec<Line>, AllocError>
     ensures { IfOk result
@@ -80,8 +80,8 @@ fn lines_of(alloc: Global, nodes: &[Node]) -> Result<Vec<Line>, AllocError>
     Ok(lines)
 }
 
-/// The normal line of a canvas: chains flattened, a group that something follows made a chord, and
-/// what follows a chord added to its body.
+/// Returns the normal line of a canvas: chains are flattened, a group that something follows
+/// becomes a chord, and what follows a chord is added to its body.
 pub fn normalise(alloc: Global, canvas: &Canvas) -> Result<Line, Memory>
     ensures value { IfOk result (λ line. line_view line ≡ normal canvas.now) }
     ensures meaning { IfOk result (λ line. IsSame (line_view line) canvas.now) }

@@ -1,5 +1,5 @@
-//! The texts of a signature are UTF-8, since each is a `String`. What is here reads them, so that
-//! contracts can say it, and does nothing else.
+//! Reading the texts of a signature, which has no effect: since each is a `String`, contracts then
+//! know that it is UTF-8.
 ghost use Rattle.canvas_task.specs.Entries.{named};
 ghost use Rattle.canvas_values.specs.ComposedRefusals.{its_call};
 ghost use Rattle.canvas_values.specs.SignatureView.{task_view};

@@ -92,7 +92,7 @@ mutual
 -- ---- evaluation
 
 module _ (behaviour : Behaviour) where
-  -- a group reads its members' ends and rows alone
+  -- a group reads only its members' ends and rows
   as_group_same : (ms : Lines) (x : Flow) → member_rows behaviour (compact_members ms) x ≡ member_rows behaviour (members_of ms) x
       → as_group x (compact_members ms) (member_rows behaviour (compact_members ms) x) ≡ as_group x (members_of ms) (member_rows behaviour (members_of ms) x)
   as_group_same ms x rows_are =

@@ -1,4 +1,4 @@
--- What a line ends in, before and after it is rewritten.
+-- The ends of a line, before and after rewriting.
 use Rattle.std.proofs.Common.{◌≡◌, Bool, false, ◌||◌, refl, ◌∙◌}
 use Rattle.canvas_semantics.specs.Bounds.{nests_group, some_nests_group, some_ends_in_group}
 use Rattle.canvas_semantics.specs.NormalLine.{onto, all_onto, normal}
@@ -36,7 +36,7 @@ abbrev some_line_in_group : Trees → Bool
 some_line_in_group no_trees = false
 some_line_in_group (and_tree t ts) = ends_in_group (normal t) || some_line_in_group ts
 
--- the same of a member of a group or of a header anywhere in the canvas
+-- whether that is so for a member of any group or header in the canvas
 abbrev mutual
   pub nests_in_lines : Tree → Bool
   nests_in_lines (one t) = false
@@ -52,7 +52,7 @@ members_in_lines : (ms : Trees) → AreFull ms → some_line_in_group ms ≡ som
 members_in_lines no_trees h = refl
 members_in_lines (and_tree t ts) h = rw (in_group_onto t no_trees h.0, members_in_lines ts h.1) refl
 
--- Where no chain is empty, the refusal of a nested group is the one of the members' normal lines.
+-- If no chain is empty, the refusal of a nested group is that of the members' normal lines.
 mutual
   pub nested_in_lines : (t : Tree) → IsFull t → nests_in_lines t ≡ nests_group t
   nested_in_lines (one t) h = refl

@@ -57,7 +57,7 @@ mutual
 -- ---- the law
 
 module _ (behaviour : Behaviour) where
-  -- a group reads its members' ends and rows alone
+  -- a group reads only its members' ends and rows
   group_same : (ms : Trees) (x : Flow) → all_ends (normal_all ms) ≡ all_ends ms → member_rows behaviour (normal_all ms) x ≡ member_rows behaviour ms x
       → as_group x (normal_all ms) (member_rows behaviour (normal_all ms) x) ≡ as_group x ms (member_rows behaviour ms x)
   group_same ms x same_ends same_rows =

@@ -15,7 +15,7 @@ same_number k = grind (arith, nat_tests)
 other_number : (j k : ℕ) → j < k → (j == k) ≡ false
 other_number j k h = grind (arith, nat_tests)
 
--- the task i places behind the first, whose number is j
+-- the task i places after the first, whose number is j
 at_place : (ss : List State) (i j k : ℕ) → k ≡ j + i → state_of k (rows_from j ss) ≡ flat (slice_get ss i)
 at_place [] i j k e = refl
 at_place (s ∷ ss) zero j k e =

@@ -1,4 +1,4 @@
--- The rows of a numbered canvas stand in the order of their numbers, one for each task.
+-- The rows of a numbered canvas are in the order of their numbers, one for each task.
 use Rattle.std.proofs.Common.{◌≡◌, ◌∙◌, ℕ, ◌+◌, ◌<◌, ◌==◌, if◌then◌else◌, true, false, zero, suc, List, [], ◌∷◌, ◌++◌, map, Option, Some, refl, sym, ap, arith}
 use Rattle.std.proofs.lemmas.List.{map-append}
 use Rattle.std.proofs.lemmas.Bool.Decides.{nat_tests}
@@ -70,7 +70,7 @@ module _ (behaviour : Behaviour) where
         (count_all ts) _ refl refl
         (tree_numbers t k g x) (members_numbers ts (k + count t) (g + count_groups t) x)
 
--- ---- look-ups in rows that stand in order
+-- ---- look-ups in rows in order
 
 abbrev pub states_in : Rows → List State
 states_in rows = map (λ r. r.1) rows

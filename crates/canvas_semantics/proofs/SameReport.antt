@@ -45,7 +45,7 @@ names_same c = ap names_by_number (numbered_normal c) ∙ names_onto (numbered c
 abbrev written : List (ℕ × Text) → Rows → Bool → List ℕ → Text
 written ns rows many es = report_lines ns rows ++ codes "result " ++ result_text many (with_states rows es) ++ codes "\n"
 
--- whatever the rows, where the normal line means what the canvas means
+-- for any rows, if the normal line means what the canvas means
 pub same_report_of : (c : Tree) (rows : Rows) → IsSame (normal c) c → report_of (numbered (normal c)) rows ≡ report_of (numbered c) rows
 same_report_of c rows law =
     ap (λ ns. written ns rows (ends_in_group (numbered (normal c))) (ends (numbered (normal c)))) (names_same c)

@@ -1,16 +1,16 @@
--- How deep and how large a canvas may be, and where groups may stand. The bounds are this project's
--- own: the Canvas chapter of Celery's user guide has none.
+-- The limits of a canvas's depth and size, and the places where a group is refused. They are this
+-- project's own: the Canvas chapter of Celery's user guide has none.
 use Rattle.std.specs.Prelude.{ℕ, Bool, false, ◌||◌, nat_lt}
 use Rattle.canvas_semantics.specs.Tree.{Tree, one, chain, group, chord, Trees, no_trees, and_tree, count, count_groups, ends_in_group}
 use Rattle.canvas_semantics.specs.Nesting.{nesting}
 use Rattle.canvas_semantics.specs.NormalLine.{normal}
 use Rattle.canvas_semantics.specs.Reach.{reach}
 
--- how deeply signatures may stand in each other
+-- the greatest depth to which signatures may be nested in a canvas
 abbrev pub most_nesting : ℕ
 most_nesting = 8
 
--- how deeply they may stand in each other in a message
+-- the greatest depth to which signatures may be nested in a message
 abbrev pub most_reach : ℕ
 most_reach = 32
 
@@ -20,10 +20,10 @@ most_tasks = 1024
 abbrev pub most_groups : ℕ
 most_groups = 1024
 
--- Whether a member of a group or of a header ends in a group, anywhere in the canvas. It is said of
--- the canvas as it was written, and says the same of the members' normal lines, since rewriting
--- keeps what a line ends in where no chain is empty, which is refused before: `nested_in_lines` of
--- proofs/NormalEnds.
+-- Whether a member of a group or of a header ends in a group, anywhere in the canvas as written. It
+-- holds equally for the members' normal lines, since rewriting keeps the ends of a line if no chain
+-- is empty (`nested_in_lines` of proofs/NormalEnds); an empty chain is refused first. So each
+-- member of a canvas ends in one task.
 abbrev mutual
   pub nests_group : Tree → Bool
   nests_group (one t) = false

@@ -1,7 +1,7 @@
--- What a canvas means: a state for each task, and what flows out (Celery user guide, Canvas: a
+-- The meaning of a canvas: a state for each task, and a flow out (Celery user guide, Canvas: a
 -- result is the next task's first argument unless that is immutable; links run on a success, error
 -- callbacks on a failure; a chord's body gets the list of its header's results, or a ChordError).
--- What the tasks do is a parameter, their behaviour.
+-- The behaviour of the tasks is a parameter.
 use Rattle.std.specs.Prelude.{ℕ, ◌==◌, if◌then◌else◌, List, [], ◌∷◌, ◌++◌, map, Option, Some, None, ℤ}
 use Rattle.canvas_task.specs.declared.arg.Arg.{Arg}
 use Rattle.canvas_task.specs.declared.arg.Arg.TheVariants as arg
@@ -15,7 +15,7 @@ use Rattle.canvas_task.specs.Apply.{Behaviour}
 use Rattle.canvas_task.specs.Identifiers.{task_text}
 use Rattle.canvas_semantics.specs.Tree.{Call, Task, task, Tasks, no_tasks, and_task, Tree, one, chain, group, chord, Trees, no_trees, and_tree, numbered}
 
--- What reaches an element: nothing, a number, a list of numbers, the identifier of a task as text,
+-- The input of an element: nothing, a number, a list of numbers, the identifier of a task as text,
 -- an exception that skips, or an exception that is raised.
 pub data Flow : Type 0 where
   nothing : Flow
@@ -29,11 +29,11 @@ pub data Flow : Type 0 where
 abbrev pub State : Type 0
 State = Option Outcome
 
--- the states of tasks, each beside its task's number
+-- the states of tasks, each with its task's number
 abbrev pub Rows : Type 0
 Rows = List (ℕ × State)
 
--- what evaluating an element gives
+-- the result of evaluating an element
 pub record Meaning : Type 0 where
   pub rows : Rows
   pub out : Flow
@@ -49,7 +49,7 @@ value (id k) = arg.Text (task_text k) ∷ []
 value (skip f) = []
 value (raised f) = []
 
--- a task's own arguments; unless it is immutable, the value of the flow stands in front
+-- the value of the flow and then a task's own arguments, or only these if the task is immutable
 abbrev pub arguments : Call → Flow → List Arg
 arguments call x = if call.immutable then call.args else value x ++ call.args
 
@@ -66,13 +66,13 @@ to_errbacks k (Some (skip f)) s = None
 to_errbacks k x (Some (Failure f)) = Some (id k)
 to_errbacks k x s = None
 
--- what goes out of a task
+-- the flow out of a task
 abbrev pub passed_on : State → Flow
 passed_on (Some (Success n)) = num n
 passed_on (Some (Failure f)) = skip f
 passed_on None = nothing
 
--- the state of a task for a flow; what is evaluated with no flow is pending
+-- the state of a task for a flow; a task that gets no flow is pending
 abbrev pub state : Behaviour → Call → Option Flow → State
 state behaviour call None = None
 state behaviour call (Some (skip f)) = Some (Failure f)
@@ -97,9 +97,9 @@ module _ (behaviour : Behaviour) where
         out = passed_on (state behaviour call (Some x));
       }
 
--- ---- the ends of an element, and what goes out of a group
+-- ---- the ends of an element, and the flow out of a group
 
--- itself, those of a chain's last element, of a group's members in order, or of a chord's body
+-- the task, the ends of a chain's last element, of a group's members in order, or of a chord's body
 abbrev mutual
   pub ends : Tree → List ℕ
   ends (one (task k call links errbacks)) = k ∷ []
@@ -128,20 +128,20 @@ abbrev pub why_of : Fault → Why
 why_of (fault.Plain kind) = why.Plain kind
 why_of (fault.Chord dep _) = why.Chord
 
--- a number in front of a list that flows
+-- prepends a number to a list that flows
 abbrev pub in_front : ℤ → Flow → Flow
 in_front n (list ns) = list (n ∷ ns)
 in_front n x = x
 
--- The list of the results of the members' ends, in order. Where one failed, a ChordError instead,
--- which names the first that failed, with the kind of its exception.
+-- The list of the results of the members' ends, in order. If one failed, a ChordError instead,
+-- which names the first that failed and the kind of its exception.
 abbrev pub gathered : Rows → Flow
 gathered [] = list []
 gathered ((k, Some (Success n)) ∷ es) = in_front n (gathered es)
 gathered ((k, Some (Failure f)) ∷ es) = raised (fault.Chord k (why_of f))
 gathered ((k, None) ∷ es) = gathered es
 
--- what goes out of a group with a flow, given its members' ends
+-- the flow out of a group that got the flow x, from its members' ends
 abbrev pub group_value : Flow → Rows → Flow
 group_value (skip f) es = skip f
 group_value (raised f) [] = raised f
@@ -149,15 +149,15 @@ group_value x es = gathered es
 
 -- ---- elements
 
--- rows in front of a meaning
+-- a meaning with rows put in front of its own
 abbrev pub behind : Rows → Meaning → Meaning
 behind rows m = record { rows = rows ++ m.rows; out = m.out }
 
--- what goes out of the first goes into the next
+-- the flow out of the first goes into the next
 abbrev pub and_then : Meaning → (Flow → Meaning) → Meaning
 and_then first next = behind first.rows (next first.out)
 
--- the members with their rows, as a group
+-- the members as a group, with their rows
 abbrev pub as_group : Flow → Trees → Rows → Meaning
 as_group x ms rows = record { rows = rows; out = group_value x (with_states rows (all_ends ms)) }
 
@@ -173,7 +173,7 @@ module _ (behaviour : Behaviour) where
     eval_chain no_trees x = record { rows = []; out = x }
     eval_chain (and_tree t ts) x = and_then (eval t x) (eval_chain ts)
 
-    -- each member has the flow that comes in
+    -- each member gets the group's flow
     pub member_rows : Trees → Flow → Rows
     member_rows no_trees x = []
     member_rows (and_tree t ts) x = (eval t x).rows ++ member_rows ts x

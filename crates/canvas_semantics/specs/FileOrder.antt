@@ -1,10 +1,10 @@
 -- Lines whose tasks are numbered in the order of the file, and whose groups and chords have the
--- members that a table says.
+-- members that a table gives.
 use Rattle.std.specs.Prelude.{ℕ, suc, ◌≤◌, ◌≡◌, Bool, true, false, List}
 use Rattle.canvas_semantics.specs.Tree.{Task, task, Tasks, no_tasks, and_task}
 use Rattle.canvas_semantics.specs.Line.{Line, stop, step, group_end, chord_end, Lines, no_lines, and_line, all_ends_of}
 
--- numbers from the first bound on and below the second: a task, its links, its error callbacks
+-- numbers from the first bound to below the second: a task, its links, its error callbacks
 abbrev mutual
   pub TaskIn : Task → ℕ → ℕ → Type 0
   TaskIn (task k call links errbacks) low high =
@@ -14,7 +14,7 @@ abbrev mutual
   TasksIn no_tasks low high = low ≤ high
   TasksIn (and_task t ts) low high = (middle : ℕ) × TaskIn t low middle × TasksIn ts middle high
 
--- the line ends in a task, or is empty behind one
+-- the line ends in a task, or is empty after one
 abbrev pub EndsInTask : Bool → Line → Type 0
 EndsInTask behind stop = behind ≡ true
 EndsInTask behind (step t rest) = EndsInTask true rest

@@ -1,10 +1,10 @@
--- The groups and chords of a canvas, each with what its members end in (Celery user guide, Canvas:
--- groups and chords).
+-- The groups and chords of a canvas, each with its members' ends (Celery user guide, Canvas: groups
+-- and chords).
 use Rattle.std.specs.Prelude.{ℕ, List, [], ◌∷◌, ◌++◌}
 use Rattle.canvas_semantics.specs.Evaluation.{all_ends}
 use Rattle.canvas_semantics.specs.Tree.{Tree, one, chain, group, chord, Trees, no_trees, and_tree}
 
--- by number, in file order: a group or chord before those that stand in it, a header before the
+-- the groups and chords in file order: a group or chord before those inside it, a header before the
 -- body
 abbrev mutual
   pub groups_of : Tree → List (ℕ × List ℕ)

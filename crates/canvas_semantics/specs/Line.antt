@@ -1,6 +1,6 @@
--- Lines as data: tasks, then nothing, a group, or a chord with what follows it as its body. What a
--- plan and its messages are made of (Celery user guide, Canvas: chains, groups and chords; a group
--- that a task follows is a chord).
+-- Lines as data: tasks, then nothing, a group, or a chord whose body is what follows it. Plans and
+-- messages consist of lines (Celery user guide, Canvas: chains, groups and chords; a group that a
+-- task follows is a chord). A line cannot contain a chain in a chain.
 use Rattle.std.specs.Prelude.{ℕ, zero, suc, ◌+◌, List, [], ◌∷◌, ◌++◌, Bool, true, false, Option, Some, None, length, slice_get, if◌then◌else◌}
 use Rattle.canvas_semantics.specs.Tree.{Task, task, Tasks, no_tasks, and_task, Tree, one, chain, group, chord, Trees, no_trees, and_tree, count_task, number_task}
 
@@ -88,7 +88,7 @@ abbrev mutual
   all_ends_of no_lines = []
   all_ends_of (and_line m ms) = ends_of m ++ all_ends_of ms
 
--- ---- what a plan keeps: names in file order, and groups and chords by number
+-- ---- the contents of a plan: names in file order, and groups and chords by number
 
 -- a task's name, then those of its links, then those of its error callbacks
 abbrev mutual
@@ -99,7 +99,7 @@ abbrev mutual
   tasks_names no_tasks = []
   tasks_names (and_task t ts) = task_names t ++ tasks_names ts
 
--- the i-th is that of task i
+-- the i-th name is that of task i
 abbrev mutual
   pub names : Line → List (List ℕ)
   names stop = []
@@ -111,12 +111,12 @@ abbrev mutual
   all_names no_lines = []
   all_names (and_line m ms) = names m ++ all_names ms
 
--- a group, or a chord, with the ends of its members
+-- a group or chord, with the ends of its members
 pub record GroupEntry : Type 0 where
   pub chord : Bool
   pub members : List ℕ
 
--- in file order, so that the i-th has number i
+-- the entries in file order, so that the i-th has number i
 abbrev mutual
   pub group_entries : Line → List GroupEntry
   group_entries stop = []
@@ -135,7 +135,7 @@ abbrev pub entry_at : List GroupEntry → ℕ → Option GroupEntry
 entry_at ts zero = None
 entry_at ts (suc g) = slice_get ts g
 
--- the ends of the members of a group or chord; none of an unknown number
+-- the ends of the members of a group or chord; an unknown number has none
 abbrev pub entry_members : Option GroupEntry → List ℕ
 entry_members None = []
 entry_members (Some t) = t.members
@@ -143,7 +143,7 @@ entry_members (Some t) = t.members
 abbrev pub members : Line → ℕ → List ℕ
 members l g = entry_members (entry_at (group_entries l) g)
 
--- how many members a chord has; none of a group
+-- the number of members of a chord; None for a group
 abbrev pub entry_size : Option GroupEntry → Option ℕ
 entry_size None = None
 entry_size (Some t) = if t.chord then Some (length t.members) else None

@@ -1,4 +1,4 @@
--- How deeply signatures stand in each other, as a canvas was written. The measure is this project's
+-- The depth to which signatures are nested in a canvas as written. The measure is this project's
 -- own.
 use Rattle.std.specs.Prelude.{ℕ, ◌+◌, max}
 use Rattle.canvas_semantics.specs.Tree.{Task, task, Tasks, no_tasks, and_task, Tree, one, chain, group, chord, Trees, no_trees, and_tree}

@@ -4,13 +4,13 @@
 use Rattle.std.specs.Prelude.{ℕ}
 use Rattle.canvas_semantics.specs.Tree.{Tree, one, chain, group, chord, Trees, no_trees, and_tree}
 
--- a group whose members are lines, and what follows it: with something after it, it becomes a chord
+-- a group whose members are lines; if something follows it, it becomes a chord
 abbrev pub group_onto : ℕ → Trees → Trees → Trees
 group_onto g members no_trees = and_tree (group g members) no_trees
 group_onto g members (and_tree t ts) = and_tree (chord g members (chain (and_tree t ts))) no_trees
 
--- The elements of the line of an element that something follows: `after`, the elements of a line.
--- A chain is flattened, and what follows a chord is added to its body.
+-- The elements of the line of an element followed by `after`, which are the elements of a line. A
+-- chain is flattened, and what follows a chord is added to its body.
 abbrev mutual
   pub onto : Tree → Trees → Trees
   onto (one t) after = and_tree (one t) after

@@ -4,8 +4,8 @@ use Rattle.std.specs.Prelude.{ℕ}
 use Rattle.canvas_semantics.specs.Tree.{Call, Task, task, Tasks, no_tasks, and_task}
 use Rattle.canvas_semantics.specs.Line.{Line, stop, step, group_end, chord_end, Lines, no_lines, and_line}
 
--- A place is where the end of a line goes: nowhere, to a group, or to a chord with how many members
--- it has and what follows it. Only the last task of a line has one.
+-- The place where the end of a line goes: nowhere, to a group, or to a chord, with its number of
+-- members and its body. Only the last task of a line has one.
 mutual
   pub data PTask : Type 0 where
     p_task : (number : ℕ) → Call → (links errbacks : PTasks) → PPlace → PTask
@@ -29,7 +29,7 @@ mutual
     no_p_lines : PLines
     and_p_line : PLine → PLines → PLines
 
--- a line with no place in it
+-- a line with no places
 abbrev mutual
   pub bare_task : Task → PTask
   bare_task (task k call links errbacks) =

@@ -10,7 +10,7 @@ use Rattle.canvas_task.specs.Printed.{fault_text}
 use Rattle.canvas_semantics.specs.Tree.{ends_in_group, Task, task, Tasks, no_tasks, and_task, Tree, one, chain, group, chord, Trees, no_trees, and_tree, numbered}
 use Rattle.canvas_semantics.specs.Evaluation.{State, Rows, state_of, with_states, ends, meaning}
 
--- the state and the value of a task, as a line of the report has them
+-- the state and the value of a task, as in its line of the report
 abbrev pub state_name : State → Text
 state_name None = codes "PENDING"
 state_name (Some (Success n)) = codes "SUCCESS"
@@ -31,7 +31,7 @@ abbrev mutual
   names_of_tasks no_tasks = []
   names_of_tasks (and_task t ts) = names_of_task t ++ names_of_tasks ts
 
--- the same of a whole tree
+-- the names of a whole tree
 abbrev mutual
   pub names_by_number : Tree → List (ℕ × Text)
   names_by_number (one t) = names_of_task t
@@ -43,7 +43,7 @@ abbrev mutual
   all_names_by_number no_trees = []
   all_names_by_number (and_tree t ts) = names_by_number t ++ all_names_by_number ts
 
--- names with numbers, from one on
+-- names with numbers, counted from k
 abbrev pub counted_from : ℕ → List Text → List (ℕ × Text)
 counted_from k [] = []
 counted_from k (n ∷ ns) = (k, n) ∷ counted_from (k + 1) ns
@@ -54,7 +54,7 @@ report_line t s =
     task_text t.0 ++ codes " " ++ t.1 ++ codes " " ++ state_name s ++ codes " " ++ value_text s
     ++ codes "\n"
 
--- one for each task
+-- one line for each task
 abbrev pub report_lines : List (ℕ × Text) → Rows → Text
 report_lines [] rows = []
 report_lines (t ∷ ts) rows = report_line t (state_of t.0 rows) ++ report_lines ts rows
@@ -65,7 +65,7 @@ listed_values [] = []
 listed_values (e ∷ []) = value_text e.1
 listed_values (e ∷ es) = value_text e.1 ++ codes ", " ++ listed_values es
 
--- the result of a canvas, a list where it ends in a group
+-- the result of a canvas, a list if it ends in a group
 abbrev pub result_text : Bool → Rows → Text
 result_text true es = codes "[" ++ listed_values es ++ codes "]"
 result_text false es = listed_values es

@@ -6,8 +6,8 @@ use Rattle.canvas_semantics.specs.Evaluation.{Flow, eval, ends}
 use Rattle.canvas_semantics.specs.Groups.{groups_of}
 use Rattle.canvas_semantics.specs.Tree.{ends_in_group, Tree, numbered}
 
--- Whatever the tasks do, for every flow the states are the same, number by number, and so is what
--- flows out. The ends are the same, and so is each group and chord.
+-- For all behaviours of tasks and every flow, the states are the same, number by number, and so is
+-- the flow out. The ends are the same, and so is each group and chord.
 pub record IsSame (s t : Tree) : Type 0 where
   pub means : (behaviour : Behaviour) (x : Flow)
       → eval behaviour (numbered s) x ≡ eval behaviour (numbered t) x

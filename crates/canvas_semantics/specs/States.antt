@@ -5,22 +5,22 @@ use Rattle.canvas_task.specs.Apply.{Behaviour}
 use Rattle.canvas_semantics.specs.Tree.{Tree, count}
 use Rattle.canvas_semantics.specs.Evaluation.{State, Rows, state_of, eval, nothing}
 
--- n numbers from k on
+-- n numbers, counted from k
 abbrev pub numbers_from : ℕ → ℕ → List ℕ
 numbers_from k zero = []
 numbers_from k (suc n) = k ∷ numbers_from (suc k) n
 
--- states as rows, the first being that of task k
+-- states as rows; the first is that of task k
 abbrev pub rows_from : ℕ → List State → Rows
 rows_from k [] = []
 rows_from k (s ∷ ss) = (k, s) ∷ rows_from (suc k) ss
 
--- of a numbered canvas: the state of each task that evaluating it gives
+-- the state of each task after evaluating a numbered canvas
 abbrev pub states : Behaviour → Tree → List State
 states behaviour c =
     map (λ k. state_of k (eval behaviour c nothing).rows) (numbers_from 1 (count c))
 
--- each is pending, or the other
+-- each state is pending, or equals the other
 abbrev pub EachMay : List State → List State → Type 0
 EachMay [] [] = Unit
 EachMay (x ∷ xs) (y ∷ ys) = ((x ≡ None) ⊎ (x ≡ y)) × EachMay xs ys

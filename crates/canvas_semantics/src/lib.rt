@@ -1,6 +1,6 @@
-//! What a canvas means, as plain data: its tree, its normal line, and the states and the report
-//! that evaluating it gives. There is no running code here but limits: each function has an empty
-//! body, and its contract is a law.
+//! The meaning of a canvas as plain data: its tree, its normal line, and the states and the report
+//! that evaluating it gives. No code runs here: the functions have empty bodies, and their
+//! contracts are laws. Only the limits are constants for code.
 #![tactic(auto)]
 
 mod limits;
@@ -17,10 +17,10 @@ ghost use Rattle.canvas_semantics.specs.Tree.{Tree, IsFull, count, count_groups,
 
 pub use limits::{MOST_GROUPS, MOST_NESTING, MOST_REACH, MOST_TASKS, MOST_WORKERS};
 
-/// The law of the normal line. Where no chain is empty, the normal line of a canvas means what the
-/// canvas means, whatever its tasks do: for every flow each task has the same state by its number,
-/// and the same flows out. What both end in is the same, and each group and chord has the same
-/// number and the same members' ends. So the report is the same.
+/// States the law of the normal line: if no chain is empty, the normal line of a canvas means what
+/// the canvas means, for all behaviours of tasks. For every flow each task has the same state by
+/// its number, and the same flows out. Both end in the same tasks, and each group and chord has the
+/// same number and the same members' ends. So the report is the same.
 pub fn law_of_normal_lines()
     ensures same { (c : Tree) → IsFull c → IsSame (normal c) c }
     ensures tasks { (c : Tree) → count (normal c) ≡ count c }
@@ -30,10 +30,11 @@ pub fn law_of_normal_lines()
         ≡ report behaviour c }
 {}
 
-/// The states of a plan are those of its canvas, whatever the tasks do. Canvases that mean the same
-/// have the same states, number by number. So where a line is the normal line of a canvas in which
-/// no chain is empty, evaluating its tree, with its numbers in file order, gives the states of the
-/// canvas. These are all rows of the canvas's meaning: one for each task, in order.
+/// States that the states of a plan are those of its canvas, for all behaviours of tasks. Canvases
+/// that mean the same have the same states, number by number. If a line is the normal line of a
+/// canvas in which no chain is empty, evaluating its tree, with its numbers in file order, gives
+/// the states of the canvas. These are all rows of the canvas's meaning: one for each task, in
+/// order.
 pub fn law_of_plan_states()
     ensures same { (behaviour : Behaviour) (s t : Tree) → IsSame s t
         → states behaviour (numbered s) ≡ states behaviour (numbered t) }

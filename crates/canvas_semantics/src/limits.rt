@@ -1,16 +1,16 @@
-//! How deep and how large a canvas may be, and how many workers a run may have.
+//! Limits: the depth and the size of a canvas, and the number of workers of a run.
 
-/// How deeply signatures may stand in each other.
+/// The greatest depth to which signatures may be nested in a canvas.
 pub const MOST_NESTING: u32 = 8;
 
-/// How deeply they may stand in each other in a message.
+/// The greatest depth to which signatures may be nested in a message.
 pub const MOST_REACH: u32 = 32;
 
-/// How many tasks a canvas has at most, and so how many members a header.
+/// The greatest number of tasks of a canvas, and so of members of a header.
 pub const MOST_TASKS: u32 = 1024;
 
-/// How many groups and chords it has at most.
+/// The greatest number of groups and chords of a canvas.
 pub const MOST_GROUPS: u32 = 1024;
 
-/// How many workers a run has at most.
+/// The greatest number of workers of a run.
 pub const MOST_WORKERS: u32 = 16;

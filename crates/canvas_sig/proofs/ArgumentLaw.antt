@@ -1,4 +1,4 @@
--- Reading an argument gives its fault, or what it stands for.
+-- Reading an argument gives its fault, or the argument that it spells.
 use Rattle.std.proofs.Common.{◌≡◌, ℤ, List, [], ◌∷◌, map, Bool, true, false, Option, Some, None, Result, Ok, Err, refl, ap, subst, ◌∙◌}
 use Rattle.std.specs.Prelude.{not, ◌&&◌, if◌then◌else◌}
 use Rattle.std.specs.List.{list_all}

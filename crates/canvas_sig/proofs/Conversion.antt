@@ -76,7 +76,7 @@ module _ (p : Parse json.Json) where
   pub items_over : (n : ℕ) (ts r : List Token) → length ts ≤ n → after_end_array ts ≡ Some r → converted of_items (items p n ts) ≡ Some (no_items, r)
   items_over n ts r enough e = ap (converted of_items) (items_end p n ts r enough e)
 
--- ---- an object's loop, behind the members that were put before
+-- ---- an object's loop, after the members that were already inserted
 
 module _ (old : Members) where
   first_member : (k : List ℕ) (j : json.Json) (d : Data) → of_json j ≡ Some d → (o : Option (json.Members × List Token))

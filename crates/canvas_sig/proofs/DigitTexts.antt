@@ -1,4 +1,4 @@
--- A text of digits alone is the number that they write.
+-- A text of only digits is the number that they write.
 use Rattle.std.proofs.Common.{◌≡◌, ℕ, ◌+◌, ◌-◌, ◌*◌, ◌^◌, ◌≤◌, ◌<◌, true, false, List, [], ◌++◌, length, get_or, take, Option, Some, None, IfSome, refl, sym, ap, ◌∙◌, append-nil, arith, lt-ltb, ne_eqb}
 use Rattle.std.specs.Int.{IsInRange}
 use Rattle.std.specs.Str.Parse.{IsNumeral, AllDigits, digits_value}

@@ -4,7 +4,7 @@ use Rattle.std.proofs.Math.Seq.{drop-cons}
 use Rattle.canvas_values.specs.declared.fault.SigFault.{SigFault}
 use Rattle.canvas_values.specs.Answers.{◌>>=◌, in_turn}
 
--- the item that a loop is at, and those behind it, as they are seen
+-- the item of a loop's turn and those after it, as data
 pub next_of : {X Y : Type 0} (view : X → Y) (xs : List X) (i : ℕ) (x d : X) → i < length xs → get_or xs i d ≡ x
     → map view (drop i xs) ≡ view x ∷ map view (drop (i + 1) xs)
 next_of view xs i x d lt is =
@@ -24,7 +24,7 @@ pub one_more : {A B : Type 0} (f : A → Result B SigFault) (front : List B) (x 
     → onto front (in_turn f (x ∷ xs)) ≡ onto (front ++ y ∷ []) (in_turn f xs)
 one_more f front x xs y is = rw is (regroup front y (in_turn f xs))
 
--- one more was read, and put behind the others
+-- one more was read, and appended to the others
 pub next_read : {A B : Type 0} (f : A → Result B SigFault) (front new : List B) (y : B) (x : A) (left now : List A)
     → new ≡ front ++ y ∷ [] → f x ≡ Ok y → left ≡ x ∷ now → onto front (in_turn f left) ≡ onto new (in_turn f now)
 next_read f front new y x left now pushed read next =

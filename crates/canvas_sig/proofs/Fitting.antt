@@ -115,7 +115,7 @@ call_fits linked d sorted signature fine =
 
 -- ---- tasks
 
--- a list of signatures without a fault, by what is said of one
+-- a list of signatures without a fault, from the statement about one
 each_task : (f : Data → Task) (g : Data → Option SigFault) → ((d : Data) → IsSorted d → g d ≡ None → TaskFits (f d))
     → (ds : List Data) → AllSorted ds → first_fault g ds ≡ None → TasksFit (tasks_of (map f ds))
 each_task f g fits [] sorted h = tt
@@ -205,7 +205,7 @@ first_then g (x ∷ ds) d h =
 kwarg_sorted : (k : Text) (d : Data) → IsSorted d → IsSorted (field k (kwargs d))
 kwarg_sorted k d sorted = field_sorted k (kwargs d) (field_sorted (codes "kwargs") d sorted)
 
--- one level, by what is said of the signatures inside
+-- one level, from the statements about the signatures inside
 level_fits : (t : Task) (f : Data → Tree) (g : Data → Option SigFault) → ((d : Data) → IsSorted d → g d ≡ None → TreeFits (f d))
     → (p : Option Primitive) (d : Data) → IsSorted d → fault_as false d p ≡ None → first_fault g (in_kwargs p d) ≡ None → (p ≡ Some kind.Task → TaskFits t)
     → TreeFits (tree_from t f p d)

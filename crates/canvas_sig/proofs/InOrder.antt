@@ -113,7 +113,7 @@ read_sorted text d h =
     let found = some_then of_json (option_and_then (λ p. json.if_last p.0 p.1) (json.value max_depth (tokens text))) d h in
     json_sorted found.0 d found.2
 
--- ---- what stands in them
+-- ---- the contents of the members
 
 abbrev pub AllSorted : List Data → Type 0
 AllSorted [] = Unit {0}

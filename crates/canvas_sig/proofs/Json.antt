@@ -1,4 +1,4 @@
--- The argument that a JSON list stands for.
+-- The argument that a JSON list spells.
 use Rattle.std.proofs.Common.{◌≡◌, ℕ, ◌+◌, ◌<◌, length, get_or, drop, arith, List, [], ◌∷◌, map, Vec, Global, refl, sym, ap, ◌∙◌}
 use Rattle.std.specs.List.{list_all}
 use Rattle.std.specs.Prelude.{true, Result, Ok, Err, IfErr, IsTrue}

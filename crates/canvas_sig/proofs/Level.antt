@@ -69,7 +69,7 @@ pub none_seen : {X Y : Type 0} (view : X → Y) (f : Data → Result Y SigFault)
     → in_turn f ds ≡ onto (map view new) (in_turn f ds)
 none_seen view f ds new none = nothing_before (in_turn f ds) ∙ ap (λ xs. onto (map view xs) (in_turn f ds)) (sym none)
 
--- behind the last, all was read
+-- after the last, all was read
 pub all_seen : {X Y Z : Type 0} (view : X → Y) (see : Z → Data) (f : Data → Result Y SigFault) (new : List X) (vs : List Z) (i : ℕ)
     → length vs ≤ i → onto (map view new) (in_turn f (map see (drop i vs))) ≡ Ok (map view new)
 all_seen view see f new vs i past =

@@ -1,4 +1,4 @@
--- What the lexer makes of a text, by what stands first in it.
+-- The lexer's result on a text, by its first byte.
 use Rattle.std.proofs.Common.{◌≡◌, ◌≢◌, ℕ, zero, suc, ◌+◌, ◌-◌, ◌<◌, ◌≤◌, Bool, true, false, cond, ◌==◌, ◌||◌, List, [], ◌∷◌, ◌++◌, length, take, drop, get_or, codes, Some, None, option_and_then, inl, inr, refl, sym, ap, ap₂, ◌∙◌, subst, arith}
 use Rattle.std.proofs.lemmas.Bool.{true≢false, false≢true, or_parts, not-true, eqb-false, ltb-false, ne_eqb, eqb-true, leb-true, and_parts}
 use Rattle.std.proofs.lemmas.List.{get_or_default, take_all, take-append-drop, drop_all}
@@ -108,7 +108,7 @@ at_text t n e is closing =
     sym (take-append-drop n xs) ∙ ap₂ (λ a b. a ++ b) (sym same) (headed (drop n xs) 34 closing (λ z. omega (arith, z))) in
     ap (lex between) (headed t 34 e (λ z. omega (arith, z))) ∙ quoted xs s r whole
 
--- ---- digits alone
+-- ---- numbers of only digits
 
 run_step : (p : Bool) (x n : ℕ) (xs : List ℕ) → p ≡ is_ascii_digit x → prefix_len is_ascii_digit (take n xs) ≡ n
     → prefix_len is_ascii_digit (take (cond p (1 + n) 0) (x ∷ xs)) ≡ cond p (1 + n) 0

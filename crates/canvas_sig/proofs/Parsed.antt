@@ -74,7 +74,7 @@ pub found_later : (name : List ℕ) (e : Named) (es : List Named) → (name ≡ 
     → get_member name (members_view (e ∷ es)) ≡ get_member name (members_view es)
 found_later name e es other = either (slice_cmp nat_cmp name e.0.now) _ _ (is_eq-slice_cmp name e.0.now ∙ differ name e.0.now _ refl other)
 
--- the member that a loop is at, and those behind it
+-- the member of a loop's turn, and those after it
 pub next_member : (xs : List Named) (i : ℕ) (x d : Named) → i < length xs → get_or xs i d ≡ x → drop i xs ≡ x ∷ drop (i + 1) xs
 next_member xs i x d lt is =
     let up : suc i ≡ i + 1 = omega arith in
@@ -98,7 +98,7 @@ put_pushed (x ∷ es) e ms = put_pushed es e (put x.0.now (view x.1) ms)
 pub one_more : (xs : List Named) (i : ℕ) (x d : Named) → i < length xs → get_or xs i d ≡ x → take (i + 1) xs ≡ take i xs ++ x ∷ []
 one_more xs i x d lt is = take_more xs i d lt ∙ ap (λ y. take i xs ++ y ∷ []) is
 
--- one behind all others goes last
+-- a name that is greater than all others goes last
 pub put_last : (es : List Named) (e : Named) → AllBelow es e.0.now → put e.0.now (view e.1) (members_view es) ≡ members_view (es ++ e ∷ [])
 put_last [] e h = refl
 put_last (x ∷ es) e h =
@@ -143,14 +143,14 @@ put_at (e ∷ es) (suc i) k d x lt h same is =
     let above : slice_cmp nat_cmp k e.0.now ≡ Greater = nat_list_cmp_total.antisymm k e.0.now ∙ ap ordering_reverse h.0 in
     rw above (ap (member e.0.now (view e.1)) (put_at es i k d x (omega (arith, lt)) h.1 same is))
 
--- one more that stands before the name
+-- one more that is less than the name
 pub still_below : (es : List Named) (e : Named) (k : List ℕ) → AllBelow es k → slice_cmp nat_cmp e.0.now k ≡ Less → AllBelow (es ++ e ∷ []) k
 still_below [] e k h low = (low, tt)
 still_below (x ∷ es) e k h low = (h.0, still_below es e k h.1 low)
 
 -- ---- a stack
 
--- what stands on it above where it began
+-- the part of the stack above its length at the start
 pub since_start : (now old found : List Named) (n : ℕ) → n ≡ length old → now ≡ old ++ found → take (length now - n) (drop n now) ≡ found
 since_start now old found n is stack =
     let above : drop n now ≡ found = ap (λ k. drop k now) is ∙ ap (drop (length old)) stack ∙ drop-append_seam old found in

@@ -1,4 +1,4 @@
--- The tokens of what is left of a text, by where reading stands in it.
+-- The tokens of the rest of a text, by the place of reading.
 use Rattle.std.proofs.Common.{◌≡◌, ◌≢◌, ℕ, ◌<◌, Bool, true, false, cond, ◌==◌, List, [], ◌∷◌, length, drop, Option, Some, None, IfSome, inl, inr, refl, sym, ap, ◌∙◌, arith}
 use Rattle.std.specs.Prelude.{unwrap_or}
 use Rattle.std.proofs.lemmas.Bool.{true≢false, false≢true, ne_eqb}
@@ -56,7 +56,7 @@ value_as_fresh t (inl e) = ap (λ u. punctuate after_value (lex between u)) e �
 value_as_fresh t (inr (inl e)) = ap (punctuate after_value) (at_mark 93 t refl e) ∙ sym (ap (punctuate fresh) (at_mark 93 t refl e))
 value_as_fresh t (inr (inr e)) = ap (punctuate after_value) (at_mark 125 t refl e) ∙ sym (ap (punctuate fresh) (at_mark 125 t refl e))
 
--- behind a comma all but a bracket that closes is as it is where nothing stands before
+-- after a comma everything but a closing bracket reads as it does at the start
 
 abbrev IsNoEnd : Token → Type 0
 IsNoEnd end_object = ⊥

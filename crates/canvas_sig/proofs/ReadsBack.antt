@@ -16,7 +16,7 @@ put_behind : (k : List ℕ) (d : Data) (ms : Members) → IsAbove k ms → put k
 put_behind k d no_members h = refl
 put_behind k d (member l e ms) h = rw (h.0) (ap (member l e) (put_behind k d ms h.1))
 
--- all of them, behind those before
+-- all of them, after the earlier ones
 abbrev join : Members → Members → Members
 join no_members more = more
 join (member k d ms) more = member k d (join ms more)

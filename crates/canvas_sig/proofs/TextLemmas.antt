@@ -38,7 +38,7 @@ signature_judged bytes d json =
     let low = depth-read bytes d (read_json_of (is_utf8 bytes) (read_json bytes) d json) in
     tree_judged (suc max_depth) d ∙ ap₂ judged (fault_enough (suc max_depth) d (omega (arith, low))) (tree_enough (suc max_depth) d (omega (arith, low)))
 
--- where reading gave a tree, the limits of a canvas alone may refuse it
+-- if reading gave a tree, only the limits of a canvas may refuse it
 limits_decide : (text : Text) (d : Data) (t : Tree) → json_of text ≡ Some d → tree_reading (suc max_depth) d ≡ Ok t
     → canvas_reading d ≡ judged (tree_fault t) t
 limits_decide text d t json h =

@@ -1,4 +1,4 @@
--- The data that a borrowed value stands for.
+-- The data that contracts see of a borrowed value.
 use Rattle.std.specs.Prelude.{ℕ, List, [], ◌∷◌, Option, option_map, unwrap_or, map}
 use Rattle.std.specs.Borrow.{Bor}
 use Rattle.serde_json.specs.Data.{Data, null, boolean, number, string, array, object, Items, Members, no_members, member}
@@ -28,7 +28,7 @@ items_view ds = items_of (map view ds)
 abbrev pub members_view : List (Bor (List ℕ) × Datum) → Members
 members_view ms = members_of (map (λ m. (m.0, view m.1)) ms)
 
--- what a look-up found
+-- the value that a look-up found, null if there was none
 abbrev pub value_at : Option (Bor Datum) → Data
 value_at o = unwrap_or (option_map (λ v. view v.now) o) null
 

@@ -20,7 +20,7 @@ use serde_json::Number;
 use serde_json::value::Map;
 use std::alloc::Global;
 
-/// Whether a number is whole and in range.
+/// Returns whether a number is whole and in range.
 pub(crate) fn is_in_range(number: &Number) -> bool
     ensures { result ≡ some_in_range (as_i64 (number_view number.now)) }
 {
@@ -30,7 +30,7 @@ pub(crate) fn is_in_range(number: &Number) -> bool
     }
 }
 
-/// A whole number in range.
+/// Reads a whole number in range.
 pub(crate) fn whole(number: &Number) -> Result<i64, SigFault>
     ensures reading { Gives (λ n. n) result
         (in_range_or_refused (as_i64 (number_view number.now))) }
@@ -48,7 +48,7 @@ pub(crate) fn whole(number: &Number) -> Result<i64, SigFault>
     }
 }
 
-/// A whole number in range, where the value is a number.
+/// Reads a whole number in range from a value. Any other value is a bad number.
 fn read_number(value: &Datum<'_>) -> Result<i64, SigFault>
     ensures { Gives (λ n. n) result (number_reading (view value.now)) }
 {
@@ -88,7 +88,7 @@ fn read_list(alloc: Global, values: &[Datum<'_>]) -> Result<Arg, SigFault>
     Ok(Arg::List(ListOf::of(read_numbers(alloc, values)?)))
 }
 
-/// The argument that a value stands for, or its fault.
+/// Reads the argument that a value spells, or returns its fault.
 #[tactic(auto, using(crate::proofs::ArgumentLaw::reads_so))]
 fn read_argument(alloc: Global, value: &Datum<'_>) -> Result<Arg, SigFault>
     ensures { Gives (λ a. a) result (arg_reading (view value.now)) }
@@ -101,7 +101,7 @@ fn read_argument(alloc: Global, value: &Datum<'_>) -> Result<Arg, SigFault>
     }
 }
 
-/// The arguments of a list, in order, or the first fault among them.
+/// Reads the arguments of a list, in order, or returns the first fault among them.
 pub fn read_args(alloc: Global, values: &[Datum<'_>]) -> Result<Vec<Arg>, SigFault>
     ensures { Gives (λ v. v.items) result (in_turn arg_reading (map view values.now)) }
 {
@@ -112,8 +112,8 @@ pub fn read_args(alloc: Global, values: &[Datum<'_>]) -> Result<Vec<Arg>, SigFau
     Ok(args)
 }
 
-/// The arguments that an object names. Where its names didn't ascend, no map would hold them in
-/// their order; no text is read so.
+/// Reads the arguments that an object names. The names of a parsed object ascend; others, which a
+/// map would put into another order than the definition has, are answered with `Memory`.
 fn read_named(alloc: Global, members: &[(&str, Datum<'_>)]) -> Result<Map<String, Arg>, SigFault>
     ensures { Gives (λ m. named m.entries) result (in_turn named_reading (seen members.now)) }
 {
@@ -140,8 +140,8 @@ fn read_members(alloc: Global, value: &Datum<'_>) -> Result<Map<String, Arg>, Si
     }
 }
 
-/// The arguments of an object, or the first fault in the order of their names. What is missing, or
-/// is no object, has none.
+/// Reads the arguments of an object, or returns the first fault in the order of the names. A
+/// missing value, or one that is not an object, has none.
 pub fn read_kwargs(alloc: Global, field: Option<&Datum<'_>>) -> Result<Map<String, Arg>, SigFault>
     ensures { Gives (λ m. named m.entries) result
         (in_turn named_reading (object_members (value_at field.entry))) }

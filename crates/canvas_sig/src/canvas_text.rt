@@ -1,4 +1,4 @@
-//! The canvas of a text.
+//! Reading the canvas of a text.
 
 ghost use Rattle.std.specs.Prelude.{◌≡◌, ◌≢◌, ◌≤◌, Ok, Err, Some, length, IfErr, MatchResult};
 ghost use Rattle.canvas_sig.specs.Datum.{view};
@@ -14,25 +14,27 @@ use canvas_values::{Canvas, SigFault};
 use json::Scratch;
 use std::alloc::Global;
 
-/// The longest text that is read, in bytes.
+/// The greatest length of a text, in bytes.
 pub const MOST_BYTES: usize = 1_048_576;
 
-/// One more than the levels that JSON is read to, so that no signature is cut off.
+/// One more than the depth to which JSON is read, so that no nested signature is left out.
 pub const MOST_LEVELS: u32 = 128;
 
-/// How many bytes the lists of a text take at most for each byte of it: an item has 24, and two
-/// bytes spell one, and a list that grows has twice the room that it needs.
+/// The most bytes that the lists of a text take for each byte of it: an item has 24 bytes and is
+/// spelled by at least two, and a growing list has room for up to twice its items.
 const MOST_LISTS_ROOM: usize = 24;
 
-/// How many they take for each byte of a canvas as most are.
+/// The bytes that they take for each byte of a typical canvas.
 const LISTS_ROOM: usize = 4;
 
-/// A text up to so many bytes gets the room that most canvases need: malloc keeps a block of that
-/// size, and what follows the reading is laid into the pages that the lists have touched.
+/// The greatest length of a text for which the arena gets the room of a typical canvas: malloc
+/// keeps a block of that size, and the run is then laid out in the pages that the lists have
+/// touched.
 const SHORT_TEXT: usize = 131_072;
 
-/// An arena for the lists of a text, in one piece where there is memory for it, since a list grows
-/// in its place there and else leaves behind what it was. What isn't used of it stays untouched.
+/// Makes an arena for the lists of a text. It is one piece, if that allocation succeeds: only in
+/// the first piece can a list grow in place, and in a later one it leaves its old memory unused.
+/// Pages of the arena that no list uses are never touched.
 fn new_arena(alloc: Global, length: usize) -> Bump {
     let room = if length <= SHORT_TEXT {
         LISTS_ROOM
@@ -45,7 +47,7 @@ fn new_arena(alloc: Global, length: usize) -> Bump {
     }
 }
 
-/// The canvas that the JSON value of a text spells, or its first refusal.
+/// Reads the canvas that the JSON value of a text spells, or returns its first refusal.
 pub fn canvas_of(alloc: Global, value: &Datum<'_>) -> Result<Canvas, SigFault>
     requires { (text : Text) × (json_of text ≡ Some (view value.now)) }
     ensures { MatchResult result (λ canvas. canvas_reading (view value.now) ≡ Ok canvas)
@@ -55,7 +57,8 @@ pub fn canvas_of(alloc: Global, value: &Datum<'_>) -> Result<Canvas, SigFault>
     Canvas::within_limits(node)
 }
 
-/// The canvas that a text spells, or its first refusal. A text that is too large takes no memory.
+/// Reads the canvas that a text spells, or returns its first refusal. It allocates nothing for a
+/// text that is too large.
 pub fn read_canvas(alloc: Global, bytes: &[u8]) -> Result<Canvas, SigFault>
     ensures reading { MatchResult result (λ canvas. text_reading bytes.now ≡ Ok canvas)
         (λ e. e ≢ Memory → text_reading bytes.now ≡ Err e) }

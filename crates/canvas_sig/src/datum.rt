@@ -1,4 +1,5 @@
-//! JSON values whose texts, lists and objects are borrowed.
+//! JSON values whose texts, lists and objects are borrowed. Contracts see them as the data of
+//! `serde_json`'s `Value` (`Data`).
 
 ghost use Rattle.std.specs.Prelude.{◌≡◌, true, option_map};
 ghost use Rattle.canvas_values.specs.Fields.{is_object};
@@ -9,8 +10,8 @@ ghost use Rattle.canvas_sig.specs.Datum.{view, members_view};
 use crate::names::{are_same, order_of};
 use serde_json::Number;
 
-/// A JSON value. Its texts are lent by the text that was parsed, its lists and objects by an arena:
-/// it takes no memory to copy, and none to drop.
+/// A JSON value. Its texts are borrowed from the parsed text, its lists and objects from an arena
+/// that is dropped as a whole, so copying and dropping a value costs nothing.
 #[derive(Clone, Copy, Drop)]
 pub enum Datum<'a> {
     Null,
@@ -18,7 +19,8 @@ pub enum Datum<'a> {
     Number(Number),
     Text(&'a str),
     List(&'a [Datum<'a>]),
-    /// Names and values. In what was parsed, names ascend: of two alike the last one counted.
+    /// Names and values. The names of a parsed object ascend; for a duplicate name the last value
+    /// counts.
     Object(&'a [(&'a str, Datum<'a>)]),
 }
 
@@ -34,7 +36,7 @@ fn member<'a>(members: &'a [(&'a str, Datum<'a>)], name: &str) -> Option<&'a Dat
     None
 }
 
-/// Whether a name stands behind the last one.
+/// Returns whether a name comes after the last one.
 pub(crate) fn follows(last: Option<&str>, name: &str) -> bool
     ensures { result ≡ true → IsBelow (option_map (λ l. l.now) last.entry) name.now }
 {
@@ -51,7 +53,7 @@ impl<'a> Datum<'a> {
         matches!(self, Datum::Object(_))
     }
 
-    /// The member of that name. It stands where it is called, since the name is known there.
+    /// Returns the member of a name. It is inlined, since callers know the name.
     #[inline(always)]
     pub fn get(&self, name: &str) -> Option<&'a Datum<'a>>
         ensures { option_map (λ v. view v.now) result ≡ get name.now (view self.now) }

@@ -1,4 +1,4 @@
-//! Texts of JSON that have escapes (RFC 8259, section 7).
+//! Texts of JSON that contain escapes (RFC 8259, section 7).
 
 ghost use Rattle.std.specs.Prelude.{◌≡◌, ◌∷◌, List, drop, IfOk, IfSome};
 ghost use Rattle.std.specs.Str.{IsCharBoundary};
@@ -17,7 +17,7 @@ use bumpalo::Bump;
 use json::{Reader, Scratch, Token};
 use std::alloc::AllocError;
 
-/// How many bytes a text takes with its quotes; none where no quote closes it.
+/// Returns the length of a text with its quotes, in bytes. Returns None if no quote closes it.
 fn quoted_len(text: &str) -> Option<usize>
     requires { head text.now ≡ 34 }
     ensures boundary { IfSome result (λ n. IsCharBoundary text.now n) }
@@ -37,7 +37,7 @@ fn quoted_len(text: &str) -> Option<usize>
     None
 }
 
-/// A text with its quotes, and what stands behind it.
+/// Splits a text into a quoted text at its start and the rest.
 fn split_quoted<'a>(text: &'a str) -> Option<(&'a str, &'a str)>
     ensures { IfSome result (λ p. IsQuoted text.now p.0.now p.1.now) }
 {
@@ -48,7 +48,7 @@ fn split_quoted<'a>(text: &'a str) -> Option<(&'a str, &'a str)>
     Some(text.split_at(len))
 }
 
-/// What a text stands for that is given with its quotes; none where JSON has no such text.
+/// Returns the text that a quoted text encodes. Returns None if it is not a text of JSON.
 fn unescaped<'a>(
     arena: &'a Bump,
     scratch: &mut Scratch,
@@ -64,8 +64,9 @@ fn unescaped<'a>(
     }
 }
 
-/// A text with escapes as a value, and what may come behind it; none where no such text is next.
-/// It is copied into the arena, so that the scratch can be lent again.
+/// Reads a text with escapes as a value, and returns the rest and the place after it. Returns None
+/// if no such text comes next. The text is copied into the arena, so that the scratch can be
+/// borrowed again.
 pub(crate) fn escaped_token<'a>(
     arena: &'a Bump,
     scratch: &mut Scratch,

@@ -1,4 +1,4 @@
-//! Look-ups in a signature, and tests of what they found.
+//! Look-ups in a signature, and tests of the found values.
 
 ghost use Rattle.std.specs.Prelude.{◌≡◌, map};
 ghost use Rattle.serde_json.specs.Data.{null};
@@ -8,14 +8,14 @@ ghost use Rattle.canvas_values.specs.Fields.{kwarg, option, is_null, is_list, is
 use crate::datum::Datum;
 use std::slice;
 
-/// Null, or missing.
+/// Returns whether a field is null or missing.
 pub fn is_null(field: Option<&Datum<'_>>) -> bool
     ensures { result ≡ is_null (value_at field.entry) }
 {
     matches!(field, None | Some(Datum::Null))
 }
 
-/// The word `true`.
+/// Returns whether a field is `true`.
 pub fn is_true(field: Option<&Datum<'_>>) -> bool
     ensures { result ≡ is_true (value_at field.entry) }
 {
@@ -31,14 +31,14 @@ pub(crate) fn is_flag(field: Option<&Datum<'_>>) -> bool
     matches!(field, None | Some(Datum::Null | Datum::Bool(_)))
 }
 
-/// A list, null, or missing.
+/// Returns whether a field is a list, null or missing.
 pub fn is_list_or_null(field: Option<&Datum<'_>>) -> bool
     ensures { result ≡ is_list_or_null (value_at field.entry) }
 {
     matches!(field, None | Some(Datum::Null | Datum::List(_)))
 }
 
-/// An object, null, or missing.
+/// Returns whether a field is an object, null or missing.
 pub fn is_object_or_null(field: Option<&Datum<'_>>) -> bool
     ensures { result ≡ is_object_or_null (value_at field.entry) }
 {
@@ -54,14 +54,14 @@ pub(crate) fn is_link(field: Option<&Datum<'_>>) -> bool
     )
 }
 
-/// A list.
+/// Returns whether a field is a list.
 pub fn is_list(field: Option<&Datum<'_>>) -> bool
     ensures { result ≡ is_list (value_at field.entry) }
 {
     matches!(field, Some(Datum::List(_)))
 }
 
-/// Null, or a list of nothing.
+/// Returns whether a field is null, missing or an empty list.
 pub(crate) fn is_empty(field: Option<&Datum<'_>>) -> bool
     ensures { result ≡ is_empty (value_at field.entry) }
 {
@@ -90,7 +90,7 @@ fn items<'a>(value: &Datum<'a>) -> &'a [Datum<'a>]
     }
 }
 
-/// The items of a list.
+/// Returns the items of a list. Any other value has none.
 pub fn listed<'a>(field: Option<&Datum<'a>>) -> &'a [Datum<'a>]
     ensures { map view result.now ≡ listed (value_at field.entry) }
 {
@@ -110,7 +110,7 @@ fn items_or_one<'a>(value: &'a Datum<'a>) -> &'a [Datum<'a>]
     }
 }
 
-/// The items of a list, one value alone, or nothing.
+/// Returns the items of a list, a single other value, or nothing for null.
 pub fn as_list<'a>(field: Option<&'a Datum<'a>>) -> &'a [Datum<'a>]
     ensures { map view result.now ≡ as_list (value_at field.entry) }
 {
@@ -120,7 +120,7 @@ pub fn as_list<'a>(field: Option<&'a Datum<'a>>) -> &'a [Datum<'a>]
     }
 }
 
-/// A value, or the null that the caller lends where it is missing.
+/// Returns the value of a field, or `lent`, which is null, if it is missing.
 pub fn or_null<'a>(field: Option<&'a Datum<'a>>, lent: &'a Datum<'a>) -> &'a Datum<'a>
     requires { view lent.now ≡ null }
     ensures { view result.now ≡ value_at field.entry }
@@ -131,7 +131,7 @@ pub fn or_null<'a>(field: Option<&'a Datum<'a>>, lent: &'a Datum<'a>) -> &'a Dat
     }
 }
 
-/// A member of the keyword arguments.
+/// Returns a member of the keyword arguments.
 pub fn kwarg_of<'a>(value: &Datum<'a>, name: &str) -> Option<&'a Datum<'a>>
     ensures { value_at result ≡ kwarg name.now (view value.now) }
 {
@@ -141,7 +141,7 @@ pub fn kwarg_of<'a>(value: &Datum<'a>, name: &str) -> Option<&'a Datum<'a>>
     }
 }
 
-/// A member of the options.
+/// Returns a member of the options.
 pub fn option_of<'a>(value: &Datum<'a>, name: &str) -> Option<&'a Datum<'a>>
     ensures { value_at result ≡ option name.now (view value.now) }
 {

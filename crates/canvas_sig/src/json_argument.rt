@@ -1,4 +1,4 @@
-//! The argument that a JSON value of `serde_json` stands for.
+//! Reading an argument from a `Value` of `serde_json`.
 
 ghost use Rattle.std.specs.Prelude.{◌≡◌, ◌≢◌, ◌<◌, map, length, IsTrue, IfErr};
 ghost use Rattle.std.specs.List.{list_all};
@@ -15,7 +15,7 @@ use canvas_values::SigFault;
 use serde_json::Value;
 use std::alloc::Global;
 
-/// A whole number in range, where the value is a number.
+/// Reads a whole number in range from a value. Any other value is a bad number.
 fn read_number(value: &Value) -> Result<i64, SigFault>
     ensures reading { Gives (λ n. n) result (number_reading (view value.now)) }
     ensures memory { IfErr result (λ e. e ≢ Memory) }
@@ -59,8 +59,8 @@ fn read_list(alloc: Global, values: &[Value]) -> Result<Arg, SigFault>
     Ok(Arg::List(ListOf::of(read_numbers(alloc, values)?)))
 }
 
-/// The argument that a value stands for, or its fault. Memory is asked for by a text and by a list
-/// of numbers alone.
+/// Reads the argument that a value spells, or returns its fault. Only a text and a nonempty list of
+/// numbers allocate.
 #[tactic(auto, using(crate::proofs::ArgumentLaw::reads_so))]
 pub fn read_arg(alloc: Global, value: &Value) -> Result<Arg, SigFault>
     ensures reading { Gives (λ a. a) result (arg_reading (view value.now)) }

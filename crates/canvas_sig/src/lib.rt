@@ -1,4 +1,5 @@
-//! Signatures of canvases, and their JSON.
+//! Signatures as Celery writes them in JSON: reading and writing. Signatures as values, and
+//! canvases, are re-exported from `canvas_values`.
 #![tactic(auto)]
 
 mod arguments;
@@ -22,7 +23,7 @@ mod source;
 mod unread;
 mod write;
 
-/// What messages, which carry signatures, read them with.
+/// The functions with which messages read the signatures that they carry.
 pub mod parts {
     pub use crate::arguments::{read_args, read_kwargs};
     pub use crate::canvas_text::{MOST_LEVELS, canvas_of};

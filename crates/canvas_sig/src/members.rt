@@ -1,4 +1,4 @@
-//! The members of a signature, each looked up once.
+//! The members of a signature, each looked up once, for its checks and for its meaning.
 
 ghost use Rattle.std.specs.Prelude.{◌≡◌};
 ghost use Rattle.canvas_values.specs.Fields.{field, kwarg};
@@ -7,7 +7,7 @@ ghost use Rattle.canvas_sig.specs.steps.Members.{AreFound};
 
 use crate::datum::Datum;
 
-/// A value, and what it has of the members of a signature, and of those of its options.
+/// A value, with the members that it has as a signature, and those of its options.
 #[derive(Drop)]
 pub(crate) struct Members<'v> {
     pub(crate) value: &'v Datum<'v>,
@@ -22,7 +22,7 @@ pub(crate) struct Members<'v> {
     pub(crate) chord: Option<&'v Datum<'v>>,
 }
 
-/// A member of what may be missing.
+/// Returns a member of a value that may be missing.
 #[inline(always)]
 fn within<'v>(outer: Option<&'v Datum<'v>>, name: &str) -> Option<&'v Datum<'v>>
     ensures { value_at result ≡ field name.now (value_at outer.entry) }
@@ -53,7 +53,7 @@ impl<'v> Members<'v> {
         }
     }
 
-    /// A member of the keyword arguments.
+    /// Returns a member of the keyword arguments.
     pub(crate) fn kwarg(&self, name: &str) -> Option<&'v Datum<'v>>
         requires { AreFound self.now }
         ensures { value_at result ≡ kwarg name.now (view self.now.value.now) }

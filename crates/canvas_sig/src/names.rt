@@ -1,4 +1,5 @@
-//! Names of members, compared in few steps: most differ in their length or their first byte.
+//! Comparison of members' names in few steps: most names differ in their length or their first
+//! byte.
 
 ghost use Rattle.std.specs.Prelude.{◌≡◌};
 ghost use Rattle.std.specs.Ordering.{nat_cmp};
@@ -7,7 +8,7 @@ ghost use Rattle.std.specs.Str.{bytes_eq};
 
 use std::cmp::Ordering;
 
-/// The order in which two names stand.
+/// Compares two names.
 #[inline(always)]
 pub(crate) fn order_of(left: &str, right: &str) -> Ordering
     ensures { result ≡ slice_cmp nat_cmp left.now right.now }

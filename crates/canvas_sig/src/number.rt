@@ -42,10 +42,11 @@ fn is_negative(bytes: &[u8]) -> bool
     }
 }
 
-/// The most digits of which 64 bits hold each number.
+/// The greatest number of digits such that 64 bits hold every number of that length.
 const MOST_DIGITS: usize = 18;
 
-/// The number that so few bytes write, where they are digits.
+/// Returns the number of at most 18 digits, or None if one of the bytes is not a digit. No step has
+/// to check for an overflow.
 fn from_digits(bytes: &[u8]) -> Option<u64>
     requires { length bytes.now ≤ 18 }
     ensures { IfSome result (λ n. AllDigits 10 bytes.now × (n ≡ digits_value 10 bytes.now)) }
@@ -67,7 +68,7 @@ fn are_few(bytes: &[u8]) -> bool
     0 < len && len <= MOST_DIGITS
 }
 
-/// The number that a few digits alone spell.
+/// Returns the number of a text of only a few digits.
 #[inline(always)]
 fn of_digits(text: &str) -> Option<u64>
     ensures { IfSome result (λ n. number_of text.now ≡ Some (unsigned n)) }
@@ -92,8 +93,9 @@ fn of_numeral(text: &str) -> Option<Number>
     }
 }
 
-/// The number that a token spells; none where it is too large for a float. Most are few digits
-/// alone, which are read by themselves in fewer steps.
+/// Returns the number of a token, or None if it is too large for a float. Most tokens are a few
+/// digits, and these are read in fewer steps than a general numeral, which is first split into its
+/// parts.
 #[inline(always)]
 pub(crate) fn number_of(text: &str) -> Option<Number>
     ensures { option_map number_view result ≡ number_of text.now }

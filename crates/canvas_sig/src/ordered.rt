@@ -1,4 +1,4 @@
-//! Members in the order of their names.
+//! Sorting the members of an object by name.
 
 ghost use Rattle.std.specs.Prelude.{◌≡◌, true, IfOk, IfErr, OnOk};
 ghost use Rattle.serde_json.specs.Data.{no_members, put};
@@ -13,11 +13,12 @@ use serde_json::value::Map;
 use std::alloc::{AllocError, Global};
 use std::cmp::Ordering;
 
-/// So many members are put in order one after the other, which takes time in the square of their
-/// number; of more a map is made.
+/// The greatest number of members that are inserted one by one, which takes quadratic time. For
+/// more, a map is built.
 const MOST_PUT: usize = 16;
 
-/// Whether the names ascend, so that no name comes twice.
+/// Returns whether the names ascend, so that no name occurs twice. Those of a sorted `json.dumps`,
+/// and of this crate's own texts, do.
 fn ascends(members: &[(&str, Datum<'_>)]) -> bool
     ensures { result ≡ true → put_all members.now no_members ≡ members_view members.now }
 {
@@ -31,7 +32,7 @@ fn ascends(members: &[(&str, Datum<'_>)]) -> bool
     true
 }
 
-/// Where a name stands among members, or else where it would stand.
+/// Returns the index of a name among sorted members, or as an error the index where it belongs.
 fn place_of(members: &[(&str, Datum<'_>)], name: &str) -> Result<usize, usize>
     ensures found { IfOk result (λ i. StandsAt members.now name.now i) }
     ensures missing { IfErr result (λ i. BelongsAt members.now name.now i) }
@@ -47,7 +48,7 @@ fn place_of(members: &[(&str, Datum<'_>)], name: &str) -> Result<usize, usize>
     Err(index)
 }
 
-/// Puts a member in its place; the value of one of its name is replaced.
+/// Inserts a member at its place, or replaces the value of its name.
 fn put<'a>(
     members: &mut Vec<(&'a str, Datum<'a>), &'a Bump>,
     name: &'a str,
@@ -63,7 +64,7 @@ fn put<'a>(
     Ok(())
 }
 
-/// Members in the order of their names, put one after the other.
+/// Sorts members by inserting them one by one.
 fn put_in_order<'a>(
     arena: &'a Bump,
     found: &[(&'a str, Datum<'a>)],
@@ -77,7 +78,7 @@ fn put_in_order<'a>(
     Ok(into_bump_slice(members))
 }
 
-/// Members in the order of their names, the last of those of one name.
+/// Sorts members by name. For a duplicate name the last value counts.
 pub(crate) fn in_order<'a>(
     alloc: Global,
     arena: &'a Bump,
@@ -95,7 +96,7 @@ pub(crate) fn in_order<'a>(
     members_of(arena, &ordered)
 }
 
-/// A map of some members; of those of one name it has the last.
+/// Makes a map of members. For a duplicate name it has the last value.
 fn by_name<'a>(
     alloc: Global,
     found: &[(&'a str, Datum<'a>)],
@@ -109,7 +110,7 @@ fn by_name<'a>(
     Ok(ordered)
 }
 
-/// The members of a map.
+/// Returns the members of a map, in order.
 fn members_of<'a>(
     arena: &'a Bump,
     ordered: &Map<&'a str, Datum<'a>>,

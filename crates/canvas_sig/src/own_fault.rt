@@ -1,4 +1,4 @@
-//! The faults of one signature.
+//! The faults of a single signature, apart from those of nested signatures.
 
 ghost use Rattle.std.specs.Prelude.{◌≡◌, map, Some, false};
 ghost use Rattle.std.specs.List.{list_all};
@@ -19,7 +19,7 @@ use crate::primitive::primitive_of;
 use canvas_task::name_ok;
 use canvas_values::{Primitive, SigFault};
 
-/// Whether a member is the name of a task.
+/// Returns whether a member is a name that a task may have.
 pub fn is_name(field: Option<&Datum<'_>>) -> bool
     ensures { result ≡ is_name (value_at field.entry) }
 {
@@ -29,7 +29,7 @@ pub fn is_name(field: Option<&Datum<'_>>) -> bool
     }
 }
 
-/// Whether a member is this text.
+/// Returns whether a member is this text.
 pub fn is_text(field: Option<&Datum<'_>>, text: &str) -> bool
     ensures { result ≡ is_text text.now (value_at field.entry) }
 {
@@ -235,7 +235,8 @@ fn bad_number(members: &Members<'_>, primitive: Primitive) -> bool
     }
 }
 
-/// What only a task has stands on another primitive, or this stands where only a task may.
+/// Returns whether a chain, group or chord has something that only tasks may have, or is itself a
+/// link or an error callback.
 fn on_canvas(members: &Members<'_>, primitive: Primitive, linked: bool) -> bool
     requires { AreFound members.now }
     ensures { result ≡ on_canvas linked primitive (view members.now.value.now) }
@@ -288,7 +289,8 @@ fn fault_as(members: &Members<'_>, primitive: Primitive, linked: bool) -> Option
     None
 }
 
-/// The first of a signature's own faults; `linked` says that it is a link or an error callback.
+/// Returns the first of a signature's own faults; `linked` says that it is a link or an error
+/// callback.
 pub(crate) fn first_fault(members: &Members<'_>, linked: bool) -> Option<SigFault>
     requires { AreFound members.now }
     ensures { result ≡ own_fault linked (view members.now.value.now) }
@@ -302,7 +304,7 @@ pub(crate) fn first_fault(members: &Members<'_>, linked: bool) -> Option<SigFaul
     }
 }
 
-/// The first of the faults of a value itself, read as a signature, as `first_fault` says.
+/// Returns the first of a value's own faults as a signature, like `first_fault`.
 pub fn own_fault(value: &Datum<'_>, linked: bool) -> Option<SigFault>
     ensures { result ≡ own_fault linked (view value.now) }
 {

@@ -23,13 +23,13 @@ use canvas_values::SigFault;
 use json::{Scratch, Token};
 use std::alloc::{AllocError, Global};
 
-/// How deep arrays and objects may nest.
+/// The greatest depth to which arrays and objects may nest.
 const MOST_NESTED: usize = 127;
 
-/// How many items a list has room for at its first: most lists of arguments have one or two.
+/// The room of a list for its first items: most lists of arguments have one or two.
 const FEW_ITEMS: usize = 2;
 
-/// The value that a token is by itself.
+/// Returns the value of a single token.
 #[inline(always)]
 fn alone<'a>(token: Token<'a>) -> Option<Datum<'a>>
     ensures { option_map view result ≡ alone (token_of token.entry) }
@@ -46,10 +46,10 @@ fn alone<'a>(token: Token<'a>) -> Option<Datum<'a>>
     }
 }
 
-/// The value that begins with a token; arrays and objects in it nest at most `left` deep. The
-/// members of the objects around it stand on the stack until their object ends, so that the arena
-/// holds each object once. It stands in the loops that call it, so that a value of one token is
-/// read with no call.
+/// Reads the value that begins with a token; arrays and objects in it nest at most `left` deep. The
+/// members of the enclosing objects are on the stack until their object ends, so that the arena
+/// holds each object once. The function is inlined into the loops that call it, so that a value of
+/// one token needs no call.
 #[cycle(read)]
 #[inline(always)]
 fn read_value<'a>(
@@ -74,7 +74,7 @@ fn read_value<'a>(
     }
 }
 
-/// The array or the object that a token opens, which is no value by itself.
+/// Reads the array or the object that a token opens. The token is no value itself.
 #[cycle(read)]
 #[inline(never)]
 fn read_nested<'a>(
@@ -103,7 +103,8 @@ fn read_nested<'a>(
     }
 }
 
-/// Puts an item behind others; the first is given room for a few, so that an empty list takes none.
+/// Appends an item. The first item reserves room for a few, so that an empty list allocates
+/// nothing.
 #[inline(always)]
 fn push_item<'a>(found: &mut Vec<Datum<'a>, &'a Bump>, item: Datum<'a>) -> Result<(), AllocError>
     ensures { OnOk result (found.new.items ≡ found.old.items ++ item.entry ∷ []) }
@@ -115,7 +116,7 @@ fn push_item<'a>(found: &mut Vec<Datum<'a>, &'a Bump>, item: Datum<'a>) -> Resul
     Ok(())
 }
 
-/// A list, behind the bracket that opens it.
+/// Reads a list, after its opening bracket.
 #[cycle(read)]
 fn read_items<'a>(
     alloc: Global,
@@ -140,7 +141,7 @@ fn read_items<'a>(
     Ok(Datum::List(into_bump_slice(found)))
 }
 
-/// An object, behind the brace that opens it.
+/// Reads an object, after its opening brace.
 #[cycle(read)]
 fn read_members<'a>(
     alloc: Global,
@@ -169,7 +170,7 @@ fn read_members<'a>(
     Ok(Datum::Object(found))
 }
 
-/// The one value of a text.
+/// Reads the only value of a text.
 fn read_whole<'a>(
     alloc: Global,
     arena: &'a Bump,
@@ -189,8 +190,8 @@ fn read_whole<'a>(
     }
 }
 
-/// The JSON value that a text in UTF-8 is. The arena holds its lists and objects, and with the
-/// scratch the texts that have escapes.
+/// Parses a text in UTF-8 as one JSON value. The arena holds its lists and objects, and its texts
+/// with escapes, which are decoded in the scratch.
 pub fn parse<'a>(
     alloc: Global,
     arena: &'a Bump,

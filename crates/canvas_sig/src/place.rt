@@ -1,10 +1,10 @@
-//! What may come next in a JSON text.
+//! Places in a JSON text, which determine what may come next.
 
 ghost use Rattle.std.specs.Prelude.{◌≡◌};
 ghost use Rattle.json.specs.Reader.{closes_at, begins_at};
 ghost use Rattle.canvas_sig.specs.steps.Place.{as_kit};
 
-/// What may come next, as the reader of `json` has it.
+/// A place in a JSON text. The variants are those of the reader of `json`.
 #[derive(Clone, Copy, Drop)]
 pub(crate) enum Place {
     Fresh,

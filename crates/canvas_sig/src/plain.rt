@@ -1,5 +1,6 @@
-//! Plain tokens of a JSON text (RFC 8259), each with what stands behind it: brackets, words,
-//! numbers, and texts with no escape. Where none is found, nothing is said of the text.
+//! Plain tokens of a JSON text (RFC 8259), each with the rest of the text: brackets, words,
+//! numbers, and texts without escapes. A result of None says nothing about the text: another reader
+//! has to judge it.
 
 ghost use Rattle.std.specs.Prelude.{◌≡◌, ◌≢◌, ◌∷◌, ◌++◌, ◌≤◌, ◌<◌, ◌⊎◌, true, false, length, drop, take, nat_eq, IfSome};
 ghost use Rattle.std.specs.List.{starts_with};
@@ -27,8 +28,8 @@ pub(crate) fn closes_or_ends(text: &str) -> bool
     c == b']' || c == b'}' || text.is_empty()
 }
 
-/// Past the comma that may follow a value, with what may come then; none where something else than
-/// a comma, a bracket that closes or the end follows it.
+/// Skips the comma that may follow a value, and returns the rest and the place. Returns None if
+/// something other than a comma, a closing bracket or the end follows.
 #[inline(always)]
 pub(crate) fn after_value<'a>(text: &'a str) -> Option<(&'a str, Place)>
     ensures same { IfSome result (λ r. tokens_at (as_kit r.1) r.0.now
@@ -46,7 +47,7 @@ pub(crate) fn after_value<'a>(text: &'a str) -> Option<(&'a str, Place)>
     }
 }
 
-/// Past a bracket that closes.
+/// Skips a closing bracket or brace, and returns the rest and the place.
 #[inline(always)]
 pub(crate) fn behind_bracket<'a>(text: &'a str) -> Option<(&'a str, Place)>
     requires { (head text.now ≡ 93) ⊎ (head text.now ≡ 125) }
@@ -57,7 +58,7 @@ pub(crate) fn behind_bracket<'a>(text: &'a str) -> Option<(&'a str, Place)>
     after_value(&text[1..])
 }
 
-/// A text with no escape, and what stands behind its closing quote.
+/// Splits off a text without escapes, and returns it and the rest after its closing quote.
 #[inline(always)]
 fn plain_text<'a>(text: &'a str) -> Option<(&'a str, &'a str)>
     requires { head text.now ≡ 34 }
@@ -74,7 +75,7 @@ fn plain_text<'a>(text: &'a str) -> Option<(&'a str, &'a str)>
     }
 }
 
-/// A key with no escape, and what stands behind its colon.
+/// Splits off a key without escapes, and returns it and the rest after its colon.
 #[inline(always)]
 pub(crate) fn plain_key<'a>(text: &'a str) -> Option<(&'a str, &'a str)>
     ensures begins { IfSome result
@@ -101,7 +102,7 @@ fn ends_word(text: &str) -> bool
     matches!(c, b',' | b']' | b'}') || is_space(c)
 }
 
-/// A text as a value, with what stands behind it.
+/// Reads a text without escapes as a value, and returns the rest and the place.
 #[inline(always)]
 fn text_token<'a>(text: &'a str) -> Option<(Token<'a>, &'a str, Place)>
     requires { head text.now ≡ 34 }
@@ -115,7 +116,7 @@ fn text_token<'a>(text: &'a str) -> Option<(Token<'a>, &'a str, Place)>
     Some((Token::String(found), rest, place))
 }
 
-/// Digits alone, and what stands behind them.
+/// Splits off a number of only digits, and returns it and the rest.
 #[inline(always)]
 fn digits_alone<'a>(text: &'a str) -> Option<(&'a str, &'a str)>
     ensures { IfSome result (λ p. lex between text.now
@@ -133,7 +134,7 @@ fn digits_alone<'a>(text: &'a str) -> Option<(&'a str, &'a str)>
     }
 }
 
-/// A number of any form, and what stands behind it.
+/// Splits off a number of any form, and returns it and the rest.
 #[inline(never)]
 fn number_of_any_form<'a>(text: &'a str) -> Option<(&'a str, &'a str)>
     ensures { IfSome result (λ p. lex between text.now
@@ -147,7 +148,8 @@ fn number_of_any_form<'a>(text: &'a str) -> Option<(&'a str, &'a str)>
     }
 }
 
-/// A number, and what stands behind it. Most are digits alone, which take fewer steps.
+/// Splits off a number, and returns it and the rest. Most have only digits, which takes fewer
+/// steps.
 #[inline(always)]
 fn plain_number<'a>(text: &'a str) -> Option<(&'a str, &'a str)>
     ensures { IfSome result (λ p. lex between text.now
@@ -171,7 +173,8 @@ fn number_token<'a>(text: &'a str) -> Option<(Token<'a>, &'a str, Place)>
     Some((Token::Number(number), rest, place))
 }
 
-/// Whether a text begins with a name, in a form that is one comparison where the name is known.
+/// Returns whether a text begins with a name. In this form it is a single comparison if the name is
+/// a constant.
 #[inline(always)]
 fn begins_with(text: &[u8], name: &[u8]) -> bool
     ensures { result ≡ starts_with nat_eq text.now name.now }
@@ -188,7 +191,7 @@ fn begins_with(text: &[u8], name: &[u8]) -> bool
     same
 }
 
-/// What stands behind a word.
+/// Returns the rest of a text after a word.
 #[inline(always)]
 fn behind_word<'a>(text: &'a str, name: &str) -> Option<&'a str>
     ensures { IfSome result
@@ -218,7 +221,7 @@ fn word_token<'a>(text: &'a str, name: &str, word: Token<'a>) -> Option<(Token<'
     Some((word, rest, place))
 }
 
-/// A plain token with which a value begins, and what may come behind it.
+/// Reads a plain token with which a value begins, and returns the rest and the place.
 #[inline(always)]
 pub(crate) fn plain_token<'a>(text: &'a str) -> Option<(Token<'a>, &'a str, Place)>
     ensures begins { IfSome result

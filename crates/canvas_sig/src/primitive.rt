@@ -1,4 +1,4 @@
-//! What a `subtask_type` says.
+//! The kind that a `subtask_type` names.
 
 ghost use Rattle.std.specs.Prelude.{◌≡◌};
 ghost use Rattle.canvas_sig.specs.Datum.{value_at};
@@ -18,7 +18,7 @@ fn primitive_named(name: &str) -> Option<Primitive>
     }
 }
 
-/// What a `subtask_type` says.
+/// Returns the kind that a `subtask_type` names. Null and a missing one are a task.
 pub fn primitive_of(field: Option<&Datum<'_>>) -> Option<Primitive>
     ensures { result ≡ primitive_of (value_at field.entry) }
 {

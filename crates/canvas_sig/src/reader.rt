@@ -1,4 +1,4 @@
-//! Reading signatures, with the signatures in them, out of JSON values.
+//! Reading signatures, with the signatures nested in them, from JSON values.
 
 ghost use Rattle.std.specs.Prelude.{◌≡◌, map, string_bytes, IfOk, Some};
 ghost use Rattle.canvas_sig.specs.Datum.{view, value_at};
@@ -20,11 +20,11 @@ use canvas_task::{ListOf, MapOf, TextOf};
 use canvas_values::{Node, Primitive, SigFault, TaskSig};
 use std::alloc::{AllocError, Global};
 
-/// For how many signatures room is made at once: no canvas that is accepted has more in one list,
-/// and a list of half a million that aren't any is refused at its first.
+/// The greatest room that is reserved at once for a list of signatures: no accepted canvas has more
+/// in one list, and a list of half a million other values is refused at its first.
 const MOST_ROOM: usize = 1_024;
 
-/// The text of a name, empty where there is none.
+/// Returns the text of a name, which is empty if there is none.
 pub fn text_of(alloc: Global, field: Option<&Datum<'_>>) -> Result<String, AllocError>
     ensures { IfOk result (λ s. string_bytes s ≡ text_of (value_at field.entry)) }
 {
@@ -34,7 +34,7 @@ pub fn text_of(alloc: Global, field: Option<&Datum<'_>>) -> Result<String, Alloc
     }
 }
 
-/// The link or error callback that a value stands for; signatures in it nest at most `left` deep.
+/// Reads a link or an error callback; signatures in it nest at most `left` deep.
 #[cycle(read_task)]
 #[tactic(auto, using(crate::proofs::Level::task_level_below))]
 fn read_linked(alloc: Global, value: &Datum<'_>, left: u32) -> Result<TaskSig, SigFault>
@@ -60,7 +60,7 @@ fn read_checked_link(alloc: Global, members: &Members<'_>, left: u32) -> Result<
     }
 }
 
-/// The task that a value without a fault of its own stands for.
+/// Reads a task from a value without a fault of its own.
 #[cycle(read_task)]
 fn read_task(alloc: Global, members: &Members<'_>, left: u32) -> Result<TaskSig, SigFault>
     requires { AreFound members.now }
@@ -93,7 +93,7 @@ fn read_all_linked(alloc: Global, values: &[Datum<'_>], left: u32) -> Result<Vec
     Ok(tasks)
 }
 
-/// The members of a group; nothing else has any.
+/// Returns the members of a group. Any other node has none.
 fn members_in(alloc: Global, node: Node) -> Vec<Node>
     ensures { trees_of (map tree_view result.items) ≡ members_in (tree_view node) }
 {
@@ -103,7 +103,7 @@ fn members_in(alloc: Global, node: Node) -> Vec<Node>
     }
 }
 
-/// The canvas that a value stands for; signatures in it nest at most `left` deep.
+/// Reads a canvas from a value; signatures in it nest at most `left` deep.
 #[cycle(read_node)]
 #[tactic(auto, using(crate::proofs::Level::tree_level_below))]
 pub fn read_node(alloc: Global, value: &Datum<'_>, left: u32) -> Result<Node, SigFault>
@@ -129,7 +129,7 @@ fn read_checked(alloc: Global, members: &Members<'_>, left: u32) -> Result<Node,
     }
 }
 
-/// What a value without a fault of its own stands for.
+/// Reads a signature of a kind from a value without a fault of its own.
 #[cycle(read_node)]
 fn read_as(
     alloc: Global,
@@ -183,7 +183,7 @@ fn read_chord(alloc: Global, members: &Members<'_>, left: u32) -> Result<Node, S
     })
 }
 
-/// The members of a header, which is a list, or one group signature.
+/// Reads the members of a header, which is a list or a single group signature.
 #[cycle(read_node)]
 fn read_header(alloc: Global, field: Option<&Datum<'_>>, left: u32) -> Result<Vec<Node>, SigFault>
     ensures { Gives (λ v. trees_of (map tree_view v.items)) result

@@ -1,4 +1,4 @@
-//! Runs of bytes in a JSON text.
+//! Runs of bytes of a kind in a JSON text.
 
 ghost use Rattle.std.specs.Prelude.{◌≡◌, ◌+◌, ◌<◌, ◌≤◌, true, length, drop, map};
 ghost use Rattle.std.specs.List.{prefix_len};
@@ -13,7 +13,7 @@ ghost use Rattle.canvas_sig.specs.steps.Plain.{IsTrimmed};
 
 use std::simd::prelude::*;
 
-/// The first byte, or a space at the end.
+/// Returns the first byte, or a space if the text is empty.
 #[inline(always)]
 pub(crate) fn first(text: &str) -> u8
     ensures { result ≡ head text.now }
@@ -42,7 +42,7 @@ fn past_spaces<'a>(text: &'a str) -> &'a str
     rest
 }
 
-/// The text from its next token on.
+/// Skips spaces before the next token.
 #[inline(always)]
 pub(crate) fn trimmed<'a>(text: &'a str) -> &'a str
     ensures same { lex between result.now ≡ lex between text.now }
@@ -55,7 +55,7 @@ pub(crate) fn trimmed<'a>(text: &'a str) -> &'a str
     }
 }
 
-/// Which bytes no plain text has: a quote, a backslash, or a control byte.
+/// Returns a mask of the bytes that no plain text has: a quote, a backslash, or a control byte.
 #[inline(always)]
 fn stops(bytes: u8x16) -> u64
     ensures { result ≡ mask_l (map is_stop bytes) }
@@ -77,7 +77,7 @@ fn plain_end_slowly(bytes: &[u8], from: usize) -> usize
     at
 }
 
-/// How many bytes stand before the first that no plain text has.
+/// Returns the number of bytes before the first that no plain text has.
 #[inline(always)]
 pub(crate) fn plain_len(bytes: &[u8]) -> usize
     ensures { result ≡ prefix_len is_plain bytes.now }
@@ -104,7 +104,7 @@ pub(crate) fn digits_len(bytes: &[u8]) -> usize
     count
 }
 
-/// Whether numbers have this byte.
+/// Returns whether numbers may contain this byte.
 #[inline(always)]
 fn is_of_numerals(c: u8) -> bool
     ensures { result ≡ true → c < 128 }
@@ -112,7 +112,7 @@ fn is_of_numerals(c: u8) -> bool
     c.is_ascii_digit() || matches!(c, b'-' | b'+' | b'.' | b'e' | b'E')
 }
 
-/// How many bytes stand before the first that no number has.
+/// Returns the number of bytes before the first that no number has.
 pub(crate) fn numeral_len(text: &str) -> usize
     ensures { IsCharBoundary text.now result }
 {

@@ -1,6 +1,7 @@
-//! The tokens of a JSON text. Plain ones are read here in few steps, and texts with escapes by
-//! themselves. From the first other one on the reader of `json` reads, so that what it says of a
-//! text is all that is said.
+//! The tokens of a JSON text. Plain tokens, and texts with escapes, are read by this crate in few
+//! steps. From the first other token on, such as a key with an escape, the reader of `json` reads
+//! the rest, so that it decides about every fault. The model is that of this reader: the tokens
+//! that are still to come.
 
 ghost use Rattle.std.specs.Prelude.{◌≡◌, ◌∷◌, [], Some, None, IfOk, IfSome, option_map, MatchResult, MatchOption};
 ghost use Rattle.json.specs.Lex.{tokens, fresh, between, lex, punctuate};
@@ -22,16 +23,16 @@ use json::{Reader, Scratch, Token};
 use std::alloc::AllocError;
 use std::marker::Model;
 
-/// A clause sees the tokens that are still to come.
+/// A source of tokens. Contracts see the tokens that are still to come.
 #[derive(Drop)]
 pub(crate) struct Source<'a> {
     rest: &'a str,
     place: Place,
-    /// What reads from the first token on that isn't known here.
+    /// The reader from the first token that this crate cannot read.
     reader: Option<Reader<'a>>,
-    /// What keeps the texts that have escapes.
+    /// The arena that holds the texts with escapes.
     arena: &'a Bump,
-    /// What the reader takes; none once it was lent to it.
+    /// The scratch for the reader. None once it was handed to it.
     scratch: Option<&'a mut Scratch>,
 }
 
@@ -50,8 +51,8 @@ impl<'a> Model for Source<'a> {
     ghost invariant = { IsSource };
 }
 
-/// The next token where none is plain and it is known all the same: the fault of a comma with
-/// nothing behind it, or none at the end.
+/// Returns the next token if it is not plain and yet known: the fault of a comma without a value
+/// after it, or None at the end.
 fn last_token<'a>(place: Place, text: &str) -> Option<Option<Token<'a>>>
     requires { IsSettled place text.now }
     ensures { MatchOption result
@@ -85,7 +86,8 @@ impl<'a> Source<'a> {
         }
     }
 
-    /// The next token. Only refused memory is an error, after which no token is known.
+    /// Returns the next token. The only error is an allocation failure, after which no token is
+    /// known.
     #[inline(always)]
     pub(crate) fn next(&mut self) -> Result<Option<Token<'a>>, AllocError>
         ensures { IfOk result (λ r. Yields self.old r self.new) }
@@ -107,7 +109,7 @@ impl<'a> Source<'a> {
         self.next_slowly()
     }
 
-    /// The token that comes next, where one has to come.
+    /// Returns the next token. It is an error if there is none.
     #[inline(always)]
     pub(crate) fn next_token(&mut self) -> Result<Token<'a>, Unread>
         ensures { MatchResult result (λ t. self.old ≡ token_of t ∷ self.new)
@@ -119,7 +121,7 @@ impl<'a> Source<'a> {
         }
     }
 
-    /// The next token where none is plain.
+    /// Returns the next token if it is not plain.
     #[inline(always)]
     fn next_slowly(&mut self) -> Result<Option<Token<'a>>, AllocError>
         ensures { IfOk result (λ r. Yields self.old r self.new) }
@@ -153,7 +155,7 @@ impl<'a> Source<'a> {
         }
     }
 
-    /// A key, or none at the brace that closes an object.
+    /// Returns the next key, or None at the brace that closes an object.
     #[inline(always)]
     pub(crate) fn next_key(&mut self) -> Result<Option<&'a str>, Unread>
         ensures { MatchResult result
@@ -190,7 +192,7 @@ impl<'a> Source<'a> {
         }
     }
 
-    /// The token with which the next item begins, or none at the bracket that closes an array.
+    /// Returns the first token of the next item, or None at the bracket that closes an array.
     #[inline(always)]
     pub(crate) fn next_item(&mut self) -> Result<Option<Token<'a>>, Unread>
         ensures { MatchResult result (λ r. Item self.old (option_map token_of r) self.new)

@@ -1,8 +1,8 @@
-//! Why no value was read.
+//! The reasons why no value was read.
 
 use std::alloc::{AllocError, AllocFailed};
 
-/// Why nothing was read.
+/// The reason why no value was read.
 #[derive(Clone, Copy, Drop)]
 pub(crate) enum Unread {
     NotJson,

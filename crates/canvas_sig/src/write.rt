@@ -15,7 +15,7 @@ use json::Writer;
 use std::alloc::Global;
 pub use value::write_arg;
 
-/// A signature as compact JSON.
+/// Writes a signature as compact JSON.
 pub fn write_node(alloc: Global, node: &Node) -> Result<String, Memory>
     ensures { IfOk result (λ text. string_bytes text ≡ compact_text (tree_wire (view node.now))) }
 {
@@ -24,8 +24,8 @@ pub fn write_node(alloc: Global, node: &Node) -> Result<String, Memory>
     Ok(String::from_utf8(out.into_inner()).unwrap())
 }
 
-/// A canvas as compact JSON. Where the text isn't too large to be read, it reads as the canvas
-/// again.
+/// Writes a canvas as compact JSON. If the text isn't too large to be read, it reads back as the
+/// canvas.
 pub fn write_canvas(alloc: Global, canvas: &Canvas) -> Result<String, Memory>
     ensures text { IfOk result (λ text. string_bytes text ≡ compact_text (tree_wire canvas.now)) }
     ensures reads_back { IfOk result (λ text. length (string_bytes text) ≤ most_bytes

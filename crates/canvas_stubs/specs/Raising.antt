@@ -18,7 +18,7 @@ is_class text =
     not (length text == 0) && (not (is_ascii_digit (slice_index text 0))
     && list_all is_class_byte text)
 
--- one of the four classes that built-in tasks raise, or by which no task fails
+-- one of the four classes that built-in tasks raise, or of those that are no failure of a task
 abbrev pub is_known_class : Text → Bool
 is_known_class c =
     bytes_eq c (codes "TypeError") || (bytes_eq c (codes "ZeroDivisionError")
@@ -26,7 +26,7 @@ is_known_class c =
     || (bytes_eq c (codes "Retry") || (bytes_eq c (codes "Ignore")
     || bytes_eq c (codes "Reject"))))))
 
--- what is after `raise:`
+-- the part after `raise:`
 abbrev pub raised_in : Text → Option Text
 raised_in word =
     if starts_with nat_eq word (codes "raise:") then Some (drop 6 word) else None
@@ -38,12 +38,12 @@ abbrev pub with_class : Text → Option Text → Option (Text × Text)
 with_class name None = None
 with_class name (Some class) = Some (name, class)
 
--- the name and the class of a text that raises an exception of another class than the four
+-- the name and the class of a text that raises an exception of a class other than the four
 abbrev pub other_error : Text → Option (Text × Text)
 other_error text = option_and_then
     (λ p. with_class p.0 (option_and_then other_class (raised_in p.1))) (split_text text)
 
--- the text itself, or with this class in place of another one
+-- the text itself, or with this class instead of another one
 abbrev pub plain_text : (stands text : Text) → Text
 plain_text stands text =
     option_map_or (λ e. e.0 ++ codes "=raise:" ++ stands) (other_error text) text

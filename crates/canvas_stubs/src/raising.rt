@@ -1,4 +1,6 @@
-//! Stubs that raise an exception of any class, as `shop.ship=raise:OutOfStock`.
+//! Stubs that raise an exception of any class, as `shop.ship=raise:OutOfStock`. Outcomes have only
+//! four kinds of exception, so a caller replaces another class by one of these with `plain_text`,
+//! and shows the class itself in the results.
 
 ghost use Rattle.std.specs.Prelude.{◌≡◌, ◌++◌, IfOk, codes, option_map, string_bytes};
 ghost use Rattle.std.specs.List.{list_all};
@@ -19,7 +21,7 @@ fn are_class_bytes(bytes: &[u8]) -> bool
     bytes.iter().all(|byte| is_class_byte(*byte))
 }
 
-/// Whether a text is the name of a class.
+/// Returns whether a text is the name of a class.
 fn is_class(text: &str) -> bool
     ensures { result ≡ is_class text.now }
 {
@@ -27,8 +29,8 @@ fn is_class(text: &str) -> bool
     !bytes.is_empty() && !bytes[0].is_ascii_digit() && are_class_bytes(bytes)
 }
 
-/// Whether the class is one of the four that built-in tasks raise, or an exception by which a task
-/// doesn't fail.
+/// Returns whether the class is one of the four that built-in tasks raise, or one of Celery's
+/// exceptions that are no failure of a task.
 fn is_known(class: &str) -> bool
     ensures { result ≡ is_known_class class.now }
 {
@@ -41,14 +43,14 @@ fn is_known(class: &str) -> bool
         || class == "Reject"
 }
 
-/// What is after `raise:`.
+/// Returns the part after `raise:`.
 fn raised_in(word: &str) -> Option<&str>
     ensures { option_map (λ c. c.now) result ≡ raised_in word.now }
 {
     word.strip_prefix("raise:")
 }
 
-/// A class that isn't known.
+/// Returns the class if it is a name of a class and not a known one.
 fn other_class(class: &str) -> Option<&str>
     ensures { option_map (λ c. c.now) result ≡ other_class class.now }
 {
@@ -59,8 +61,8 @@ fn other_class(class: &str) -> Option<&str>
     }
 }
 
-/// The name and the class of a stub's text, if that raises an exception of another class than the
-/// four.
+/// Returns the name and the class of a stub's text that raises an exception of a class other than
+/// the four known ones.
 pub fn other_error(text: &str) -> Option<(&str, &str)>
     ensures { option_map (λ e. (e.0.now, e.1.now)) result ≡ other_error text.now }
 {
@@ -69,7 +71,7 @@ pub fn other_error(text: &str) -> Option<(&str, &str)>
     Some((name, class))
 }
 
-/// A stub's text that raises one of the four exceptions.
+/// Makes the text of a stub that raises one of the four exceptions.
 fn raising(alloc: Global, name: &str, class: &str) -> Result<String, AllocError>
     ensures { IfOk result
         (λ t. string_bytes t ≡ name.now ++ codes "=raise:" ++ class.now) }
@@ -80,7 +82,7 @@ fn raising(alloc: Global, name: &str, class: &str) -> Result<String, AllocError>
     Ok(text)
 }
 
-/// A stub's text with one of the four exceptions, `stands`, in place of one of another class.
+/// Clones a stub's text, and replaces a class other than the four by the one of them that is given.
 pub fn plain_text(alloc: Global, text: &str, stands: &str) -> Result<String, AllocError>
     ensures { IfOk result (λ t. string_bytes t ≡ plain_text stands.now text.now) }
 {

@@ -20,7 +20,7 @@ pub put_part : {Y : Type 0} (before part after rest more all : List Y) → after
 put_part before part after rest more all put split kept =
     ap (λ ys. ys ++ more) put ∙ append_assoc before part more ∙ ap (λ ys. before ++ ys) (sym split) ∙ kept
 
--- a loop that puts what each item gives behind what the others gave: one turn more, and its end
+-- a loop that appends what each item gives: one turn more, and its end
 module _ {X Y : Type 0} (gives : List X → List Y) (xs : List X) (i : ℕ) where
   pub put_on : (x : X) (here before after all : List Y) → i < length xs → x ≡ get_or xs i x
       → gives (x ∷ drop (i + 1) xs) ≡ here ++ gives (drop (i + 1) xs) → before ++ gives (drop i xs) ≡ all → after ≡ before ++ here
@@ -28,7 +28,7 @@ module _ {X Y : Type 0} (gives : List X → List Y) (xs : List X) (i : ℕ) wher
   put_on x here before after all inside is turn kept put =
       put_part before here after (gives (drop i xs)) (gives (drop (i + 1) xs)) all put (ap gives (item_first xs i x inside is) ∙ turn) kept
 
-  -- where what the loop gives has an end of its own, which is put behind the last turn
+  -- if the loop's result has an end of its own, which is appended after the last turn
   pub put_end : (before after all : List Y) → length xs ≤ i → before ++ gives (drop i xs) ≡ all → after ≡ before ++ gives [] → after ≡ all
   put_end before after all past kept put = put ∙ ap (λ ys. before ++ ys) (sym (ap gives (drop_all i xs past))) ∙ kept
 

@@ -1,4 +1,4 @@
--- The word of an outcome stands for it.
+-- The word of an outcome encodes it.
 use Rattle.std.proofs.Common.{◌≡◌, ◌≢◌, ℕ, ◌+◌, ◌*◌, ◌/◌, ◌%◌, ◌^◌, ◌<◌, ◌≤◌, Some, None, true, refl, sym, ap, ◌∙◌, arith}
 use Rattle.std.proofs.lemmas.Grind.{common_steps}
 use Rattle.std.specs.Prelude.{ℤ, option_map}
@@ -52,6 +52,6 @@ word_back (Success n) h = success_back n h
 word_back (Failure (Plain kind)) h = plain_back kind
 word_back (Failure (Chord dep w)) h = chord_back dep w h.0 h.1
 
--- where a number stands for nothing, it is no outcome's word
+-- a number that encodes nothing is no outcome's word
 pub no_word : (found : ℕ) → outcome_named found ≡ None → (o : Outcome) → FitsAWord o → word o ≢ found
 no_word found none o held same = let clash : Some o ≡ None = sym (word_back o held) ∙ ap outcome_named same ∙ none in absurd cc

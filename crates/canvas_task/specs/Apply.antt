@@ -1,5 +1,5 @@
--- What tasks do: what becomes of a call of one, by its name and its arguments. Numbers are whole
--- and unbounded here; only a result that lies outside the range overflows.
+-- The behaviour of tasks: the outcome of each call, by name and arguments. Numbers are whole and
+-- unbounded here; only a result that lies outside the range overflows.
 use Rattle.std.specs.Prelude.{◌≡◌, true, if◌then◌else◌, List, [], ◌∷◌, Option, Some, None, Result, Ok, Err, ℤ}
 use Rattle.std.specs.List.{list_all, list_any}
 use Rattle.std.specs.Str.{bytes_eq}
@@ -23,7 +23,7 @@ first_argument None rest = None
 first_argument (Some a) None = None
 first_argument (Some a) (Some rest) = Some (a ∷ rest)
 
--- one of two, if just one is there: a parameter given twice has no argument
+-- one of two, if exactly one is there: a parameter given twice has no argument
 abbrev pub either : Option Arg → Option Arg → Option Arg
 either (Some a) None = Some a
 either (Some a) (Some b) = None
@@ -38,16 +38,16 @@ filled (p ∷ ps) (a ∷ args) named =
     first_argument (either (Some a) (by_name p named)) (filled ps args named)
 filled (p ∷ ps) [] named = first_argument (either None (by_name p named)) (filled ps [] named)
 
--- the same, if each keyword is a parameter
+-- the arguments for the parameters, if each keyword is one of them
 abbrev pub bound_to : List Text → List Arg → List (Text × Arg) → Option (List Arg)
 bound_to ps args named =
     if list_all (λ e. list_any (bytes_eq e.0) ps) named then filled ps args named else None
 
--- what a task answers to a call: a number or an exception
+-- a task's answer to a call: a number or an exception
 abbrev pub Answer : Type 0
 Answer = Result ℤ Kind
 
--- what a task means: what it answers to its positional and its keyword arguments
+-- the meaning of a task: its answer to its positional and its keyword arguments
 abbrev pub Meaning : Type 0
 Meaning = List Arg → List (Text × Arg) → Answer
 
@@ -57,17 +57,17 @@ checked n = if in_range n then Ok n else Err Overflow
 
 -- ---- registries
 
--- what becomes of a task that answers so: a number that is out of range overflows
+-- the outcome of a task with this answer: a number that is out of range overflows
 abbrev pub outcome : Answer → Outcome
 outcome (Ok n) = if in_range n then Success n else Failure (Plain Overflow)
 outcome (Err kind) = Failure (Plain kind)
 
--- what tasks do: what becomes of a call, by the task's name, its positional arguments and its
--- keyword arguments
+-- a behaviour of tasks: the outcome of a call, by the task's name, its positional arguments and its
+-- keyword arguments; evaluation, runs and their laws have it as a parameter
 abbrev pub Behaviour : Type 0
 Behaviour = Text → List Arg → List (Text × Arg) → Outcome
 
--- a success is of a number in range
+-- a success has a number in range
 abbrev pub IsInRange : Outcome → Type 0
 IsInRange (Success n) = in_range n ≡ true
 IsInRange (Failure f) = Unit {0}

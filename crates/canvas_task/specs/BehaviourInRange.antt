@@ -1,4 +1,4 @@
--- What becomes of a call is in range, whatever the tasks answer.
+-- The outcome of every call is in range, for any answers of the tasks.
 use Rattle.std.specs.Prelude.{◌≡◌, Bool, true, false, refl, List, [], ◌∷◌, Option, Some, None, Ok, Err, ℤ, if◌then◌else◌}
 use Rattle.std.specs.Str.{bytes_eq}
 use Rattle.canvas_task.specs.Numbers.{in_range}

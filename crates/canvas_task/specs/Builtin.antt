@@ -16,15 +16,15 @@ use Rattle.canvas_task.specs.declared.outcome.Fault.TheVariants.{Plain}
 use Rattle.canvas_task.specs.declared.outcome.Outcome.{Outcome}
 use Rattle.canvas_task.specs.declared.outcome.Outcome.TheVariants.{Failure}
 
--- what a task takes, for parameters of these names, and what it answers to it: two numbers, one, a
--- list of numbers, or the identifier of a task
+-- the parameters of a task by name, and its answer to them: two numbers, one number, a list of
+-- numbers, or the identifier of a task
 pub data Rule : Type 0 where
   of_two : Text → Text → (ℤ → ℤ → Answer) → Rule
   of_one : Text → (ℤ → Answer) → Rule
   of_list : Text → (List ℤ → Answer) → Rule
   of_id : Text → (ℕ → Answer) → Rule
 
--- what such a task means
+-- the meaning of a task with this rule
 abbrev pub meant : Rule → Meaning
 meant (of_two x y answer) args named = answer_two answer (two_numbers x y args named)
 meant (of_one x answer) args named = answer_given answer (one_number x args named)
@@ -38,7 +38,7 @@ names_in (of_one x answer) = x ∷ []
 names_in (of_list x answer) = x ∷ []
 names_in (of_id x answer) = x ∷ []
 
--- of which kind their arguments are
+-- the kind of their arguments
 abbrev pub kind_in : Rule → ArgKind
 kind_in (of_two x y answer) = Number
 kind_in (of_one x answer) = Number
@@ -60,7 +60,7 @@ rule Xsum = of_list (codes "numbers") (λ numbers. Ok (sum_of numbers))
 rule Ident = of_one (codes "x") (λ x. Ok x)
 rule LogError = of_id (codes "uuid") (λ task. Ok (pos task))
 
--- each is called tasks. and a word
+-- the name of each is `tasks.` and a word
 abbrev pub word : Builtin → Text
 word Add = codes "add"
 word Mul = codes "mul"
@@ -78,29 +78,29 @@ task_name task = codes "tasks." ++ word task
 abbrev pub meaning : Builtin → Meaning
 meaning task = meant (rule task)
 
--- the names of its parameters, and of which kind their arguments are
+-- the names of its parameters, and the kind of their arguments
 abbrev pub parameters : Builtin → List Text
 parameters task = names_in (rule task)
 
 abbrev pub taken : Builtin → ArgKind
 taken task = kind_in (rule task)
 
--- the first of some that is called so
+-- the first task with this name or word
 abbrev pub first_called : (Builtin → Text) → Text → List Builtin → Option Builtin
 first_called call name [] = None
 first_called call name (t ∷ ts) =
     if bytes_eq (call t) name then Some t else first_called call name ts
 
--- the task of a name, and of a word
+-- the task of a name, and the task of a word
 abbrev pub builtin_named : Text → Option Builtin
 builtin_named name = first_called task_name name builtins
 
 abbrev pub builtin_of_word : Text → Option Builtin
 builtin_of_word w = first_called word w builtins
 
--- ---- what they do
+-- ---- their behaviour
 
--- what becomes of a call of a task that may be unknown
+-- the outcome of a call of a task that may be unknown
 abbrev pub answer_known : Option Builtin → List Arg → List (Text × Arg) → Outcome
 answer_known None args named = Failure (Plain NotRegistered)
 answer_known (Some task) args named = outcome (meaning task args named)

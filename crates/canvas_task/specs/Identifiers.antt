@@ -5,18 +5,18 @@ use Rattle.std.specs.Option.{option_and_then}
 use Rattle.std.specs.Str.{bytes_eq}
 use Rattle.uuid.specs.Text.{parsed, hyphenated_text, lower}
 
--- the first twelve bytes, where the ninth is the mark of tasks or of groups
+-- the first twelve bytes; the ninth is the mark of tasks or of groups
 abbrev pub pattern : ℕ → List ℕ
 pattern mark = 0 ∷ 0 ∷ 0 ∷ 0 ∷ 0 ∷ 0 ∷ 128 ∷ 0 ∷ mark ∷ 0 ∷ 0 ∷ 0 ∷ []
 
--- the ninth byte, which begins with the variant's two bits
+-- the ninth byte, which begins with the two bits of the variant
 abbrev pub task_mark : ℕ
 task_mark = 0x80
 
 abbrev pub group_mark : ℕ
 group_mark = 0x90
 
--- a number as four bytes, the greatest first
+-- a number as four bytes, the most significant first
 abbrev pub four_bytes : ℕ → List ℕ
 four_bytes n = n / 2 ^ 24 ∷ n / 2 ^ 16 % 256 ∷ n / 2 ^ 8 % 256 ∷ n % 256 ∷ []
 
@@ -30,13 +30,14 @@ number_at_end id =
     slice_index id 12 * 2 ^ 24 + slice_index id 13 * 2 ^ 16 + slice_index id 14 * 2 ^ 8
     + slice_index id 15
 
--- the number that sixteen bytes name; no task or group has the number 0
+-- the number that sixteen bytes identify; no task or group has the number 0
 abbrev pub number_named : ℕ → List ℕ → Option ℕ
 number_named mark id =
     if bytes_eq (take 12 id) (pattern mark)
     && not (number_at_end id == 0) then Some (number_at_end id) else None
 
--- the number of the task, and of the group or chord, that a text in any form of a UUID names
+-- the number of the task, and of the group or chord, whose identifier a text is, in any form of a
+-- UUID
 abbrev pub task_named : List ℕ → Option ℕ
 task_named text = option_and_then (number_named task_mark) (parsed text)
 

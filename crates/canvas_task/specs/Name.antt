@@ -6,6 +6,6 @@ use Rattle.std.specs.List.{list_all}
 abbrev pub printable : ℕ → Bool
 printable b = nat_le 33 b && nat_le b 126
 
--- 1 to 128 such bytes
+-- 1 to 128 printable bytes
 abbrev pub name_ok : List ℕ → Bool
 name_ok text = nat_le 1 (length text) && nat_le (length text) 128 && list_all printable text

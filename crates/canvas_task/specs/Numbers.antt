@@ -1,4 +1,4 @@
--- Whole numbers: the range that tasks keep to, and the quotient rounded down (Python's `//`).
+-- Whole numbers: the range of tasks' numbers, and the quotient rounded down (Python's `//`).
 use Rattle.std.specs.Prelude.{◌^◌, Bool, ◌&&◌, ℤ, pos, negsuc, neg_ℤ, ◌+ℤ◌, int_le, List, fold}
 use Rattle.std.specs.Int.{int_div_euclid}
 
@@ -6,7 +6,7 @@ use Rattle.std.specs.Int.{int_div_euclid}
 abbrev pub bound : ℤ
 bound = pos (2 ^ 60)
 
--- from -2^60 to 2^60
+-- whether a number is from -2^60 to 2^60
 abbrev pub in_range : ℤ → Bool
 in_range n = int_le (neg_ℤ bound) n && int_le n bound
 

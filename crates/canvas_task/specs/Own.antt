@@ -1,4 +1,4 @@
--- For tasks of one's own: what they are called with, and what they answer.
+-- Tasks of a caller's own: their arguments, and their answers.
 use Rattle.std.specs.Prelude.{ℕ, List, [], ◌∷◌, Option, Some, None, Ok, Err, ℤ}
 use Rattle.canvas_task.specs.Text.{Text}
 use Rattle.canvas_task.specs.Apply.{Answer, bound_to, checked}
@@ -43,16 +43,16 @@ one_task x args named = as_task (bound_to (x ∷ []) args named)
 abbrev pub two_numbers : Text → Text → List Arg → List (Text × Arg) → Option (ℤ × ℤ)
 two_numbers x y args named = as_two (bound_to (x ∷ y ∷ []) args named)
 
--- an exact answer, whose number overflows where it is out of range
+-- an exact answer as one in range: a number out of range overflows
 abbrev pub fitted : Answer → Answer
 fitted (Ok n) = checked n
 fitted (Err kind) = Err kind
 
--- an answer by what was given, where nothing that fits is a bad call
+-- an answer to the arguments that fit; if none fit, the call is bad
 abbrev pub answer_given : {A : Type 0} → (A → Answer) → Option A → Answer
 answer_given f None = Err BadCall
 answer_given f (Some a) = fitted (f a)
 
--- the same by two numbers
+-- an answer to two numbers
 abbrev pub answer_two : (ℤ → ℤ → Answer) → Option (ℤ × ℤ) → Answer
 answer_two f o = answer_given (λ p. f p.0 p.1) o

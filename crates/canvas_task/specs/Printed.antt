@@ -1,4 +1,4 @@
--- How an exception is printed: by the names of Python's and Celery's exceptions.
+-- The printed form of exceptions: the names of Python's and Celery's.
 use Rattle.std.specs.Prelude.{ℕ, List, ◌++◌, codes}
 use Rattle.canvas_task.specs.declared.outcome.Kind.{Kind}
 use Rattle.canvas_task.specs.declared.outcome.Kind.TheVariants.{BadCall, ZeroDivision, Overflow, NotRegistered}
@@ -19,7 +19,7 @@ abbrev pub why_name : Why → List ℕ
 why_name (why.Plain kind) = kind_name kind
 why_name why.Chord = codes "ChordError"
 
--- a failed header is told by the member that failed first in its order
+-- a failed header is printed with the member that failed first in header order
 abbrev pub fault_text : Fault → List ℕ
 fault_text (fault.Plain kind) = kind_name kind
 fault_text (fault.Chord dep w) =

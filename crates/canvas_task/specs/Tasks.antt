@@ -1,4 +1,4 @@
--- Tasks under their names, as a registry holds them, and what a call of one becomes.
+-- Tasks by their names, as a registry holds them, and the outcome of a call of one.
 use Rattle.std.specs.Prelude.{◌≡◌, ◌⊎◌, ◌||◌, Bool, false, not, if◌then◌else◌, List, [], ◌∷◌, map, Option, Some, None}
 use Rattle.std.specs.Str.{bytes_eq}
 use Rattle.std.specs.declared.alloc.Global.{Global}
@@ -15,28 +15,28 @@ use Rattle.canvas_task.specs.declared.outcome.Kind.TheVariants.{NotRegistered}
 use Rattle.canvas_task.specs.declared.outcome.Fault.TheVariants.{Plain}
 use Rattle.canvas_task.specs.declared.outcome.Outcome.TheVariants.{Failure}
 
--- a task under its name
+-- a task and its name
 pub record NamedTask : Type 0 where
   pub name : Text
   pub answers : Meaning
 
--- what such tasks do: the first of a name answers
+-- the behaviour of named tasks: the first task of a name answers
 abbrev pub behaviour_of : List NamedTask → Behaviour
 behaviour_of [] name args named = Failure (Plain NotRegistered)
 behaviour_of (t ∷ ts) name args named =
     if bytes_eq t.name name then outcome (t.answers args named) else behaviour_of ts name args named
 
--- whether there is one of the name
+-- whether there is a task of the name
 abbrev pub has_name : Text → List NamedTask → Bool
 has_name name [] = false
 has_name name (t ∷ ts) = bytes_eq t.name name || has_name name ts
 
--- why a task of this name is not added to these, memory aside
+-- the fault for which a task of this name is not added to these, apart from allocation failures
 abbrev pub fault_of : Text → List NamedTask → Option AddFault
 fault_of name ts =
     if not (name_ok name) then Some BadName else (if has_name name ts then Some Doubled else None)
 
--- an object as a task, by what it is called and what it answers
+-- an object as a task, by its name and its answers
 abbrev pub named_task : {B : Type 0} → (B → Text) → (B → Meaning) → B → NamedTask
 named_task called answers b = record { name = called b; answers = answers b }
 
@@ -44,7 +44,7 @@ named_task called answers b = record { name = called b; answers = answers b }
 abbrev pub named_tasks : {B : Type 0} → (B → Text) → (B → Meaning) → List B → List NamedTask
 named_tasks called answers bs = map (named_task called answers) bs
 
--- those of a registry, in the order in which they were added
+-- the tasks of a registry, in the order in which they were added
 abbrev pub tasks_in : {X : Type 0} {F : X → Type 0} → (DynBox X Global F → Text)
     → (DynBox X Global F → Meaning) → Boxes X F → List NamedTask
 tasks_in called answers r = named_tasks called answers r.tasks.items
@@ -54,7 +54,7 @@ tasks_in called answers r = named_tasks called answers r.tasks.items
 abbrev pub as_named : Builtin → NamedTask
 as_named task = record { name = task_name task; answers = meaning task }
 
--- each is built-in
+-- all are built-in
 abbrev pub AreBuiltin : List NamedTask → Type 0
 AreBuiltin [] = Unit {0}
 AreBuiltin (t ∷ ts) = ((task : Builtin) × (t ≡ as_named task)) × AreBuiltin ts
@@ -63,10 +63,10 @@ abbrev pub IsAmong : NamedTask → List NamedTask → Type 0
 IsAmong t [] = ⊥
 IsAmong t (u ∷ us) = (u ≡ t) ⊎ IsAmong t us
 
--- just the built-in ones, in any order
+-- exactly the built-in ones, in any order
 abbrev pub AreTheBuiltin : List NamedTask → Type 0
 AreTheBuiltin ts = AreBuiltin ts × ((task : Builtin) → IsAmong (as_named task) ts)
 
--- what such a registry answers is what the built-in tasks do
+-- exactly the built-in tasks, in any order, behave as `builtin_tasks`
 abbrev pub BuiltinAnswer : Type 0
 BuiltinAnswer = (ts : List NamedTask) → AreTheBuiltin ts → behaviour_of ts ≡ builtin_tasks

@@ -1,4 +1,4 @@
-//! Arguments of tasks, and copies of them.
+//! Arguments of tasks, and functions that clone them.
 ghost use Rattle.std.specs.Prelude.{◌≡◌, IfOk};
 ghost use Rattle.canvas_task.specs.Entries.{named};
 
@@ -11,7 +11,7 @@ use std::collections::BTreeMap;
 pub enum Arg {
     /// A whole number, from -2^60 to 2^60 in every canvas.
     Num(i64),
-    /// Such numbers, in order; there may be none.
+    /// A list of whole numbers, also from -2^60 to 2^60 in every canvas. It may be empty.
     List(ListOf<i64>),
     /// A text in UTF-8.
     Text(TextOf),
@@ -29,15 +29,15 @@ impl Clone for Arg {
     }
 }
 
-/// A copy of a list of arguments.
+/// Clones a list of arguments.
 pub fn copy_args(args: &ListOf<Arg>) -> Result<ListOf<Arg>, AllocError>
     ensures { IfOk result (λ copy. copy ≡ args.now) }
 {
     args.clone()
 }
 
-/// A copy, entry by entry, of a map. The kit's own `clone` of a map may be refused for
-/// another cause than memory.
+/// Clones a map, entry by entry. `clone` of std's map may fail for another reason than an
+/// allocation.
 fn copy_entries(
     alloc: Global,
     map: &BTreeMap<String, Arg>,
@@ -52,7 +52,7 @@ fn copy_entries(
     Ok(copy)
 }
 
-/// A copy of keyword arguments.
+/// Clones keyword arguments.
 pub fn copy_kwargs(alloc: Global, kwargs: &MapOf<Arg>) -> Result<MapOf<Arg>, AllocError>
     ensures { IfOk result (λ copy. copy ≡ kwargs.now) }
 {

@@ -1,4 +1,4 @@
-//! Which arguments a call gives to the parameters of its task.
+//! Binding of a call's arguments to the parameters of its task.
 ghost use Rattle.std.specs.Prelude.{◌≡◌, List, [], ◌∷◌, ◌||◌, string_bytes, Some, None};
 ghost use Rattle.std.specs.Option.{option_map};
 ghost use Rattle.canvas_task.specs.Entries.{named};
@@ -10,14 +10,14 @@ ghost use Rattle.canvas_task.specs.Apply.{either, by_name, bound_to};
 use crate::Arg;
 use std::collections::BTreeMap;
 
-/// The argument given by a name.
+/// Returns the keyword argument of a name.
 fn by_name<'a>(parameter: &str, kwargs: &'a BTreeMap<String, Arg>) -> Option<&'a Arg>
     ensures { option_map (λ a. a.now) result ≡ by_name parameter.now (named kwargs.now.entries) }
 {
     kwargs.get(parameter)
 }
 
-/// One of two, if just one is there.
+/// Returns the argument of a parameter if exactly one is given: by position or by name.
 fn either<'a>(given: Option<&'a Arg>, named: Option<&'a Arg>) -> Option<&'a Arg>
     ensures { option_map (λ a. a.now) result
         ≡ either (option_map (λ a. a.now) given.entry) (option_map (λ a. a.now) named.entry) }
@@ -31,8 +31,8 @@ fn either<'a>(given: Option<&'a Arg>, named: Option<&'a Arg>) -> Option<&'a Arg>
     }
 }
 
-/// Whether each name is one of two parameters. It passes on to `keys_known`, and is there for its
-/// contract, which speaks of entries.
+/// Returns whether each name is one of two parameters. It only calls `keys_known`; its contract is
+/// about entries.
 fn known(kwargs: &BTreeMap<String, Arg>, x: &str, y: &str) -> bool
     ensures { result
         ≡ list_all (λ e. list_any (bytes_eq e.0) (x.now ∷ y.now ∷ [])) (named kwargs.now.entries) }
@@ -40,7 +40,8 @@ fn known(kwargs: &BTreeMap<String, Arg>, x: &str, y: &str) -> bool
     keys_known(kwargs, x, y)
 }
 
-/// The same, with a contract that speaks of keys, as the iterator's does.
+/// Returns whether each name is one of two parameters. Its contract is about keys, as the
+/// iterator's is.
 fn keys_known(kwargs: &BTreeMap<String, Arg>, x: &str, y: &str) -> bool
     ensures { result
         ≡ list_all (λ k. bytes_eq (string_bytes k) x.now || bytes_eq (string_bytes k) y.now)
@@ -51,7 +52,7 @@ fn keys_known(kwargs: &BTreeMap<String, Arg>, x: &str, y: &str) -> bool
         .all(|key| key.as_str() == x || key.as_str() == y)
 }
 
-/// The arguments for two parameters.
+/// Returns the arguments for two parameters, if the call fits them.
 pub(crate) fn two<'a>(
     x: &str,
     y: &str,
@@ -69,7 +70,7 @@ pub(crate) fn two<'a>(
     Some((a, b))
 }
 
-/// The argument for one parameter.
+/// Returns the argument for one parameter, if the call fits it.
 pub(crate) fn one<'a>(
     x: &str,
     args: &'a [Arg],

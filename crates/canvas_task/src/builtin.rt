@@ -1,4 +1,4 @@
-//! The built-in tasks. Each is made as a task of one's own is.
+//! The built-in tasks. Each is made like a task of a caller's own.
 
 ghost use Rattle.std.specs.Prelude.{◌≡◌, ◌≢◌, ◌∷◌, [], ◌*ℤ◌, ◌+ℤ◌, List, MatchOption, Ok, pos};
 ghost use Rattle.canvas_task.specs.Builtin.{builtin_named, builtin_of_word, builtin_tasks, first_called, meaning, parameters, quotient, taken, task_name, word};
@@ -11,7 +11,7 @@ use crate::{
 };
 use std::collections::BTreeMap;
 
-// ---- what they answer
+// ---- their answers
 
 #[derive(Clone, Copy, Debug)]
 pub struct Sum;
@@ -41,7 +41,7 @@ impl OfTwo for Product {
     }
 }
 
-/// The quotient rounded towards minus infinity.
+/// Returns the quotient, rounded towards minus infinity.
 fn floor_div(x: i64, y: i64) -> i128
     requires { y ≢ pos 0 }
     ensures { result ≡ floor_div x y }
@@ -160,7 +160,7 @@ pub const Ident: Ident = TaskOfOne {
     answers: Same,
 };
 
-/// `tasks.log_error(uuid)`: the number of the task whose identifier it is given.
+/// `tasks.log_error(uuid)`: the number of the task with the given identifier.
 pub type LogError = TaskOfId<Number>;
 
 pub const LogError: LogError = TaskOfId {
@@ -169,7 +169,7 @@ pub const LogError: LogError = TaskOfId {
     answers: Number,
 };
 
-// ---- all of them
+// ---- the list of them
 
 /// One of the built-in tasks.
 #[derive(Clone, Copy, Debug, PartialEq, Eq)]
@@ -182,17 +182,17 @@ pub enum Builtin {
     LogError,
 }
 
-/// What the arguments of a task's parameters are.
+/// The kind of the arguments that a task takes.
 #[derive(Clone, Copy, Debug, PartialEq, Eq)]
 pub enum ArgKind {
     Number,
     /// A list of numbers.
     Numbers,
-    /// A text that is the identifier of a task.
+    /// The identifier of a task, as text.
     TaskId,
 }
 
-/// The built-in tasks.
+/// All built-in tasks.
 pub const BUILTINS: [Builtin; 6] = [
     Builtin::Add,
     Builtin::Mul,
@@ -225,14 +225,14 @@ fn first_of_word(given: &str, tasks: &[Builtin]) -> Option<Builtin>
 }
 
 impl Builtin {
-    /// The task of a name.
+    /// Returns the task of a name.
     pub fn named(name: &str) -> Option<Builtin>
         ensures { result ≡ builtin_named name.now }
     {
         first_named(name, &BUILTINS)
     }
 
-    /// The task of a word: its name without `tasks.`.
+    /// Returns the task of a word, which is its name without `tasks.`.
     pub fn of_word(word: &str) -> Option<Builtin>
         ensures { result ≡ builtin_of_word word.now }
     {
@@ -252,7 +252,7 @@ impl Builtin {
         }
     }
 
-    /// Its name without `tasks.`.
+    /// Returns its name without `tasks.`.
     pub fn word(self) -> &'static str
         ensures { result.now ≡ word self }
     {
@@ -266,7 +266,7 @@ impl Builtin {
         }
     }
 
-    /// The names of its parameters, of which there are one or two.
+    /// Returns the names of its parameters: one or two.
     pub fn parameters(self) -> (&'static str, Option<&'static str>)
         ensures { MatchOption result.1 (parameters self ≡ result.0.now ∷ [])
             (λ second. parameters self ≡ result.0.now ∷ second.now ∷ []) }
@@ -281,7 +281,7 @@ impl Builtin {
         }
     }
 
-    /// What the arguments of its parameters are.
+    /// Returns the kind of its arguments.
     pub fn takes(self) -> ArgKind
         ensures { result ≡ taken self }
     {
@@ -292,7 +292,7 @@ impl Builtin {
         }
     }
 
-    /// What it answers to a call.
+    /// Returns its answer to a call: a number, which may be out of range, or a kind of exception.
     pub fn call(self, args: &[Arg], kwargs: &BTreeMap<String, Arg>) -> Result<i64, Kind>
         ensures { result ≡ meaning self args.now (named kwargs.now.entries) }
     {
@@ -307,7 +307,7 @@ impl Builtin {
     }
 }
 
-/// What becomes of a call of one of the built-in tasks.
+/// Calls a built-in task and returns the outcome. An unknown name is `NotRegistered`.
 pub fn apply(name: &str, args: &[Arg], kwargs: &BTreeMap<String, Arg>) -> Outcome
     ensures { result ≡ builtin_tasks name.now args.now (named kwargs.now.entries) }
 {
@@ -317,7 +317,7 @@ pub fn apply(name: &str, args: &[Arg], kwargs: &BTreeMap<String, Arg>) -> Outcom
     }
 }
 
-/// The built-in tasks by themselves: `apply`, with no registry and no memory.
+/// The built-in tasks as `Tasks`, without a registry and without allocation.
 #[derive(Clone, Copy, Debug)]
 pub struct BuiltinTasks;
 

@@ -11,7 +11,7 @@ const TASK_MARK: u8 = 0x80;
 
 const GROUP_MARK: u8 = 0x90;
 
-/// The sixteen bytes of a number.
+/// Returns the sixteen bytes of a number's identifier.
 fn identifier(mark: u8, n: u32) -> [u8; 16]
     ensures { result ≡ identifier mark n }
 {
@@ -19,14 +19,14 @@ fn identifier(mark: u8, n: u32) -> [u8; 16]
     [0, 0, 0, 0, 0, 0, 0x80, 0, mark, 0, 0, 0, a, b, c, d]
 }
 
-/// The identifier of a task.
+/// Returns the identifier of a task.
 fn task_id(task: TaskNo) -> Uuid
     ensures { result ≡ identifier task_mark task }
 {
     Uuid::from_bytes(identifier(TASK_MARK, task.get()))
 }
 
-/// A task is printed as its identifier.
+/// Prints a task as its identifier.
 impl fmt::Display for TaskNo {
     ghost use Rattle.std.specs.Prelude.{Some};
     ghost use Rattle.canvas_task.specs.Identifiers.{task_text};
@@ -39,7 +39,7 @@ impl fmt::Display for TaskNo {
     }
 }
 
-/// A number's bytes, the greatest first.
+/// Returns the four bytes of a number, the most significant first.
 fn four_bytes(n: u32) -> [u8; 4]
     ensures { result ≡ four_bytes n }
 {
@@ -47,14 +47,14 @@ fn four_bytes(n: u32) -> [u8; 4]
     [a, b, c, d]
 }
 
-/// The digit of sixteen that stands for the higher half of a byte.
+/// Returns the hexadecimal digit of the higher half of a byte.
 fn high_digit(byte: u8) -> u8
     ensures { result ≡ hex_digit lower (byte / 16 % 16) }
 {
     digit(byte / 16)
 }
 
-/// The digit that stands for the lower half.
+/// Returns the hexadecimal digit of the lower half of a byte.
 fn low_digit(byte: u8) -> u8
     ensures { result ≡ hex_digit lower (byte % 16) }
 {
@@ -72,7 +72,8 @@ fn digit(value: u8) -> u8
     }
 }
 
-/// The text of a number's identifier: what all have in common, the mark and eight digits.
+/// Returns the text of a number's identifier. Only the mark and the eight digits of the number
+/// vary, so it is built from constant bytes and not by `uuid`'s formatter.
 fn text_of(mark: u8, n: u32) -> [u8; 36]
     ensures { result ≡ hyphenated_text lower (identifier mark n) }
 {
@@ -87,7 +88,7 @@ fn text_of(mark: u8, n: u32) -> [u8; 36]
     ]
 }
 
-/// The number that sixteen bytes name.
+/// Returns the number that sixteen bytes identify. No task or group has the number 0.
 fn number_of(mark: u8, id: &[u8; 16]) -> Option<u32>
     ensures { result ≡ number_named mark id.now }
 {
@@ -101,7 +102,7 @@ fn number_of(mark: u8, id: &[u8; 16]) -> Option<u32>
     if n == 0 { None } else { Some(n) }
 }
 
-/// The text of a task's identifier.
+/// Returns the text of a task's identifier.
 pub fn task_text(task: TaskNo) -> [u8; 36]
     ensures value { result ≡ task_text task }
     ensures reads_back { task_named result ≡ Some task }
@@ -110,7 +111,7 @@ pub fn task_text(task: TaskNo) -> [u8; 36]
     text_of(TASK_MARK, task.get())
 }
 
-/// The text of a group's or chord's identifier.
+/// Returns the text of a group's or chord's identifier.
 pub fn group_text(group: GroupNo) -> [u8; 36]
     ensures value { result ≡ group_text group }
     ensures reads_back { group_named result ≡ Some group }
@@ -119,8 +120,8 @@ pub fn group_text(group: GroupNo) -> [u8; 36]
     text_of(GROUP_MARK, group.get())
 }
 
-/// The task that a text names, in any form of a UUID: hyphenated or not, in braces or after
-/// `urn:uuid:`, in either case.
+/// Reads a task's identifier in any form of a UUID: with or without hyphens, in braces or after
+/// `urn:uuid:`, in either case. Returns None if the text identifies no task.
 pub fn task_of_text(text: &str) -> Option<TaskNo>
     ensures { result ≡ task_named text.now }
 {
@@ -130,7 +131,7 @@ pub fn task_of_text(text: &str) -> Option<TaskNo>
     }
 }
 
-/// The group or chord that a text names, in any form of a UUID.
+/// Reads a group's or chord's identifier in any form of a UUID, as `task_of_text` does.
 pub fn group_of_text(text: &str) -> Option<GroupNo>
     ensures { result ≡ group_named text.now }
 {

@@ -1,4 +1,5 @@
-//! Numbers, arguments and outcomes of tasks, and tasks: built-in ones, and those of one's own.
+//! Numbers, arguments and outcomes of tasks, and the tasks: built-in ones, and those that a caller
+//! writes.
 #![tactic(auto)]
 
 mod add_fault;

@@ -23,21 +23,21 @@ impl<T> Model for ListOf<T> {
 }
 
 impl<T> ListOf<T> {
-    /// Wraps a vector. Like the other two calls it copies nothing and takes no memory.
+    /// Wraps a vector. Like `get` and `into_plain`, it clones and allocates nothing.
     pub fn of(items: Vec<T>) -> ListOf<T>
         ensures { result ≡ items.items }
     {
         ListOf { items }
     }
 
-    /// The vector, to be read.
+    /// Borrows the vector.
     pub fn get(&self) -> &Vec<T>
         ensures { result.now.items ≡ self.now }
     {
         &self.items
     }
 
-    /// The vector, given back.
+    /// Returns the vector, consuming the list.
     pub fn into_plain(self) -> Vec<T>
         ensures { result.items ≡ self }
     {

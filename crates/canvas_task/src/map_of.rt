@@ -6,7 +6,8 @@ use std::collections::BTreeMap;
 use std::fmt;
 use std::marker::Model;
 
-/// A map that contracts see as its entries in the order of their names.
+/// A map that contracts see as the list of its entries in the order of their names, since such a
+/// list computes and std's finite maps don't.
 #[derive(Drop)]
 pub struct MapOf<T> {
     map: BTreeMap<String, T>,
@@ -27,16 +28,17 @@ impl<T> Model for MapOf<T> {
 }
 
 impl<T> MapOf<T> {
-    /// Wraps a map. Like the other two calls it copies nothing and takes no memory.
+    /// Wraps a map. Like `get` and `into_plain`, it clones and allocates nothing.
     pub fn of(map: BTreeMap<String, T>) -> MapOf<T>
         ensures { result ≡ named map.entries }
     {
-        // An iterator's contract says that the entries of a map ascend.
+        // The contract of an iterator says that the entries of a map ascend; `of` needs it for the
+        // invariant.
         let _entries = map.iter();
         MapOf { map }
     }
 
-    /// The map, to be read.
+    /// Borrows the map.
     pub fn get(&self) -> &BTreeMap<String, T>
         ensures entries { named result.now.entries ≡ self.now }
         ensures ordered { Ascends self.now }
@@ -44,7 +46,7 @@ impl<T> MapOf<T> {
         &self.map
     }
 
-    /// The map, given back.
+    /// Returns the map, consuming the wrapper.
     pub fn into_plain(self) -> BTreeMap<String, T>
         ensures entries { named result.entries ≡ self }
         ensures ordered { Ascends self }

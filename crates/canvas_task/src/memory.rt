@@ -1,9 +1,9 @@
-//! One error for every growth that was refused.
+//! One error for every allocation failure.
 
 use std::alloc::{AllocError, AllocFailed};
 use thiserror::Error;
 
-/// The error of a growth that was refused.
+/// The error of an allocation that failed.
 #[derive(Clone, Copy, Debug, PartialEq, Eq, Error)]
 #[error("memory refused")]
 pub struct Memory;

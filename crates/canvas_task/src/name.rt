@@ -1,4 +1,4 @@
-//! Which names a task may have.
+//! The rule for names of tasks.
 ghost use Rattle.std.specs.Prelude.{◌≡◌};
 ghost use Rattle.canvas_task.specs.Name.{name_ok, printable};
 ghost use Rattle.std.specs.List.{list_all};
@@ -11,7 +11,7 @@ fn all_printable(bytes: &[u8]) -> bool
     bytes.iter().all(|byte| b'!' <= *byte && *byte <= b'~')
 }
 
-/// Whether a task may have this name: 1 to 128 bytes, each printable ASCII and no space.
+/// Returns whether a task may have this name: 1 to 128 bytes of printable ASCII without spaces.
 pub fn name_ok(name: &str) -> bool
     ensures { result ≡ name_ok name.now }
 {

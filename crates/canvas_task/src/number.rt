@@ -25,7 +25,7 @@ impl Model for TaskNo {
 }
 
 impl TaskNo {
-    /// None of 0, which names no task.
+    /// Makes a task's number. Returns None for 0, which no task has.
     pub fn new(number: u32) -> Option<TaskNo>
         ensures { MatchOption result (number ≡ 0) (λ t. (t ≡ number) × (1 ≤ number)) }
     {
@@ -36,7 +36,7 @@ impl TaskNo {
         }
     }
 
-    /// The number. Those of a plan are counted in file order.
+    /// Returns the number. The tasks of a plan are numbered in file order.
     pub fn get(self) -> u32
         ensures value { result ≡ self }
         ensures least { 1 ≤ result }
@@ -67,7 +67,7 @@ impl Model for GroupNo {
 }
 
 impl GroupNo {
-    /// None of 0, which names no group or chord.
+    /// Makes a group's or chord's number. Returns None for 0, which none has.
     pub fn new(number: u32) -> Option<GroupNo>
         ensures { MatchOption result (number ≡ 0) (λ g. (g ≡ number) × (1 ≤ number)) }
     {
@@ -78,7 +78,7 @@ impl GroupNo {
         }
     }
 
-    /// The number. Those of a plan are counted in file order, groups and chords together.
+    /// Returns the number. The groups and chords of a plan are numbered in file order, together.
     pub fn get(self) -> u32
         ensures value { result ≡ self }
         ensures least { 1 ≤ result }

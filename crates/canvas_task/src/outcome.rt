@@ -1,5 +1,4 @@
-//! Outcomes of tasks, and the exceptions of those that fail, by the names that Celery and Python
-//! give them.
+//! Outcomes of tasks, and the exceptions of failed tasks, by their names in Celery and Python.
 
 ghost use Rattle.std.specs.Prelude.{◌≡◌};
 ghost use Rattle.canvas_task.specs.Apply.{outcome};
@@ -15,7 +14,7 @@ pub enum Kind {
     BadCall,
     /// Printed `ZeroDivisionError`: a division by 0.
     ZeroDivision,
-    /// Printed `OverflowError`: the exact result is past 2^60 on either side.
+    /// Printed `OverflowError`: the exact result is below -2^60 or above 2^60.
     Overflow,
     /// Printed `NotRegistered`, as in Celery: no task has the name.
     NotRegistered,
@@ -37,12 +36,12 @@ impl fmt::Display for Kind {
     }
 }
 
-/// Why a member of a header failed: the exception of its last task.
+/// The reason why a member of a header failed: the exception of its last task.
 #[derive(Clone, Copy, Debug, PartialEq, Eq)]
 pub enum Why {
-    /// One of a task's own.
+    /// An exception that a task raised itself.
     Plain(Kind),
-    /// A `ChordError`. What it depended on is told no further.
+    /// A `ChordError`. The task that it names is not recorded.
     Chord,
 }
 
@@ -63,7 +62,7 @@ impl fmt::Display for Why {
 /// An exception: one of a task's own, or the one that a failed header raises in its body.
 #[derive(Clone, Copy, Debug, PartialEq, Eq)]
 pub enum Fault {
-    /// One of a task's own, printed as its kind.
+    /// An exception that a task raised itself, printed as its kind.
     Plain(Kind),
     /// Celery's `ChordError`. `dep` is the last task of the first member, in header order, that
     /// failed.
@@ -84,17 +83,18 @@ impl fmt::Display for Fault {
     }
 }
 
-/// What became of a task.
+/// The outcome of a task.
 #[derive(Clone, Copy, Debug, PartialEq, Eq)]
 pub enum Outcome {
-    /// Its result. `apply` gives one from -2^60 to 2^60 alone; no other has a word or can be sent.
+    /// The task's result. `apply` returns only results from -2^60 to 2^60; no other result has a
+    /// word (`word_of`) or can be sent in a message.
     Success(i64),
-    /// Its exception, or the one for which it was skipped.
+    /// The exception that the task raised, or the one for which it was skipped.
     Failure(Fault),
 }
 
 impl Outcome {
-    /// What becomes of a task that answers so. A number past 2^60 on either side overflows.
+    /// Turns a task's answer into its outcome. A number below -2^60 or above 2^60 overflows.
     pub fn of(answer: Result<i64, Kind>) -> Outcome
         ensures { result ≡ outcome answer }
     {

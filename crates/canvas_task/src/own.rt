@@ -1,5 +1,5 @@
-//! Tasks of one's own: helpers that take the arguments out of a call, and tasks that need to say no
-//! more than what they answer to them.
+//! Tasks of a caller's own: helpers that take the arguments out of a call, and task types that need
+//! only a function from these to an answer.
 
 ghost use Rattle.std.specs.Prelude.{◌≡◌, ℕ, ℤ, List};
 ghost use Rattle.std.specs.Option.{option_map};
@@ -11,8 +11,8 @@ use crate::arguments::{one, two};
 use crate::{Arg, Kind, Task, TaskNo, checked, task_of_text};
 use std::collections::BTreeMap;
 
-/// The number for a task's only parameter. None where it isn't given, isn't a number, or more is
-/// given.
+/// Returns the number given for a task's only parameter. Returns None if it is missing, is not a
+/// number, or if there are other arguments.
 pub fn one_number(x: &str, args: &[Arg], kwargs: &BTreeMap<String, Arg>) -> Option<i64>
     ensures { result ≡ one_number x.now args.now (named kwargs.now.entries) }
 {
@@ -22,7 +22,8 @@ pub fn one_number(x: &str, args: &[Arg], kwargs: &BTreeMap<String, Arg>) -> Opti
     }
 }
 
-/// The list for a task's only parameter. None where it isn't given, isn't a list, or more is given.
+/// Returns the list given for a task's only parameter. Returns None if it is missing, is not a
+/// list, or if there are other arguments.
 pub fn one_list<'a>(
     x: &str,
     args: &'a [Arg],
@@ -36,8 +37,8 @@ pub fn one_list<'a>(
     }
 }
 
-/// The task whose identifier is given for a task's only parameter. None where it isn't given, is no
-/// such text, or more is given.
+/// Returns the task whose identifier is given for a task's only parameter. Returns None if it is
+/// missing, is not a task's identifier, or if there are other arguments.
 pub fn one_task(x: &str, args: &[Arg], kwargs: &BTreeMap<String, Arg>) -> Option<TaskNo>
     ensures { result ≡ one_task x.now args.now (named kwargs.now.entries) }
 {
@@ -47,8 +48,8 @@ pub fn one_task(x: &str, args: &[Arg], kwargs: &BTreeMap<String, Arg>) -> Option
     }
 }
 
-/// The numbers for a task's two parameters. None where one isn't given, isn't a number, or more is
-/// given.
+/// Returns the numbers given for a task's two parameters. Returns None if one is missing or is not
+/// a number, or if there are other arguments.
 pub fn two_numbers(
     x: &str,
     y: &str,
@@ -63,7 +64,7 @@ pub fn two_numbers(
     }
 }
 
-/// An exact answer, whose number overflows where it is out of range.
+/// Turns an exact answer into one in range: a number out of range is an overflow.
 fn fitted(answer: Result<i128, Kind>) -> Result<i64, Kind>
     ensures { result ≡ fitted answer }
 {
@@ -73,16 +74,16 @@ fn fitted(answer: Result<i128, Kind>) -> Result<i64, Kind>
     }
 }
 
-/// What is answered to a number.
+/// The answer to a number.
 pub trait OfOne: Drop {
     ghost answer: { Self → ℤ → Answer };
 
-    /// The exact number, which overflows where it is out of range, or a kind of exception.
+    /// Returns the exact number, which overflows if it is out of range, or a kind of exception.
     fn answer(&self, x: i64) -> Result<i128, Kind>
         ensures { result ≡ answer self.now x };
 }
 
-/// A task of one number. Any other arguments are a bad call.
+/// A task that takes a number. Any other arguments are a bad call.
 #[derive(Clone, Copy, Debug, Drop)]
 pub struct TaskOfOne<T> {
     pub name: &'static str,
@@ -111,16 +112,16 @@ impl<T: OfOne> Task for TaskOfOne<T> {
     }
 }
 
-/// What is answered to two numbers.
+/// The answer to two numbers.
 pub trait OfTwo: Drop {
     ghost answer: { Self → ℤ → ℤ → Answer };
 
-    /// The exact number, which overflows where it is out of range, or a kind of exception.
+    /// Returns the exact number, which overflows if it is out of range, or a kind of exception.
     fn answer(&self, x: i64, y: i64) -> Result<i128, Kind>
         ensures { result ≡ answer self.now x y };
 }
 
-/// A task of two numbers. Any other arguments are a bad call.
+/// A task that takes two numbers. Any other arguments are a bad call.
 ///
 /// ```
 /// ghost use Rattle.std.specs.Prelude.{◌-ℤ◌, Ok};
@@ -142,8 +143,8 @@ pub trait OfTwo: Drop {
 #[derive(Clone, Copy, Debug, Drop)]
 pub struct TaskOfTwo<T> {
     pub name: &'static str,
-    /// The names of its parameters, in their order, and two of them: of one name twice nothing is
-    /// refused, and a keyword argument of that name is then given to both.
+    /// The names of its two parameters, in order. They should differ: nothing rejects the same name
+    /// twice, and a keyword argument of that name is then given to both.
     pub parameters: (&'static str, &'static str),
     pub answers: T,
 }
@@ -170,16 +171,17 @@ impl<T: OfTwo> Task for TaskOfTwo<T> {
     }
 }
 
-/// What is answered to a list of numbers.
+/// The answer to a list of numbers.
 pub trait OfList: Drop {
     ghost answer: { Self → List ℤ → Answer };
 
-    /// The exact number, which overflows where it is out of range, or a kind of exception.
+    /// Returns the exact number, which overflows if it is out of range, or a kind of exception.
     fn answer(&self, numbers: &[i64]) -> Result<i128, Kind>
         ensures { result ≡ answer self.now numbers.now };
 }
 
-/// A task of a list of numbers, as the body of a chord. Any other arguments are a bad call.
+/// A task that takes a list of numbers, like the body of a chord. Any other arguments are a bad
+/// call.
 #[derive(Clone, Copy, Debug, Drop)]
 pub struct TaskOfList<T> {
     pub name: &'static str,
@@ -208,16 +210,17 @@ impl<T: OfList> Task for TaskOfList<T> {
     }
 }
 
-/// What is answered to the identifier of a task.
+/// The answer to the identifier of a task.
 pub trait OfId: Drop {
     ghost answer: { Self → ℕ → Answer };
 
-    /// The exact number, which overflows where it is out of range, or a kind of exception.
+    /// Returns the exact number, which overflows if it is out of range, or a kind of exception.
     fn answer(&self, task: TaskNo) -> Result<i128, Kind>
         ensures { result ≡ answer self.now task };
 }
 
-/// A task of the identifier of a task, as an error callback. Any other arguments are a bad call.
+/// A task that takes the identifier of a task, like an error callback. Any other arguments are a
+/// bad call.
 #[derive(Clone, Copy, Debug, Drop)]
 pub struct TaskOfId<T> {
     pub name: &'static str,

@@ -1,21 +1,21 @@
-//! The numbers that tasks take and give.
+//! The range of the numbers that tasks take and return.
 ghost use Rattle.std.specs.Prelude.{◌≡◌};
 ghost use Rattle.canvas_task.specs.Apply.{checked};
 ghost use Rattle.canvas_task.specs.Numbers.{in_range};
 
 use crate::Kind;
 
-/// The greatest number that a task takes or gives. The least is its negation.
+/// The greatest number that a task takes or returns. The least is its negation.
 pub(crate) const BOUND: i64 = 1 << 60;
 
-/// Whether a task may take or give the number.
+/// Returns whether a task may take or return the number.
 pub fn in_range(number: i64) -> bool
     ensures { result ≡ in_range number }
 {
     -BOUND <= number && number <= BOUND
 }
 
-/// A number as an answer, where one out of range overflows.
+/// Turns an exact number into an answer. A number out of range is an overflow.
 pub fn checked(n: i128) -> Result<i64, Kind>
     ensures { result ≡ checked n }
 {

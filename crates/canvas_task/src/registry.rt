@@ -1,4 +1,4 @@
-//! A registry of tasks (Celery: app.tasks).
+//! A registry of tasks (Celery: `app.tasks`).
 
 ghost use Rattle.std.specs.Prelude.{◌≡◌, ◌++◌, ◌∷◌, [], Some, None, IfOk, IfErr, unwrap_or};
 ghost use Rattle.std.specs.Str.{bytes_eq};
@@ -12,12 +12,12 @@ use crate::{AddFault, Arg, Fault, Kind, Outcome, Task, Tasks, name_ok};
 use std::alloc::Global;
 use std::collections::BTreeMap;
 
-/// A task in a box, as a registry holds it.
+/// A boxed task, as a registry holds it.
 pub type BoxedTask = Box<dyn Task + Send + Sync>;
 
-/// Tasks by their names. Threads may share it.
+/// Tasks by name. Threads may share a registry.
 ///
-/// It is filled in the function that owns it, by `new` and `add` or at once by `registry_of!`: a
+/// Fill it in the function that owns it, with `new` and `add` or at once with `registry_of!`. A
 /// function that boxes a task and hands out the registry with it, in its result or under a `&mut`,
 /// would hide from its caller what the task means, and the gate refuses that.
 #[derive(Drop)]
@@ -25,7 +25,8 @@ pub struct Registry {
     tasks: Vec<BoxedTask>,
 }
 
-/// A task that was not added, given back, and why.
+/// A task that was not added, and why. It is no `Error`, since it returns the object; `cause` is
+/// one.
 #[derive(Drop)]
 pub struct NotAdded {
     pub cause: AddFault,
@@ -44,7 +45,7 @@ fn has_good_name(task: &BoxedTask) -> bool
     name_ok(task.name())
 }
 
-/// What becomes of a call of a task.
+/// Calls a task and returns the outcome.
 fn outcome_of(task: &BoxedTask, args: &[Arg], kwargs: &BTreeMap<String, Arg>) -> Outcome
     ensures { result ≡ outcome (answers task.now args.now (named kwargs.now.entries)) }
 {
@@ -52,7 +53,7 @@ fn outcome_of(task: &BoxedTask, args: &[Arg], kwargs: &BTreeMap<String, Arg>) ->
 }
 
 impl Registry {
-    /// A registry without tasks.
+    /// Makes an empty registry.
     pub fn new(alloc: Global) -> Registry
         ensures { tasks_in called answers result ≡ [] }
     {
@@ -72,8 +73,8 @@ impl Registry {
         false
     }
 
-    /// Adds a task, unless its name is bad or there. A refused task is given back, and the registry
-    /// is as it was.
+    /// Adds a task, unless its name is not allowed or already taken. If it fails, it returns the
+    /// task and leaves the registry unchanged.
     pub fn add(&mut self, task: BoxedTask) -> Result<(), NotAdded>
         ensures added { IfOk result (λ _.
             tasks_in called answers self.new
@@ -107,8 +108,8 @@ impl Registry {
         }
     }
 
-    /// What becomes of a call: NotRegistered where no task has the name, else what the task
-    /// answers, where a number out of range overflows.
+    /// Calls the task of a name and returns the outcome: `NotRegistered` if there is none, and an
+    /// overflow if the task's number is out of range. Allocates nothing.
     pub fn apply(&self, name: &str, args: &[Arg], kwargs: &BTreeMap<String, Arg>) -> Outcome
         ensures { result
             ≡ behaviour_of (tasks_in called answers self.now)
@@ -136,10 +137,10 @@ impl Tasks for Registry {
     ghost in_range = { λ r. behaviour_in_range _ };
 }
 
-/// A registry of these tasks, as a `Result<Registry, AddFault>`: `registry_of!(alloc; Add, Mul,
-/// Sub)?`. A task that is refused is dropped.
+/// Makes a registry of the given tasks, as a `Result<Registry, AddFault>`: `registry_of!(alloc;
+/// Add, Mul, Sub)?`. A task that is refused is dropped.
 ///
-/// It is a macro, since the boxes are to be made in the function that has the registry: one that
+/// It is a macro, so that the boxes are made in the function that has the registry: a function that
 /// makes them and hands them out hides what they mean.
 #[macro_export]
 macro_rules! registry_of {

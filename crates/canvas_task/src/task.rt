@@ -1,4 +1,4 @@
-//! A task, and what answers calls of tasks.
+//! The trait of a task, and the bound by which a run calls tasks.
 
 ghost use Rattle.std.specs.Prelude.{◌≡◌};
 ghost use Rattle.canvas_task.specs.Apply.{AnswersInRange, Behaviour, Meaning};
@@ -8,14 +8,14 @@ ghost use Rattle.canvas_task.specs.Text.{Text};
 use crate::{Arg, Kind, Outcome};
 use std::collections::BTreeMap;
 
-/// A task: a name, and what it answers to a call.
+/// A task: a name, and an answer to each call.
 ///
-/// What it answers is a function of what the object holds and of the arguments, and takes no
-/// memory. `called` and `answers` say it to contracts; the two methods are proved to be them.
+/// The answer is a function of what the object holds and of the arguments, and allocates nothing;
+/// so a task cannot read a clock, a cell or a lock. `called` and `answers` define both for
+/// contracts, and the methods are proved to match them.
 ///
-/// `TaskOfOne`, `TaskOfTwo`, `TaskOfList` and `TaskOfId` are tasks that need only what they answer
-/// to what they are given. Any other is written whole, as one that answers how many arguments it is
-/// given:
+/// `TaskOfOne`, `TaskOfTwo`, `TaskOfList` and `TaskOfId` need only the answer to their arguments.
+/// Any other task implements the whole trait, like this one, which counts its arguments:
 ///
 /// ```
 /// ghost use Rattle.std.specs.Prelude.{codes, pos, length, Ok};
@@ -42,22 +42,26 @@ pub trait Task: Drop {
 
     ghost answers: { Self → Meaning };
 
-    /// Its name, as canvases spell it.
+    /// Returns its name, as canvases spell it.
     fn name(&self) -> &str
         ensures { result.now ≡ called self.now };
 
-    /// What it answers: a number, which `Registry::apply` keeps to its range, or a kind of
+    /// Returns its answer: a number, which `Registry::apply` checks for its range, or a kind of
     /// exception.
     fn call(&self, args: &[Arg], kwargs: &BTreeMap<String, Arg>) -> Result<i64, Kind>
         ensures { result ≡ answers self.now args.now (named kwargs.now.entries) };
 }
 
-/// What a run calls its tasks by: a `Registry`, or a type of one's own that answers for its tasks
-/// itself.
+/// The tasks that a run calls: a `Registry`, or a caller's own type that answers for all of its
+/// tasks.
+///
+/// The engine is generic over this bound, and does not name `Registry`, because only contracts of
+/// this crate can name the ghost members of a registry's trait objects. A type that implements it
+/// itself, like `BuiltinTasks`, needs no boxes and allocates nothing.
 pub trait Tasks {
     ghost behaviour: { Self → Behaviour };
 
-    /// What becomes of a call.
+    /// Calls a task and returns the outcome.
     fn apply(&self, name: &str, args: &[Arg], kwargs: &BTreeMap<String, Arg>) -> Outcome
         ensures { result ≡ behaviour self.now name.now args.now (named kwargs.now.entries) };
 

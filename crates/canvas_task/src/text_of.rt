@@ -23,21 +23,21 @@ impl Model for TextOf {
 }
 
 impl TextOf {
-    /// Wraps a text. Like the other two calls it copies nothing and takes no memory.
+    /// Wraps a text. Like `get` and `into_plain`, it clones and allocates nothing.
     pub fn of(text: String) -> TextOf
         ensures { result ≡ string_bytes text }
     {
         TextOf { text }
     }
 
-    /// The text, to be read.
+    /// Borrows the text.
     pub fn get(&self) -> &String
         ensures { string_bytes result.now ≡ self.now }
     {
         &self.text
     }
 
-    /// The text, given back.
+    /// Returns the text, consuming the wrapper.
     pub fn into_plain(self) -> String
         ensures { string_bytes result ≡ self }
     {

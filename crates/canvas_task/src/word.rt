@@ -1,4 +1,6 @@
-//! An outcome as one number, so that a single atomic word can hold it.
+//! An outcome as one number of 64 bits, so that a single atomic word can hold it: 0 for a pending
+//! task, n + 2^60 + 1 for the result n, 2^63 + k for a plain failure, and 2^63 + 16 · d + k for a
+//! `ChordError` that names the task d. The code k is that of `kind_code` or `why_code`.
 ghost use Rattle.std.specs.Prelude.{◌≡◌, ◌≢◌, ◌<◌, ◌≤◌, ◌^◌, Some, IfSome, IfNone};
 ghost use Rattle.canvas_task.specs.Apply.{IsInRange};
 ghost use Rattle.canvas_task.specs.declared.outcome.Outcome.{Outcome};
@@ -7,7 +9,7 @@ ghost use Rattle.canvas_task.specs.Words.{FitsAWord, kind_code, kind_of_code, wh
 use crate::range::BOUND;
 use crate::{Fault, Kind, Outcome, TaskNo, Why};
 
-/// What the number of a success is shifted by, so that the least of them has the word 1.
+/// The number added to a result, so that the least result has the word 1.
 const SHIFT: i64 = BOUND + 1;
 
 const GREATEST_SUCCESS: u64 = 2 * BOUND as u64 + 1;
@@ -71,7 +73,7 @@ fn fault_of(dep: u64, code: u64) -> Option<Fault>
     Some(Fault::Chord { dep, why })
 }
 
-/// The word of an outcome. The word 0 is left for a task that has no outcome yet.
+/// Returns the word of an outcome. It is never 0, which means that a task has no outcome yet.
 pub fn word_of(outcome: &Outcome) -> u64
     requires { IsInRange outcome.now }
     ensures value { result ≡ word outcome.now }
@@ -87,7 +89,7 @@ pub fn word_of(outcome: &Outcome) -> u64
     }
 }
 
-/// The outcome that a word stands for, if it is one's.
+/// Returns the outcome that a word encodes, if there is one.
 #[tactic(auto, using(crate::proofs::WordLemmas::no_word))]
 pub fn outcome_of(found: u64) -> Option<Outcome>
     ensures value { result ≡ outcome_named found }

@@ -1,4 +1,4 @@
--- What stands in a value is less deep than it: so its own depth leaves no signature out.
+-- The parts of a value are less deep than it, so its own depth as a bound leaves no signature out.
 use Rattle.std.proofs.Common.{◌≡◌, ℕ, zero, suc, ◌<◌, ◌≤◌, List, [], ◌∷◌, ◌++◌, map, Bool, true, false, Option, Some, None, Ordering, Less, Equal, Greater, refl, sym, ap, ap₂, ◌∙◌, arith}
 use Rattle.std.specs.Prelude.{codes, unwrap_or}
 use Rattle.std.specs.Cmp.Lexicographic.{slice_cmp}
@@ -95,7 +95,7 @@ module _ (n : ℕ) where
 
 -- ---- the first fault
 
--- nothing stands in a value that is neither a list nor an object, and it is no signature
+-- a value that is neither a list nor an object has no parts, and it is no signature
 flat_fault : (m : ℕ) (linked : Bool) (d : Data) → depth d ≤ 0 → fault_left (suc m) linked d ≡ own_fault linked d
 flat_fault m linked null low = refl
 flat_fault m linked (boolean b) low = refl

@@ -89,6 +89,6 @@ past_limit w r h = grind (arith, nat_tests)
 not_past : (n : ℕ) → n ≤ 8 → nat_lt 8 n ≡ false
 not_past n h = grind (arith, nat_tests)
 
--- a canvas that doesn't nest too deep is too deep by its reach alone
+-- a canvas that doesn't nest too deep is too deep only by its reach
 pub deep_by_reach : (n w r : ℕ) → n ≤ 8 → w ≡ capped r → nat_lt 32 w ≡ (nat_lt 8 n || nat_lt 32 r)
 deep_by_reach n w r h is = past_limit w r is ∙ ap (λ b. b || nat_lt 32 r) (sym (not_past n h))

@@ -26,6 +26,6 @@ shallow t h =
     let both = neither (nat_lt most_nesting (nesting t)) (nat_lt most_reach (reach 0 (normal t))) deep in
     (ltb-false most_nesting (nesting t) both.0, ltb-false most_reach (reach 0 (normal t)) both.1)
 
--- below the limit a depth is told as it is
+-- up to the limit the capped reach is the reach
 pub uncapped : (w r : ℕ) → r ≤ most_reach → w ≡ capped r → w ≡ r
 uncapped w r low is = omega (arith, low, is)

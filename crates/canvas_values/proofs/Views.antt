@@ -13,7 +13,7 @@ pub task_seen : (s : TaskSig)
     (tasks_of (map task_view (out-TaskSig s).links)) (tasks_of (map task_view (out-TaskSig s).errbacks))
 task_seen s = sig.fold_out-TaskSig Task task_step s
 
--- what is said of a signature by its parts
+-- the data of a signature, from its parts
 abbrev pub parts : List ℕ → List Arg → List (List ℕ × Arg) → Bool → List Task → List Task → Task
 parts n a k i ls es = task 0 (record { name = n; args = a; kwargs = k; immutable = i }) (tasks_of ls) (tasks_of es)
 

@@ -1,4 +1,4 @@
--- Answers that may be refusals, and the first of several refusals.
+-- Results that may be refusals, and the first of several refusals.
 use Rattle.std.specs.Prelude.{◌≡◌, Bool, if◌then◌else◌, List, [], ◌∷◌, Option, Some, None, Result, Ok, Err}
 use Rattle.canvas_values.specs.declared.fault.SigFault.{SigFault}
 use Rattle.canvas_values.specs.declared.fault.SigFault.TheVariants.{Memory}
@@ -8,7 +8,7 @@ abbrev pub ◌>>=◌ : {A B : Type 0} → Result A SigFault → (A → Result B 
 (Ok x) >>= f = f x
 (Err e) >>= f = Err e
 
--- What a function returned, seen by view, is what reading gives, unless memory ran out.
+-- A function returned what reading gives, seen by `view`, unless memory ran out.
 abbrev pub Fails : {Y : Type 0} → SigFault → Result Y SigFault → Type 0
 Fails Memory read = Unit {0}
 Fails e read = read ≡ Err e
@@ -30,12 +30,12 @@ abbrev pub unless : {A : Type 0} → Option SigFault → Result A SigFault → R
 unless None read = read
 unless (Some e) read = Err e
 
--- a fault, or the value where there is none
+-- a fault, or the value if there is none
 abbrev pub judged : {A E : Type 0} → Option E → A → Result A E
 judged None x = Ok x
 judged (Some e) x = Err e
 
--- each in turn
+-- the results of the elements in order, or the first fault
 abbrev pub in_turn : {A B : Type 0} → (A → Result B SigFault) → List A → Result (List B) SigFault
 in_turn f [] = Ok []
 in_turn f (x ∷ xs) = f x >>= λ y. in_turn f xs >>= λ ys. Ok (y ∷ ys)

@@ -20,7 +20,7 @@ most_bytes = 1048576
 abbrev pub json_of : Text → Option Data
 json_of bytes = if is_utf8 bytes then read bytes else None
 
--- the canvas that a JSON value spells, where neither a signature nor the whole canvas is refused
+-- the canvas that a JSON value spells, if neither a signature nor the whole canvas is refused
 abbrev pub canvas_reading : Data → Result Tree SigFault
 canvas_reading d = judged (signature_fault d or_else tree_fault (tree_said d)) (tree_said d)
 

@@ -1,6 +1,5 @@
--- The refusals of a canvas that was composed (Celery's signatures): a text can spell each of them
--- too, and is then refused for the same reason. What else refuses a text is of its JSON, and can't
--- be composed.
+-- The refusals of a composed canvas (Celery's signatures): a text can have each of these faults
+-- too, and is then refused for the same reason. The other refusals of a text are about its JSON.
 use Rattle.std.specs.Prelude.{Bool, true, not, ◌&&◌, Option, Some, None, Result, Ok, Err}
 use Rattle.std.specs.List.{list_all}
 use Rattle.canvas_task.specs.Name.{name_ok}
@@ -35,7 +34,8 @@ call_fault c =
 abbrev pub its_call : Task → Call
 its_call (task k call links errbacks) = call
 
--- A signature before those in it, and these in their order: the first with a fault decides.
+-- A signature comes before those nested in it, and these in their order; the first with a fault
+-- decides.
 abbrev mutual
   pub task_fault : Task → Option SigFault
   task_fault (task k call links errbacks) =

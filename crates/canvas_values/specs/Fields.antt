@@ -1,4 +1,4 @@
--- The members of a JSON value (RFC 8259), where one that is missing is null.
+-- The members of a JSON value (RFC 8259); a missing one is null.
 use Rattle.std.specs.Prelude.{Bool, true, false, ◌||◌, List, [], ◌∷◌, unwrap_or, map, codes}
 use Rattle.serde_json.specs.Data.{Data, null, boolean, number, string, array, object, Items, no_items, item, Members, no_members, member}
 use Rattle.serde_json.specs.Find.{get}
@@ -40,7 +40,7 @@ link d = option (codes "link") d
 abbrev pub link_error : Data → Data
 link_error d = option (codes "link_error") d
 
--- ---- what stands in a member
+-- ---- the contents of a member
 
 abbrev pub items : Items → List Data
 items no_items = []
@@ -50,12 +50,12 @@ abbrev pub entries : Members → List (Text × Data)
 entries no_members = []
 entries (member k d ms) = (k, d) ∷ entries ms
 
--- a list, where null is empty
+-- the elements of a list; null is the empty list
 abbrev pub listed : Data → List Data
 listed (array ds) = items ds
 listed d = []
 
--- a list, where null is empty and one value stands for a list of one
+-- the elements of a list; null is the empty list, and a single value is a list of one
 abbrev pub as_list : Data → List Data
 as_list (array ds) = items ds
 as_list null = []
@@ -73,7 +73,7 @@ abbrev pub text_of : Data → Text
 text_of (string s) = s
 text_of d = []
 
--- ---- of which kind it is
+-- ---- kinds of values
 
 abbrev pub is_null : Data → Bool
 is_null null = true

@@ -1,6 +1,5 @@
--- The grammar of a signature: of which kinds its arguments are, what it stands for, and its own
--- faults, each by itself (Celery's user guide, Canvas: signatures; the JSON of
--- `json.dumps(signature)`).
+-- The grammar of a signature: the kinds of its arguments, its own kind, and its own faults, each by
+-- itself (Celery's user guide, Canvas: signatures; the JSON of `json.dumps(signature)`).
 use Rattle.std.specs.Prelude.{Bool, true, false, not, ◌&&◌, ◌||◌, if◌then◌else◌, map, Option, Some, None, Result, Ok, codes, ℤ, pos}
 use Rattle.std.specs.List.{list_all}
 use Rattle.std.specs.Str.{bytes_eq}
@@ -21,7 +20,7 @@ use Rattle.canvas_values.specs.Answers.{◌>>=◌, ◌or_else◌, fault_if, judg
 
 -- ---- arguments: a whole number in range, a text, or a list of whole numbers in range
 
--- of an allowed kind: a number, a text, or a list of numbers
+-- an allowed kind: a number, a text, or a list of numbers
 abbrev pub kind_ok : Data → Bool
 kind_ok (number n) = true
 kind_ok (string s) = true
@@ -53,17 +52,17 @@ abbrev pub whole_number : Data → ℤ
 whole_number (number n) = some_or_zero (as_i64 n)
 whole_number d = pos 0
 
--- what one without a fault stands for
+-- the argument that a value without a fault spells
 abbrev pub argument_of : Data → Arg
 argument_of (string s) = arg.Text s
 argument_of (array ds) = arg.List (map whole_number (items ds))
 argument_of d = arg.Num (whole_number d)
 
--- the argument that a value stands for, or its fault
+-- the argument that a value spells, or its fault
 abbrev pub arg_reading : Data → Result Arg SigFault
 arg_reading d = judged (arg_fault d) (argument_of d)
 
--- whether reading it asks for memory: a text does, and so does a list of numbers that isn't empty
+-- whether reading it allocates: a text does, and so does a list of numbers that isn't empty
 abbrev pub takes_memory : Data → Bool
 takes_memory (string s) = true
 takes_memory (array ds) = not (is_empty (array ds)) && kind_ok (array ds)
@@ -72,13 +71,13 @@ takes_memory d = false
 abbrev pub named_reading : Text × Data → Result (Text × Arg) SigFault
 named_reading e = arg_reading e.1 >>= λ a. Ok (e.0, a)
 
--- ---- what a signature stands for, and its own faults
+-- ---- the kind of a signature, and its own faults
 
 abbrev pub is_name : Data → Bool
 is_name (string s) = name_ok s
 is_name d = false
 
--- what a `subtask_type` says
+-- the kind that a `subtask_type` names
 abbrev pub primitive_named : Text → Option Primitive
 primitive_named s =
     if bytes_eq s (codes "chain") then Some kind.Chain
@@ -121,7 +120,7 @@ abbrev pub bad_number : Primitive → Data → Bool
 bad_number kind.Task d = not (args_ok numbers_ok d)
 bad_number p d = false
 
--- What only a task has stands on a chain, group or chord, or one of these is a link or an error
+-- A chain, group or chord has something that only tasks may have, or is a link or an error
 -- callback.
 abbrev pub on_canvas : Bool → Primitive → Data → Bool
 on_canvas linked kind.Task d = false
@@ -148,7 +147,7 @@ abbrev pub own_fault : Bool → Data → Option SigFault
 own_fault linked d =
     fault_if (not_signature d) NotSignature or_else fault_as linked d (primitive_of (subtype d))
 
--- what stands in a group
+-- the members of a group
 abbrev pub members_in : Tree → Trees
 members_in (group g ms) = ms
 members_in t = no_trees

@@ -6,7 +6,7 @@ use Rattle.canvas_values.specs.declared.fault.SigFault.TheVariants.{NestedGroup,
 use Rattle.canvas_semantics.specs.Tree.{Tree}
 use Rattle.canvas_semantics.specs.Bounds.{nests_group, is_too_deep, is_too_many}
 
--- the first refusal of a canvas whose signatures are in order
+-- the first refusal of a canvas whose signatures have no faults
 abbrev pub tree_fault : Tree → Option SigFault
 tree_fault c =
     if nests_group c then Some NestedGroup

@@ -1,5 +1,5 @@
 -- The first fault of a signature (Celery's, as `json.dumps(signature)` writes it) in file order,
--- and apart from it the canvas that a signature without one spells.
+-- and, defined separately, the canvas that a signature without faults spells.
 use Rattle.std.specs.Prelude.{ℕ, zero, suc, Bool, true, false, List, [], ◌∷◌, ◌++◌, map, Option, Some, None, codes}
 use Rattle.serde_json.specs.Data.{Data, array, depth}
 use Rattle.canvas_task.specs.declared.arg.Arg.{Arg}
@@ -26,9 +26,10 @@ in_kwargs (Some kind.Group) d = listed (tasks d)
 in_kwargs (Some kind.Chord) d = as_list (header d) ++ body d ∷ []
 in_kwargs p d = []
 
--- A signature before those in it, and these in the order tasks; header, body; link, link_error. The
--- first with a fault decides. A header that is a group signature is a signature of its own. The
--- number bounds how deep arrays and objects nest in the value: where it is 0 nothing stands in it.
+-- A signature comes before those nested in it, and these in the order tasks; header, body; link,
+-- link_error. The first with a fault decides. A header that is a group signature is a signature of
+-- its own. The number bounds how deep arrays and objects nest in the value: at 0 it contains no
+-- signatures.
 abbrev pub fault_within : ℕ → Bool → Data → Option SigFault
 fault_within zero linked d = own_fault linked d
 fault_within (suc n) linked d =
@@ -37,7 +38,7 @@ fault_within (suc n) linked d =
     or_else first_fault (fault_within n true) (as_list (link d)) or_else first_fault
     (fault_within n true) (as_list (link_error d))
 
--- ---- what a signature without a fault reads as
+-- ---- what a signature without a fault spells
 
 abbrev pub named_of : Text × Data → Text × Arg
 named_of e = (e.0, argument_of e.1)
@@ -56,12 +57,12 @@ task_within (suc n) d =
     task 0 (spelled_call d) (tasks_of (map (task_within n) (as_list (link d))))
     (tasks_of (map (task_within n) (as_list (link_error d))))
 
--- the members of a header, which is a list, or one group signature
+-- the members of a header, which is a list or a single group signature
 abbrev pub header_of : (Data → Tree) → Data → Trees
 header_of f (array ds) = trees_of (map f (items ds))
 header_of f d = members_in (f d)
 
--- a signature that stands for a primitive, by what those in it read as, and as a task
+-- the tree of a signature of a kind, from the trees of its parts, and its own task
 abbrev pub tree_from : Task → (Data → Tree) → Option Primitive → Data → Tree
 tree_from t f (Some kind.Chain) d = chain (trees_of (map f (listed (tasks d))))
 tree_from t f (Some kind.Group) d = group 0 (trees_of (map f (listed (tasks d))))
@@ -73,8 +74,8 @@ tree_within zero d = one (task_within zero d)
 tree_within (suc n) d =
     tree_from (task_within (suc n) d) (tree_within n) (primitive_of (subtype d)) d
 
--- ---- As deep as the value is, which leaves no signature out: `law_of_parts` says the same with no
--- number at all (`ByParts`).
+-- ---- The depth of the value as the bound, which leaves no signature out: `law_of_parts` states
+-- the same without a number (`ByParts`).
 
 unfoldable pub signature_fault : Data → Option SigFault
 signature_fault d = fault_within (depth d) false d

@@ -1,5 +1,5 @@
--- The data that signatures stand for (Celery user guide, Canvas: signatures). Nothing is numbered
--- yet: each number is 0.
+-- The data that contracts see of signatures (Celery user guide, Canvas: signatures). Nothing is
+-- numbered yet: each number is 0.
 use Rattle.std.specs.Prelude.{ℕ, ℤ, List, [], ◌∷◌, map, false}
 use Rattle.canvas_task.specs.declared.arg.Arg.TheVariants.{Num}
 use Rattle.canvas_semantics.specs.Tree.{Task, task, Tasks, no_tasks, and_task, Tree, one, chain, group, chord, Trees, no_trees, and_tree}
@@ -24,7 +24,7 @@ task_step s =
 abbrev pub task_view : TaskSig → Task
 task_view = fold-TaskSig Task task_step
 
--- one level, with each signature inside already seen as its data
+-- one level, with each nested signature already seen as its data
 abbrev pub one_level : Node-F Tree → Tree
 one_level (Node-F.Task t) = one (task_view t)
 one_level (Node-F.Chain ns) = chain (trees_of ns)
@@ -34,7 +34,7 @@ one_level (Node-F.Chord header body) = chord 0 (trees_of header) body.value
 abbrev pub view : Node → Tree
 view = fold-Node Tree one_level
 
--- a call with these numbers and nothing else, as Celery's `s()` makes one
+-- a call with only these numbers, as Celery's `s()` makes one
 abbrev pub call_of : List ℕ → List ℤ → Task
 call_of name numbers =
     task 0 (record { name = name; args = map Num numbers; kwargs = []; immutable = false }) no_tasks

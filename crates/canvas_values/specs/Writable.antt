@@ -1,10 +1,10 @@
--- What a canvas holds.
+-- The invariant of a canvas.
 use Rattle.std.specs.Prelude.{◌≡◌, None}
 use Rattle.canvas_task.specs.Entries.{Ascends}
 use Rattle.canvas_values.specs.ComposedRefusals.{node_fault}
 use Rattle.canvas_semantics.specs.Tree.{Task, task, Tasks, no_tasks, and_task, Tree, one, chain, group, chord, Trees, no_trees, and_tree}
 
--- ---- not numbered yet, and each name of a keyword argument once, in the order of the names
+-- ---- not numbered yet, and the names of keyword arguments ascend, each once
 
 abbrev mutual
   pub TaskComposed : Task → Type 0
@@ -26,7 +26,7 @@ abbrev mutual
   AreComposed no_trees = Unit {0}
   AreComposed (and_tree t ts) = IsComposed t × AreComposed ts
 
--- what a canvas holds: nothing refuses it
+-- a canvas: nothing refuses it, and it is composed
 pub record IsCanvas (c : Tree) : Type 0 where
   pub fine : node_fault c ≡ None
   pub composed : IsComposed c

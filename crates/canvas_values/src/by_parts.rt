@@ -1,9 +1,9 @@
-//! The law of the definitions of refusals and of what signatures spell.
+//! The law of the definitions of refusals and of what a JSON value spells.
 
 ghost use Rattle.canvas_values.specs.ByParts.{FaultsByParts, TasksByParts, TreesByParts};
 
-/// What is said of a signature is said by what is said of those in it, however deep they are: the
-/// numbers by which the definitions go down leave none out.
+/// States that the first fault of a signature, and what it spells, follow from those of its parts,
+/// at any depth: the numbers that bound the recursion of the definitions leave no part out.
 pub fn law_of_parts()
     ensures faults { FaultsByParts }
     ensures tasks { TasksByParts }

@@ -12,8 +12,11 @@ use crate::{Node, SigFault};
 use std::alloc::Global;
 use std::marker::Model;
 
-/// A signature that passed every check. Contracts compare two canvases by their content; there is
-/// no `PartialEq` at run time.
+/// A signature that passed every check.
+///
+/// Its model is the tree that it spells, so in contracts `≡` compares two canvases by their
+/// content; on a bare `Node` it would also compare the pointers of boxes. There is no `PartialEq`
+/// at run time.
 #[derive(Drop)]
 pub struct Canvas {
     node: Node,
@@ -36,13 +39,13 @@ impl Model for Canvas {
 }
 
 impl Canvas {
-    /// Checks a composed signature: names, numbers and empty chains, signature by signature, and
-    /// then the limits of a canvas. A text can spell these faults too; its other faults are of its
-    /// JSON, and no composed signature has them.
+    /// Checks a composed signature: the names, numbers and empty chains, signature by signature,
+    /// and then the limits of a canvas. A text can have these faults too; its other faults are in
+    /// its JSON, and no composed signature has them.
     ///
-    /// A node that is refused is dropped. The first checks walk as deep as the node before the
-    /// limit of depth is looked at, so one that was composed a hundred thousand deep may exhaust
-    /// the stack. No text does that: JSON is read at most 127 deep.
+    /// A refused node is dropped. The first checks descend the whole node before the limit of depth
+    /// is checked, so a node composed a hundred thousand deep may exhaust the stack. No text does
+    /// that: JSON is read at most 127 deep.
     pub fn of(_alloc: Global, node: Node) -> Result<Canvas, SigFault>
         ensures ok { IfOk result
             (λ canvas. (node_fault (view node) ≡ None) × (canvas ≡ view node)) }
@@ -52,8 +55,8 @@ impl Canvas {
         Canvas::within_limits(node)
     }
 
-    /// A canvas of a signature that nothing but the limits of a canvas may refuse, as one that was
-    /// read of a text.
+    /// Makes a canvas of a signature that only the limits of a canvas may refuse, as one read from
+    /// a text.
     pub fn within_limits(node: Node) -> Result<Canvas, SigFault>
         requires fine { tree_fault (view node) ≡ None → IsCanvas (view node) }
         ensures ok { IfOk result
@@ -66,7 +69,7 @@ impl Canvas {
         }
     }
 
-    /// The signature, as it was read or composed.
+    /// Borrows the signature, as it was read or composed.
     pub fn node(&self) -> &Node
         ensures seen { view result.now ≡ self.now }
         ensures checked { IsCanvas self.now }
@@ -74,7 +77,7 @@ impl Canvas {
         &self.node
     }
 
-    /// The signature, given back.
+    /// Returns the signature, consuming the canvas.
     pub fn into_node(self) -> Node
         ensures seen { view result ≡ self }
         ensures checked { IsCanvas self }

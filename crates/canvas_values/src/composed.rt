@@ -1,4 +1,4 @@
-//! Checks of composed signatures: their names, their numbers, and chains of nothing.
+//! Checks of composed signatures: their names, their numbers, and empty chains.
 
 ghost use Rattle.std.specs.Prelude.{◌≡◌, map, OnOk};
 ghost use Rattle.std.specs.List.{list_all};
@@ -29,14 +29,15 @@ fn arg_fits(arg: &Arg) -> bool
     }
 }
 
-/// Whether each number in them is in range.
+/// Returns whether each number in the arguments is in range.
 pub fn args_fit(args: &[Arg]) -> bool
     ensures { result ≡ list_all arg_ok args.now }
 {
     args.iter().all(|arg| arg_fits(arg))
 }
 
-/// The same of keyword arguments, which stand in the order of their names.
+/// Returns whether each number in keyword arguments is in range. Its contract also says that their
+/// names ascend.
 pub fn kwargs_fit(kwargs: &BTreeMap<String, Arg>) -> bool
     ensures fit { result ≡ list_all (λ e. arg_ok e.1) (named kwargs.now.entries) }
     ensures ordered { Ascends (named kwargs.now.entries) }
@@ -83,7 +84,7 @@ fn check_tasks(sigs: &[TaskSig]) -> Result<(), SigFault>
     Ok(())
 }
 
-/// Checks a signature, and then those in it.
+/// Checks a signature, and then those nested in it.
 #[cycle(check_node)]
 pub(crate) fn check_node(node: &Node) -> Result<(), SigFault>
     ensures fault { refusal_of result ≡ signatures_fault (view node.now) }

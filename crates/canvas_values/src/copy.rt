@@ -1,4 +1,4 @@
-//! Copies of signatures.
+//! Cloning signatures.
 ghost use Rattle.std.specs.Prelude.{◌≡◌, IfOk, map};
 ghost use Rattle.canvas_values.specs.SignatureView.{task_view};
 
@@ -6,7 +6,7 @@ use crate::TaskSig;
 use canvas_task::{ListOf, copy_args, copy_kwargs};
 use std::alloc::{AllocError, Global};
 
-/// A copy, with copies of its links and error callbacks.
+/// Clones a signature, with its links and error callbacks.
 #[cycle(copy)]
 #[tactic(auto, using(crate::proofs::Views::task_seen))]
 pub fn copy_sig(alloc: Global, sig: &TaskSig) -> Result<TaskSig, AllocError>
@@ -27,7 +27,7 @@ pub fn copy_sig(alloc: Global, sig: &TaskSig) -> Result<TaskSig, AllocError>
     })
 }
 
-/// Copies of several, in their order.
+/// Clones several signatures, in order.
 #[cycle(copy)]
 pub fn copy_sigs(alloc: Global, sigs: &[TaskSig]) -> Result<ListOf<TaskSig>, AllocError>
     ensures { IfOk result (λ copies. map task_view copies ≡ map task_view sigs.now) }

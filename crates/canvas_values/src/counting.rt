@@ -1,4 +1,4 @@
-//! Whether a canvas has more tasks, or more groups and chords, than a number.
+//! Checks whether a canvas has more tasks, or more groups and chords, than a given number.
 
 ghost use Rattle.std.specs.Prelude.{map};
 ghost use Rattle.canvas_semantics.specs.Tree.{count, count_all, count_task, count_tasks, count_groups, count_all_groups};
@@ -7,8 +7,8 @@ ghost use Rattle.canvas_values.specs.steps.Budget.{LeavesOver};
 
 use crate::{Node, TaskSig};
 
-/// What is left of `left` tasks after a task with its links and error callbacks; None where they
-/// are more.
+/// Subtracts a task, with its links and error callbacks, from `left`. Returns None if they are more
+/// than `left`.
 #[cycle(task_counting)]
 #[tactic(auto, using(crate::proofs::Views::task_seen))]
 fn left_after_task(sig: &TaskSig, left: u32) -> Option<u32>
@@ -30,7 +30,7 @@ fn left_after_tasks(sigs: &[TaskSig], left: u32) -> Option<u32>
     Some(left)
 }
 
-/// What is left of `left` tasks after those of a node; None where it has more.
+/// Subtracts the tasks of a node from `left`. Returns None if it has more.
 #[cycle(tasks)]
 pub(crate) fn tasks_left(node: &Node, left: u32) -> Option<u32>
     ensures { LeavesOver result left (count (view node.now)) }
@@ -57,7 +57,7 @@ fn tasks_left_of_all(nodes: &[Node], left: u32) -> Option<u32>
     Some(left)
 }
 
-/// What is left of `left` groups and chords after those of a node; None where it has more.
+/// Subtracts the groups and chords of a node from `left`. Returns None if it has more.
 #[cycle(groups)]
 pub(crate) fn groups_left(node: &Node, left: u32) -> Option<u32>
     ensures { LeavesOver result left (count_groups (view node.now)) }

@@ -1,4 +1,4 @@
-//! How deep a canvas is: as it was written, and in a message of its run.
+//! The depth of a canvas: as written, and in a message of its run.
 
 ghost use Rattle.std.specs.Prelude.{◌≡◌, ◌≤◌};
 ghost use Rattle.canvas_semantics.specs.Bounds.{most_nesting, most_reach};
@@ -12,16 +12,16 @@ use crate::reach::{LineReach, onto_reach, whole};
 use crate::{Canvas, Node};
 use canvas_semantics::MOST_NESTING;
 
-/// How deeply signatures of a canvas stand in each other.
+/// The depths to which the signatures of a canvas are nested.
 #[derive(Clone, Copy, Debug, PartialEq, Eq)]
 pub struct Depths {
-    /// As it was written: from 1 to 8.
+    /// The depth in the canvas as written: from 1 to 8.
     pub nesting: u32,
-    /// In some message of its run: at most 32.
+    /// The greatest depth in a message of its run: at most 32.
     pub reach: u32,
 }
 
-/// The nesting of a node that isn't too deep.
+/// Returns the nesting of a node that isn't too deep.
 fn nesting_of(node: &Node) -> u32
     requires { nesting (view node.now) ≤ most_nesting }
     ensures { result ≡ nesting (view node.now) }
@@ -34,7 +34,7 @@ fn nesting_of(node: &Node) -> u32
     MOST_NESTING
 }
 
-/// The reach of a node that isn't too deep in any message.
+/// Returns the reach of a node that isn't too deep in any message.
 fn reach_of(node: &Node) -> u32
     requires { reach 0 (normal (view node.now)) ≤ most_reach }
     ensures { result ≡ reach 0 (normal (view node.now)) }
@@ -43,7 +43,7 @@ fn reach_of(node: &Node) -> u32
 }
 
 impl Canvas {
-    /// Its depths, which its refusals bound.
+    /// Returns the depths of the canvas, which its limits bound.
     pub fn depths(&self) -> Depths
         ensures nesting { result.nesting ≡ nesting self.now }
         ensures reach { result.reach ≡ reach 0 (normal self.now) }

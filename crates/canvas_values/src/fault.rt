@@ -1,4 +1,4 @@
-//! Why a signature or a canvas is refused.
+//! The reasons why a signature or a canvas is refused.
 
 ghost use Rattle.std.specs.Prelude.{◌≡◌};
 ghost use Rattle.canvas_values.specs.declared.fault.SigFault.TheVariants.{Memory};
@@ -7,43 +7,42 @@ ghost use Rattle.canvas_values.specs.RefusalNames.{code_of};
 use std::alloc::{AllocError, AllocFailed};
 use std::fmt;
 
-/// Why a text isn't a canvas; where there are several reasons, the first in this order. The faults
-/// of single signatures, from `NotSignature` to `EmptyChain`, go signature by signature in file
-/// order. Each is printed as its name here, and reported by the number in front.
+/// The reason why a text is not a canvas. If several hold, it is the first in this order. The
+/// faults of single signatures, from `NotSignature` to `EmptyChain`, go signature by signature in
+/// file order. Each is printed by its name, and reported by its number, given first below.
 #[derive(Clone, Copy, Debug, Drop, PartialEq, Eq)]
 pub enum SigFault {
     /// 1: more than 1,048,576 bytes.
     TooLarge,
-    /// 2: no JSON text (RFC 8259) in UTF-8, or one that nests more than 127 deep.
+    /// 2: not a JSON text (RFC 8259) in UTF-8, or nested more than 127 deep.
     NotJson,
-    /// 3: no object, `task` is no name, or `immutable` is neither a flag nor null.
+    /// 3: not an object, `task` is not a name, or `immutable` is neither a flag nor null.
     NotSignature,
-    /// 4: `subtask_type` is none of null, `chain`, `group` and `chord`.
+    /// 4: `subtask_type` is not null, `chain`, `group` or `chord`.
     UnknownPrimitive,
-    /// 5: a member isn't of its form, or an argument is no number, text or list of numbers.
+    /// 5: a member has the wrong form, or an argument is not a number, a text or a list of numbers.
     BadArgs,
-    /// 6: a number isn't whole, or is past 2^60 on either side.
+    /// 6: a number is not whole, or is below -2^60 or above 2^60.
     BadNumber,
     /// 7: arguments, `immutable` or callbacks on a chain, group or chord, or one of these as a
     /// callback.
     OnCanvas,
-    /// 8: `options.chord` is there and isn't null, which stands in messages alone.
+    /// 8: `options.chord` is not null; only signatures in messages have it.
     Frozen,
-    /// 9: a chain with no tasks.
+    /// 9: a chain without elements.
     EmptyChain,
     /// 10: a member of a group or header ends in a group.
     NestedGroup,
-    /// 11: signatures stand more than 8 deep in each other, or more than 32 deep in some message of
-    /// a run.
+    /// 11: signatures are nested more than 8 deep, or more than 32 deep in some message of a run.
     TooDeep,
     /// 12: more than 1,024 tasks, callbacks included, or more than 1,024 groups and chords.
     TooMany,
-    /// 13: a growth was refused. It may stand in place of any other, and of success.
+    /// 13: an allocation failed. It may replace any other refusal, and a success.
     Memory,
 }
 
 impl SigFault {
-    /// The number that a refusal is reported by.
+    /// Returns the number by which a refusal is reported.
     pub fn code(&self) -> u8
         ensures { result ≡ code_of self.now }
     {

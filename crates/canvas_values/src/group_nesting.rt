@@ -1,4 +1,4 @@
-//! Groups that stand at the end of a member of a group or header.
+//! Checks for groups at the end of a member of a group or header.
 
 ghost use Rattle.std.specs.Prelude.{◌≡◌, false, map};
 ghost use Rattle.std.specs.List.{list_all};
@@ -7,7 +7,8 @@ ghost use Rattle.canvas_values.specs.SignatureView.{view};
 
 use crate::Node;
 
-/// Whether a node's line ends in a group; None where a member of a group or header in it does.
+/// Returns whether a node's line ends in a group, or None if a member of a group or header in it
+/// does.
 #[cycle(endings)]
 pub(crate) fn ending(node: &Node) -> Option<bool>
     ensures { result ≡ ending (view node.now) }

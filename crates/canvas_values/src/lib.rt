@@ -1,4 +1,9 @@
-//! Signatures of canvases as values, the limits of a canvas, and what a text that spells one says.
+//! Signatures of canvases as values, the limits of a canvas, and the definitions of what a text
+//! spells and why it is refused.
+//!
+//! Normal lines, plans and messages need only this crate; `canvas_sig` reads and writes signatures
+//! as JSON, and re-exports these values. Contracts see a map as the list of its entries in the
+//! order of their names, and a bare `Node` or `TaskSig` by its view.
 #![tactic(auto)]
 
 mod by_parts;

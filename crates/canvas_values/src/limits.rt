@@ -24,8 +24,8 @@ fn is_too_many(node: &Node) -> bool
     tasks_left(node, MOST_TASKS).is_none() || groups_left(node, MOST_GROUPS).is_none()
 }
 
-/// The first refusal of a canvas whose signatures are in order. Its cost grows with the canvas
-/// alone.
+/// Returns the first refusal by the limits of a canvas whose signatures have no faults. It takes
+/// time linear in the size of the canvas.
 pub(crate) fn limit_fault(node: &Node) -> Option<SigFault>
     ensures { result ≡ tree_fault (view node.now) }
 {

@@ -1,4 +1,4 @@
-//! How deeply signatures stand in each other.
+//! The depth to which signatures are nested.
 
 ghost use Rattle.std.specs.Prelude.{◌≡◌, ◌≤◌, ◌↔◌, IsTrue};
 ghost use Rattle.std.specs.List.{All};
@@ -29,7 +29,7 @@ fn tasks_nest_within(sigs: &[TaskSig], most: u32) -> bool
     true
 }
 
-/// Whether signatures stand at most `most` deep in each other. It looks no deeper than that.
+/// Returns whether signatures are nested at most `most` deep. It descends no deeper than that.
 #[cycle(nests)]
 pub(crate) fn nests_within(node: &Node, most: u32) -> bool
     ensures { IsTrue result ↔ (nesting (view node.now) ≤ most) }

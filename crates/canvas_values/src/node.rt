@@ -12,11 +12,11 @@ use std::alloc::{AllocError, Global};
 pub enum Node {
     /// A call of one task.
     Task(TaskSig),
-    /// Each element takes what comes out of the one before. `Canvas::of` refuses a chain of none.
+    /// Elements that each take the result of the one before. `Canvas::of` refuses an empty chain.
     Chain(ListOf<Node>),
-    /// Members that all take what comes in. There may be none.
+    /// Members that all take the group's input. There may be none.
     Group(ListOf<Node>),
-    /// The body takes the list of what comes out of the header's members, the empty list where
+    /// A chord, whose body takes the list of the results of the header's members: the empty list if
     /// there are none.
     Chord {
         header: ListOf<Node>,
@@ -25,28 +25,28 @@ pub enum Node {
 }
 
 impl Node {
-    /// A call with these numbers, as Celery's `add.s(4, 4)`.
+    /// Makes a call with these numbers, as Celery's `add.s(4, 4)`.
     pub fn call(alloc: Global, name: &str, numbers: &[i64]) -> Result<Node, AllocError>
         ensures { IfOk result (λ node. view node ≡ one (call_of name.now numbers.now)) }
     {
         Ok(Node::Task(TaskSig::new(alloc, name, numbers)?))
     }
 
-    /// One after the other, as Celery's `chain`.
+    /// Makes a chain, as Celery's `chain`.
     pub fn chain(elements: Vec<Node>) -> Node
         ensures { view result ≡ chain_of (trees_of (map view elements.items)) }
     {
         Node::Chain(ListOf::of(elements))
     }
 
-    /// Side by side, as Celery's `group`.
+    /// Makes a group, as Celery's `group`.
     pub fn group(members: Vec<Node>) -> Node
         ensures { view result ≡ group_of 0 (trees_of (map view members.items)) }
     {
         Node::Group(ListOf::of(members))
     }
 
-    /// A header and what takes its results, as Celery's `chord`.
+    /// Makes a chord of a header and a body, as Celery's `chord`.
     pub fn chord(alloc: Global, header: Vec<Node>, body: Node) -> Result<Node, AllocError>
         ensures { IfOk result
             (λ node. view node ≡ chord_of 0 (trees_of (map view header.items)) (view body)) }

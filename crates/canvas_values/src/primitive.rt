@@ -1,6 +1,6 @@
-//! What a signature stands for.
+//! The kinds of signatures.
 
-/// The kinds of signature, which `subtask_type` tells apart.
+/// The kind of a signature, which `subtask_type` gives.
 #[derive(Clone, Copy, Drop)]
 pub enum Primitive {
     /// Null, or missing.

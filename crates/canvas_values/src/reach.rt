@@ -1,5 +1,5 @@
-//! How deeply signatures of a canvas stand in each other in a message, past the limit only that it
-//! is past.
+//! The depth to which the signatures of a canvas are nested in a message. Beyond the limit it is
+//! only known to be greater.
 
 ghost use Rattle.std.specs.Prelude.{◌≡◌, ◌+◌, max, map};
 ghost use Rattle.canvas_values.specs.steps.LineReach.{past, above, reach_of_line, sig_reach, sigs_reach, chord_reach, task_onto, group_reach, onto_reach, all_onto_reach, greatest};
@@ -8,7 +8,7 @@ ghost use Rattle.canvas_values.specs.SignatureView.{view, task_view, tasks_of, t
 use crate::{Node, TaskSig};
 use canvas_semantics::MOST_REACH;
 
-/// The elements of a line, known by the greatest of their reaches.
+/// The number of elements of a line (up to two), with the greatest of their reaches.
 #[derive(Clone, Copy, Drop)]
 pub(crate) enum LineReach {
     Empty,
@@ -16,14 +16,14 @@ pub(crate) enum LineReach {
     More(u32),
 }
 
-/// A level more.
+/// Adds a level to a reach, up to one more than the limit.
 fn above(reach: u32) -> u32
     ensures { result ≡ above reach }
 {
     reach.min(MOST_REACH) + 1
 }
 
-/// The reach of a whole line.
+/// Returns the reach of a whole line.
 pub(crate) fn whole(line: LineReach) -> u32
     ensures { result ≡ reach_of_line line }
 {
@@ -34,7 +34,8 @@ pub(crate) fn whole(line: LineReach) -> u32
     }
 }
 
-/// A task with its links and error callbacks, whose message carries what has reach `carried`.
+/// Returns the reach of a task with its links and error callbacks, whose message also carries
+/// something of reach `carried`.
 #[cycle(sigs)]
 #[tactic(auto, using(crate::proofs::Views::task_seen))]
 fn sig_reach(sig: &TaskSig, carried: u32) -> u32
@@ -65,7 +66,8 @@ fn task_onto(sig: &TaskSig, after: LineReach, carried: u32) -> LineReach
     }
 }
 
-/// A node that a line follows, where the last task of all carries what has reach `carried`.
+/// Returns the line of a node followed by the line `after`; the last task of all carries something
+/// of reach `carried`.
 #[cycle(onto)]
 pub(crate) fn onto_reach(node: &Node, after: LineReach, carried: u32) -> LineReach
     ensures { result ≡ onto_reach (view node.now) after carried }
@@ -92,7 +94,7 @@ fn group_reach(members: &[Node], after: LineReach) -> LineReach
     }
 }
 
-/// A chord whose body has reach `body`.
+/// Returns the line of a chord whose body has reach `body`.
 #[cycle(onto)]
 fn chord_reach(header: &[Node], body: u32) -> LineReach
     ensures { result ≡ chord_reach (greatest (trees_of (map view header.now))) body }
@@ -113,7 +115,7 @@ fn all_onto_reach(nodes: &[Node], after: LineReach, carried: u32) -> LineReach
     line
 }
 
-/// The greatest reach of members whose last tasks carry what has reach `carried`.
+/// Returns the greatest reach of members whose last tasks carry something of reach `carried`.
 #[cycle(onto)]
 fn greatest(members: &[Node], carried: u32) -> u32
     ensures { result ≡ greatest (trees_of (map view members.now)) carried }

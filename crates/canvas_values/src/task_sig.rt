@@ -7,17 +7,17 @@ use canvas_task::{Arg, ListOf, MapOf, TextOf};
 use std::alloc::{AllocError, Global};
 use std::collections::BTreeMap;
 
-/// A task signature: which task is called, with which arguments, and what runs when it ends.
-/// `links` run on its result, `errbacks` (error callbacks) on its identifier where it failed.
+/// The signature of a task: the task to call, the arguments, and what runs when it ends. `links`
+/// run on its result, `errbacks` (error callbacks) on its identifier if it failed.
 #[derive(Drop)]
 pub struct TaskSig {
-    /// 1 to 128 bytes from `!` to `~`, such as `tasks.add`; the check is that of `Canvas::of`.
+    /// 1 to 128 bytes from `!` to `~`, such as `tasks.add`. `Canvas::of` checks it.
     pub name: TextOf,
-    /// Positional arguments. The input comes in front of them.
+    /// Positional arguments. The input comes before them.
     pub args: ListOf<Arg>,
     /// Keyword arguments.
     pub kwargs: MapOf<Arg>,
-    /// Whether it takes no input, as Celery's `si` has it.
+    /// Whether the task takes no input, as with Celery's `si`.
     pub immutable: bool,
     /// `options.link` in JSON.
     pub links: ListOf<TaskSig>,
@@ -36,8 +36,8 @@ fn numbers_as_args(alloc: Global, numbers: &[i64]) -> Result<Vec<Arg>, AllocErro
 }
 
 impl TaskSig {
-    /// A call with these numbers, as Celery's `add.s(4, 4)` makes one: it takes an input, and has
-    /// neither keyword arguments nor callbacks. What it has besides is set in its fields.
+    /// Makes a call with these numbers, as Celery's `add.s(4, 4)` does: it takes an input, and has
+    /// neither keyword arguments nor callbacks. Set these in its fields.
     #[tactic(auto, using(crate::proofs::Views::made))]
     pub fn new(alloc: Global, name: &str, numbers: &[i64]) -> Result<TaskSig, AllocError>
         ensures { IfOk result (λ sig. task_view sig ≡ call_of name.now numbers.now) }

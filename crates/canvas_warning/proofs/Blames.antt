@@ -210,7 +210,7 @@ has_its_cause t args named =
     (first_wrong fit ps args named) (nat_lt (length ps) (length args)) (unknown_is ps named)
     (bad_unless_fit (rule t) (answers_to_all t) args named ∙ too_many_or_wrong fit ps args named)
 
--- ---- whatever comes in
+-- ---- every input of a kind
 
 wrong_alike : (fit : Arg → Bool) (a b : Arg) (n : Option Arg) → fit a ≡ fit b → wrong_with fit (Some a) n ≡ wrong_with fit (Some b) n
 wrong_alike fit a b None h = let W : Bool → Option Wrong = λ c. if c then None else Some OtherKind in ap W h

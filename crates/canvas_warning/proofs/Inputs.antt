@@ -76,7 +76,7 @@ text_first (of_id x f) fine [] s h =
     absurd (never (ap (λ o. is_type_error (outcome (answer_given f o))) some_task_named ∙ fits_fine (f 1) (fine 1)) h)
 text_first (of_id x f) fine (a ∷ rest) s h = refl
 
--- ---- whether there is an argument for each parameter doesn't hang on the first of them
+-- ---- whether there is an argument for each parameter doesn't depend on the first of them
 
 -- the rule says for the second argument what it says for the first
 abbrev FailsAlike : Rule → Arg → Arg → Type 0
@@ -112,7 +112,7 @@ known_alike : (o : Option Builtin) (args : List Arg) (named : List (Text × Arg)
 known_alike None args named a b alike h = absurd cc
 known_alike (Some task) args named a b alike h = rule_alike (rule task) args named a b (alike (rule task) (answers_to_all task)) h
 
--- ---- whatever comes in
+-- ---- every input of a kind
 
 first_true : (b c : Bool) → (b && c) ≡ true → b ≡ true
 first_true true c h = refl

@@ -15,7 +15,7 @@ use Rattle.canvas_warning.specs.declared.stand.Input.{Input}
 use Rattle.canvas_warning.specs.declared.stand.Input.TheVariants.{Number, Numbers}
 use Rattle.canvas_warning.proofs.Views.{two}
 
--- what stands behind one more
+-- a list after one more item
 behind_one : {X : Type 0} (before mid : List X) (f g : X) (xs ys : List X) → mid ≡ before ++ f ∷ [] → f ≡ g → xs ≡ ys → mid ++ xs ≡ before ++ (g ∷ ys)
 behind_one before mid f g xs ys pushed is same =
     (λ i. (pushed ∙ ap (λ y. before ++ y ∷ []) is) i ++ same i) ∙ append_assoc before (g ∷ []) ys

@@ -35,7 +35,7 @@ pub counted : (ns : List Node) → trees_count (trees_of (map view ns)) ≡ leng
 counted [] = refl
 counted (n ∷ ns) = ap suc (counted ns)
 
--- ---- what was found, with a signature and what stands in it behind it
+-- ---- the forecasts so far, with those for a signature and its parts appended
 
 pub ok_same : {X : Type 0} (r : Result (Unit {0}) AllocError) (x a b : List X) → a ≡ b → OnOk r (x ≡ a) → OnOk r (x ≡ b)
 ok_same {X = X} r x a b e h = let P : List X → Type 0 = λ y. OnOk r (x ≡ y) in subst P e h

@@ -1,4 +1,4 @@
--- What is foreseen of calls of built-in tasks is certain: it holds of each value that may come in.
+-- Forecasts for calls of built-in tasks are certain: they hold for every value of the input's kind.
 use Rattle.std.specs.Prelude.{◌≡◌, true, List, Option, Some, None}
 use Rattle.canvas_task.specs.Text.{Text}
 use Rattle.canvas_task.specs.Builtin.{builtin_tasks}
@@ -9,13 +9,13 @@ use Rattle.canvas_warning.specs.Calls.{is_type_error, is_unknown_outcome, is_unk
 use Rattle.canvas_warning.specs.declared.stand.Input.{Input}
 use Rattle.canvas_warning.specs.declared.stand.Input.TheVariants.{Nothing, Number, Numbers, Identifier}
 
--- a name that no task answers to without arguments is one whatever the arguments
+-- a name that no task answers to without arguments is unknown for all arguments
 abbrev pub IsUnknownToAll : Type 0
 IsUnknownToAll =
     (name : Text) → is_unknown builtin_tasks name ≡ true → (args : List Arg)
     → (named : List (Text × Arg)) → is_unknown_outcome (builtin_tasks name args named) ≡ true
 
--- the kind of what comes into a call; with an exception there is none
+-- the kind of a call's input; an exception has none
 abbrev pub kind_of : Flow → Option Input
 kind_of nothing = Some Nothing
 kind_of (num n) = Some Number
@@ -24,7 +24,7 @@ kind_of (id k) = Some Identifier
 kind_of (skip f) = None
 kind_of (raised f) = None
 
--- a call that is a TypeError behind some values of a kind is one behind each value of the kind
+-- a call that is a TypeError after some values of a kind is one after every value of the kind
 abbrev pub FailsWhateverComes : Type 0
 FailsWhateverComes =
     (call : Call) (i : Input) (x : Flow) → kind_of x ≡ Some i

@@ -1,5 +1,5 @@
--- What a call is expected to become before its canvas runs, by what its task answers to some
--- arguments (Celery user guide, Canvas: partials, immutability).
+-- The expected outcome of a call before its canvas runs, from its task's answers to some arguments
+-- (Celery user guide, Canvas: partials, immutability).
 use Rattle.std.specs.Prelude.{Bool, true, false, not, ◌&&◌, ◌||◌, if◌then◌else◌, List, [], ◌∷◌, ◌++◌, pos}
 use Rattle.canvas_task.specs.Text.{Text}
 use Rattle.canvas_task.specs.Apply.{Behaviour}
@@ -28,7 +28,7 @@ is_unknown_outcome o = false
 abbrev pub is_unknown : Behaviour → Text → Bool
 is_unknown behaviour name = is_unknown_outcome (behaviour name [] [])
 
--- ---- whether a task takes anything at all
+-- ---- whether a task accepts any arguments
 
 abbrev pub takes : Behaviour → Text → List Arg → Bool
 takes behaviour name args = not (is_type_error (behaviour name args []))
@@ -40,7 +40,7 @@ some_task = task_text 1
 abbrev pub one : Arg
 one = arg.Num (pos 1)
 
--- none, one or two numbers, a list of numbers, or the identifier of a task
+-- a task accepts none, one or two numbers, a list of numbers, or the identifier of a task
 abbrev pub takes_some : Behaviour → Text → Bool
 takes_some behaviour name =
     takes behaviour name [] || takes behaviour name (one ∷ [])
@@ -50,11 +50,11 @@ takes_some behaviour name =
 
 -- ---- calls
 
--- a call is a TypeError with these arguments in front of its own
+-- a call is a TypeError with these arguments before its own
 abbrev pub fails : Behaviour → Call → List Arg → Bool
 fails behaviour call front = is_type_error (behaviour call.name (front ++ call.args) call.kwargs)
 
--- the same behind some values of the kind that comes in
+-- a call is a TypeError after each of some values of the input's kind
 abbrev pub fails_behind : Behaviour → Call → Input → Bool
 fails_behind behaviour call Nothing = fails behaviour call []
 fails_behind behaviour call Number =
@@ -63,7 +63,7 @@ fails_behind behaviour call Numbers =
     fails behaviour call (arg.List [] ∷ []) && fails behaviour call (arg.List (pos 1 ∷ []) ∷ [])
 fails_behind behaviour call Identifier = fails behaviour call (arg.Text some_task ∷ [])
 
--- what a call takes in front of its own arguments
+-- the kind of value that a call takes before its own arguments
 abbrev pub taken : Call → Input → Input
 taken call i = if call.immutable then Nothing else i
 

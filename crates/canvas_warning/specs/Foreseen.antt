@@ -1,6 +1,6 @@
--- What is foreseen of each signature of a canvas, in file order: what its call is expected to
--- become, and where Celery 5 does otherwise (Celery user guide, Canvas: groups, chords, error
--- handling; docs/CELERY.md has what its workers did).
+-- The forecast for each signature of a canvas, in file order: the expected outcome of its call, and
+-- the points in which Celery 5 behaves differently (Celery user guide, Canvas: groups, chords,
+-- error handling; docs/CELERY.md reports what its workers did).
 use Rattle.std.specs.Prelude.{ℕ, zero, suc, Bool, true, false, not, ◌&&◌, ◌||◌, ◌==◌, nat_lt, List, [], ◌∷◌, ◌++◌}
 use Rattle.canvas_task.specs.Apply.{Behaviour}
 use Rattle.canvas_semantics.specs.Tree.{Task, task, Tasks, no_tasks, and_task, Tree, one, chain, group, chord, Trees, no_trees, and_tree}
@@ -13,7 +13,7 @@ use Rattle.canvas_warning.specs.declared.stand.Input.{Input}
 use Rattle.canvas_warning.specs.declared.stand.Input.TheVariants.{Number, Numbers, Identifier}
 use Rattle.canvas_warning.specs.declared.stand.Stand.{Stand}
 
--- ---- what comes out
+-- ---- outputs
 
 abbrev mutual
   pub out_of : Tree → Input → Input
@@ -28,7 +28,7 @@ abbrev mutual
 
 -- ---- one signature
 
--- a call of which nothing else is foreseen
+-- a call with no other difference
 abbrev pub of_call : Expected → Forecast
 of_call e =
     record {
@@ -55,11 +55,11 @@ of_task e n s =
       is_missed = is_unknown_call e && (nat_lt 0 n || s.is_followed || s.is_in_header);
     }
 
--- as a body, a chain is never stored: nothing gives it an identifier
+-- a chain, which as a body is never stored: nothing gives it an identifier
 abbrev pub of_chain : Stand → Forecast
 of_chain s = record (of_call Answer) { has_no_identifier = s.is_body }
 
--- A group of n members. Celery puts the only member of one in the middle of a chain in its place. A
+-- A group of n members. Celery replaces a group of one in the middle of a chain by its member. A
 -- group that something follows is a chord.
 abbrev pub of_group : ℕ → Stand → Forecast
 of_group n s =
@@ -92,7 +92,8 @@ tasks_count no_tasks = zero
 tasks_count (and_task t ts) = suc (tasks_count ts)
 
 module _ (behaviour : Behaviour) where
-  -- a task, its links, which take its result, and its error callbacks, which take its identifier
+  -- a task, its links, whose input is its result, and its error callbacks, whose input is its
+  -- identifier
   abbrev mutual
     pub task_told : Task → Stand → List Forecast
     task_told (task k call links errbacks) s =

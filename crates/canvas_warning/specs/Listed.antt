@@ -1,4 +1,4 @@
--- The calls of a canvas in file order: of each signature that of its task, and none of a chain,
+-- The calls of a canvas in file order: for each signature that of its task, and None for a chain,
 -- group or chord (Celery user guide, Canvas: signatures).
 use Rattle.std.specs.Prelude.{◌≡◌, List, [], ◌∷◌, ◌++◌, map, Option, Some, None}
 use Rattle.std.specs.Borrow.{Bor}
@@ -28,12 +28,12 @@ abbrev mutual
   all_calls no_trees = []
   all_calls (and_tree t ts) = calls t ++ all_calls ts
 
--- ---- what a listing holds
+-- ---- the contents of a listing
 
 abbrev pub call_at : Option (Bor TaskSig) → Option Call
 call_at None = None
 call_at (Some sig) = Some (its_call (task_view sig.now))
 
--- these calls were added
+-- these calls were appended
 abbrev pub Lists : List (Option Call) → Listing → Listing → Type 0
 Lists added l l' = map call_at l'.tasks.items ≡ map call_at l.tasks.items ++ added

@@ -1,5 +1,5 @@
--- A call of a built-in task is a TypeError exactly where a parameter is at fault, or where it
--- has more positional arguments than the task has parameters.
+-- A call of a built-in task is a TypeError exactly if a parameter is at fault, or if it has more
+-- positional arguments than the task has parameters.
 use Rattle.std.specs.Prelude.{◌≡◌, Bool, ◌||◌, nat_lt, length, List, Some, is_some}
 use Rattle.canvas_task.specs.Text.{Text}
 use Rattle.canvas_task.specs.Apply.{outcome}
@@ -23,7 +23,7 @@ EachTypeErrorHasItsCause =
     → is_type_error (outcome (meaning task args named))
     ≡ (is_some (at_fault task args named) || has_too_many task args)
 
--- what comes in is no identifier, or that of a task
+-- the input is not an identifier, or that of a task
 abbrev pub NamesATask : Flow → Type 0
 NamesATask nothing = Unit {0}
 NamesATask (num n) = Unit {0}
@@ -32,7 +32,7 @@ NamesATask (id k) = task_named (task_text k) ≡ Some k
 NamesATask (skip f) = Unit {0}
 NamesATask (raised f) = Unit {0}
 
--- whatever of a kind comes in, the same parameter is at fault
+-- the same parameter is at fault for every input of a kind
 abbrev pub BlamesTheSameWhateverComes : Type 0
 BlamesTheSameWhateverComes =
     (task : Builtin) (call : Call) (i : Input) (x : Flow) → kind_of x ≡ Some i → NamesATask x

@@ -1,5 +1,5 @@
--- The parameter that makes a call of a built-in task a TypeError, and what is wrong with it.
--- Where a call has too many positional arguments, there may be none.
+-- The parameter that makes a call of a built-in task a TypeError, and its fault. If a call has too
+-- many positional arguments, there may be none.
 use Rattle.std.specs.Prelude.{Bool, true, false, if◌then◌else◌, List, [], ◌∷◌, ◌++◌, Option, Some, None, is_some, pos}
 use Rattle.std.specs.List.{list_any}
 use Rattle.std.specs.Str.{bytes_eq}
@@ -18,7 +18,7 @@ use Rattle.canvas_warning.specs.declared.parameter.Wrong.TheVariants.{NoParamete
 use Rattle.canvas_warning.specs.declared.stand.Input.{Input}
 use Rattle.canvas_warning.specs.declared.stand.Input.TheVariants.{Nothing, Number, Numbers, Identifier}
 
--- a name, and what is wrong with it as a parameter
+-- the name of a parameter, and its fault
 abbrev pub Blamed : Type 0
 Blamed = Text × Wrong
 
@@ -31,7 +31,7 @@ fits kind.Numbers a = false
 fits kind.TaskId (arg.Text uuid) = is_some (task_named uuid)
 fits kind.TaskId a = false
 
--- what is wrong with a parameter that is given this by its place, and that by its name
+-- the fault of a parameter, from its positional argument and its keyword argument
 abbrev pub wrong_with : (Arg → Bool) → Option Arg → Option Arg → Option Wrong
 wrong_with fit None None = Some Missing
 wrong_with fit (Some a) (Some b) = Some Twice
@@ -42,8 +42,7 @@ abbrev pub or_next : Text → Option Wrong → Option Blamed → Option Blamed
 or_next p None next = next
 or_next p (Some wrong) next = Some (p, wrong)
 
--- the first of some parameters with which something is wrong: positional arguments go to them from
--- the left
+-- the first of some parameters that has a fault: positional arguments go to them from the left
 abbrev pub first_wrong : (Arg → Bool) → List Text → List Arg → List (Text × Arg) → Option Blamed
 first_wrong fit [] args named = None
 first_wrong fit (p ∷ ps) (a ∷ args) named =
@@ -51,7 +50,7 @@ first_wrong fit (p ∷ ps) (a ∷ args) named =
 first_wrong fit (p ∷ ps) [] named =
     or_next p (wrong_with fit None (by_name p named)) (first_wrong fit ps [] named)
 
--- the first keyword that is no parameter
+-- the first keyword that is not a parameter
 abbrev pub first_unknown : List Text → List (Text × Arg) → Option Text
 first_unknown ps [] = None
 first_unknown ps (e ∷ es) =
@@ -61,20 +60,20 @@ abbrev pub unknown_or : Option Text → Option Blamed → Option Blamed
 unknown_or (Some name) other = Some (name, NoParameter)
 unknown_or None other = other
 
--- what a call with these arguments is to blame for: a keyword that is no parameter, or else the
--- first of the task's parameters with which something is wrong
+-- the parameter at fault in a call with these arguments: a keyword that is not a parameter, or else
+-- the first of the task's parameters that has a fault
 abbrev pub at_fault : Builtin → List Arg → List (Text × Arg) → Option Blamed
 at_fault task args named =
     unknown_or (first_unknown (parameters task) named)
     (first_wrong (fits (taken task)) (parameters task) args named)
 
--- a value of the kind that comes in
+-- a value of the input's kind
 abbrev pub front : Input → List Arg
 front Nothing = []
 front Number = arg.Num (pos 0) ∷ []
 front Numbers = arg.List [] ∷ []
 front Identifier = arg.Text some_task ∷ []
 
--- the same of a call that takes a value of a kind before its own arguments
+-- the parameter at fault in a call that takes a value of a kind before its own arguments
 abbrev pub blamed : Builtin → List Arg → List (Text × Arg) → Input → Option Blamed
 blamed task args named i = at_fault task (front i ++ args) named

@@ -1,6 +1,5 @@
--- Where a signature stands: what comes into it, what stands beside it in its line, and whether a
--- failed header's exception is raised in it (Celery user guide, Canvas: chains, groups, chords,
--- error handling).
+-- The position of a signature: its input, its neighbours in its line, and whether a failed header's
+-- exception is raised in it (Celery user guide, Canvas: chains, groups, chords, error handling).
 use Rattle.std.specs.Prelude.{ℕ, Bool, true, false, ◌||◌, ◌&&◌, ◌==◌, nat_lt}
 use Rattle.canvas_warning.specs.declared.stand.Input.{Input}
 use Rattle.canvas_warning.specs.declared.stand.Input.TheVariants.{Nothing, Number, Numbers}
@@ -14,7 +13,7 @@ abbrev pub is_numbers : Input → Bool
 is_numbers Numbers = true
 is_numbers i = false
 
--- a whole canvas: it starts with no input
+-- a whole canvas, which starts with no input
 abbrev pub start : Stand
 start =
     record {
@@ -30,15 +29,15 @@ start =
 abbrev pub takes_failure : Stand → Bool
 takes_failure s = s.is_body || s.begins_body
 
--- an element with so many behind it
+-- an element with n elements after it
 abbrev pub before : ℕ → Stand → Stand
 before n s = record s { is_followed = s.is_followed || nat_lt 0 n }
 
--- the elements of a chain, of which the first begins it
+-- the elements of a chain; the first of them begins it
 abbrev pub of_elements : Stand → Stand
 of_elements s = record s { is_body = false; begins_body = takes_failure s }
 
--- the next element, behind one of which this came out: behind a group it is a chord's body
+-- the next element, after one with this output: after a group it is a chord's body
 abbrev pub behind : Input → Stand → Stand
 behind i s =
     record s {
@@ -60,7 +59,7 @@ of_member is_header s =
       begins_body = takes_failure s;
     }
 
--- the body of a chord with n members in its header. With none, the body takes what the chord takes.
+-- The body of a chord with n members in its header. With none, the body takes the chord's input.
 abbrev pub of_body : ℕ → Stand → Stand
 of_body n s =
     record s {

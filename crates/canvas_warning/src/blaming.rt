@@ -27,7 +27,7 @@ fn names_a_task(arg: &Arg) -> bool
     }
 }
 
-/// Whether an argument is of the kind that the parameters of a task take.
+/// Returns whether an argument is of the kind that the parameters of a task take.
 fn is_taken(task: Builtin, arg: &Arg) -> bool
     ensures { result ≡ fits (taken task) arg.now }
 {
@@ -48,7 +48,7 @@ fn other_kind(task: Builtin, arg: &Arg) -> Option<Wrong>
     }
 }
 
-/// What is wrong with a parameter that is given this by its place, and that by its name.
+/// Returns what is wrong with a parameter, from its positional argument and its keyword argument.
 fn wrong_with(task: Builtin, given: Option<&Arg>, named: Option<&Arg>) -> Option<Wrong>
     ensures { result ≡ wrong_with (fits (taken task)) (option_map (λ a. a.now) given.entry)
         (option_map (λ a. a.now) named.entry) }
@@ -65,14 +65,14 @@ fn wrong_with(task: Builtin, given: Option<&Arg>, named: Option<&Arg>) -> Option
     }
 }
 
-/// The argument given by a name.
+/// Returns the keyword argument of a name.
 fn by_name<'a>(parameter: &str, kwargs: &'a BTreeMap<String, Arg>) -> Option<&'a Arg>
     ensures { option_map (λ a. a.now) result ≡ by_name parameter.now (named kwargs.now.entries) }
 {
     kwargs.get(parameter)
 }
 
-/// What is wrong with the parameter of a task that has one.
+/// Returns what is wrong with the parameter of a task that has only one.
 fn wrong_of_one<'a>(
     task: Builtin,
     x: &'a str,
@@ -91,7 +91,7 @@ fn wrong_of_one<'a>(
     }
 }
 
-/// The first of two parameters with which something is wrong.
+/// Returns the first of two parameters that has a fault.
 fn wrong_of_two<'a>(
     task: Builtin,
     x: &'a str,
@@ -117,7 +117,7 @@ fn wrong_of_two<'a>(
     }
 }
 
-/// The first of a task's parameters with which something is wrong.
+/// Returns the first of a task's parameters that has a fault.
 fn first_wrong<'a>(task: Builtin, args: &[Arg], kwargs: &BTreeMap<String, Arg>) -> Option<Blame<'a>>
     ensures { option_map (λ b. (b.parameter.now, b.wrong)) result ≡ first_wrong (fits (taken task))
         (parameters task) args.now (named kwargs.now.entries) }
@@ -137,7 +137,7 @@ fn is_parameter(task: Builtin, name: &str) -> bool
     }
 }
 
-/// The first keyword that is no parameter.
+/// Returns the first keyword that is not a parameter.
 fn first_unknown<'a>(task: Builtin, kwargs: &'a BTreeMap<String, Arg>) -> Option<&'a str>
     ensures { option_map (λ name. name.now) result
         ≡ first_unknown (parameters task) (named kwargs.now.entries) }
@@ -150,7 +150,7 @@ fn first_unknown<'a>(task: Builtin, kwargs: &'a BTreeMap<String, Arg>) -> Option
     None
 }
 
-/// What a call with these arguments is to blame for.
+/// Returns the parameter at fault in a call with these arguments.
 fn at_fault<'a>(task: Builtin, args: &[Arg], kwargs: &'a BTreeMap<String, Arg>) -> Option<Blame<'a>>
     ensures { option_map (λ b. (b.parameter.now, b.wrong)) result
         ≡ at_fault task args.now (named kwargs.now.entries) }
@@ -164,7 +164,7 @@ fn at_fault<'a>(task: Builtin, args: &[Arg], kwargs: &'a BTreeMap<String, Arg>) 
     }
 }
 
-/// What a call is to blame for with one argument before its own.
+/// Returns the parameter at fault in a call with one argument before its own.
 fn at_fault_after<'a>(
     task: Builtin,
     arg: Arg,
@@ -179,10 +179,10 @@ fn at_fault_after<'a>(
     Ok(at_fault(task, &all, kwargs.get()))
 }
 
-/// The parameter that makes a call of a built-in task with these arguments a TypeError, where a
-/// value of this kind comes before them: a keyword that is no parameter, or else the first of the
-/// task's parameters that has no argument, two, or one of another kind. None where there are too
-/// many positional arguments, or where the call is no TypeError.
+/// Returns the parameter that makes a call of a built-in task with these arguments, after a value
+/// of the given kind, a TypeError: a keyword that is not a parameter, or else the first of the
+/// task's parameters that has no argument, two, or one of another kind. Returns None if there are
+/// too many positional arguments, or if the call is no TypeError.
 pub fn blamed<'a>(
     alloc: Global,
     task: Builtin,

@@ -1,4 +1,4 @@
-//! What a call is expected to become, by calls of the task with some of what may come in.
+//! The expected outcome of a call, from trial calls of the task with a few of its possible inputs.
 
 ghost use Rattle.std.specs.Prelude.{◌≡◌, ◌∷◌, [], pos, IfOk};
 ghost use Rattle.canvas_task.specs.declared.arg.Arg.TheVariants.{Num, List, Text};
@@ -25,28 +25,28 @@ fn is_unknown_outcome(outcome: &Outcome) -> bool
     matches!(outcome, Outcome::Failure(Fault::Plain(Kind::NotRegistered)))
 }
 
-/// What becomes of a call without keyword arguments.
+/// Calls a task without keyword arguments.
 fn plain_call<T: Tasks>(alloc: Global, tasks: &T, name: &str, args: &[Arg]) -> Outcome
     ensures { result ≡ T.behaviour tasks.now name.now args.now [] }
 {
     tasks.apply(name, args, &BTreeMap::new(alloc))
 }
 
-/// Whether no task answers to a name: its call without arguments is NotRegistered.
+/// Returns whether no task answers to a name: a call without arguments is NotRegistered.
 fn is_unknown<T: Tasks>(alloc: Global, tasks: &T, name: &str) -> bool
     ensures { result ≡ is_unknown (T.behaviour tasks.now) name.now }
 {
     is_unknown_outcome(&plain_call(alloc, tasks, name, &[]))
 }
 
-/// Whether a call isn't a TypeError.
+/// Returns whether a call with these arguments isn't a TypeError.
 fn takes<T: Tasks>(alloc: Global, tasks: &T, name: &str, args: &[Arg]) -> bool
     ensures { result ≡ takes (T.behaviour tasks.now) name.now args.now }
 {
     !is_type_error(&plain_call(alloc, tasks, name, args))
 }
 
-/// The same with one argument.
+/// Returns whether a call with one argument isn't a TypeError.
 fn takes_one<T: Tasks>(alloc: Global, tasks: &T, name: &str, arg: Arg) -> Result<bool, AllocError>
     ensures { IfOk result (λ b. b ≡ takes (T.behaviour tasks.now) name.now (arg ∷ [])) }
 {
@@ -55,7 +55,7 @@ fn takes_one<T: Tasks>(alloc: Global, tasks: &T, name: &str, arg: Arg) -> Result
     Ok(takes(alloc, tasks, name, &args))
 }
 
-/// The same with two numbers.
+/// Returns whether a call with two numbers isn't a TypeError.
 fn takes_two<T: Tasks>(alloc: Global, tasks: &T, name: &str) -> Result<bool, AllocError>
     ensures { IfOk result
         (λ b. b ≡ takes (T.behaviour tasks.now) name.now (Num (pos 1) ∷ Num (pos 1) ∷ [])) }
@@ -66,7 +66,7 @@ fn takes_two<T: Tasks>(alloc: Global, tasks: &T, name: &str) -> Result<bool, All
     Ok(takes(alloc, tasks, name, &args))
 }
 
-/// A list of one number.
+/// Makes a list of one number.
 fn list_of_one(alloc: Global) -> Result<Arg, AllocError>
     ensures { IfOk result (λ arg. arg ≡ List (pos 1 ∷ [])) }
 {
@@ -75,7 +75,7 @@ fn list_of_one(alloc: Global) -> Result<Arg, AllocError>
     Ok(Arg::List(ListOf::of(numbers)))
 }
 
-/// The identifier of a task.
+/// Makes the identifier of a task.
 pub(crate) fn some_task(alloc: Global) -> Result<Arg, AllocError>
     ensures { IfOk result (λ arg. arg ≡ Text some_task) }
 {
@@ -85,8 +85,8 @@ pub(crate) fn some_task(alloc: Global) -> Result<Arg, AllocError>
     }
 }
 
-/// Whether some arguments of a few aren't a TypeError: none, one or two numbers, a list of numbers,
-/// or the identifier of a task.
+/// Returns whether some arguments are accepted without a TypeError. It tries none, one or two
+/// numbers, a list of numbers, and the identifier of a task.
 fn takes_some<T: Tasks>(alloc: Global, tasks: &T, name: &str) -> Result<bool, AllocError>
     ensures { IfOk result (λ b. b ≡ takes_some (T.behaviour tasks.now) name.now) }
 {
@@ -105,14 +105,14 @@ fn takes_some<T: Tasks>(alloc: Global, tasks: &T, name: &str) -> Result<bool, Al
     takes_one(alloc, tasks, name, some_task(alloc)?)
 }
 
-/// Whether a call is a TypeError with its own arguments alone.
+/// Returns whether a call is a TypeError with only its own arguments.
 fn fails_alone<T: Tasks>(tasks: &T, sig: &TaskSig) -> bool
     ensures { result ≡ fails (T.behaviour tasks.now) (its_call (task_view sig.now)) [] }
 {
     is_type_error(&tasks.apply(sig.name.get(), sig.args.get(), sig.kwargs.get()))
 }
 
-/// The same with one argument in front of them.
+/// Returns whether a call is a TypeError with one argument before its own.
 fn fails_behind_one<T: Tasks>(tasks: &T, sig: &TaskSig, arg: Arg) -> Result<bool, AllocError>
     ensures { IfOk result
         (λ b. b ≡ fails (T.behaviour tasks.now) (its_call (task_view sig.now)) (arg ∷ [])) }
@@ -122,7 +122,7 @@ fn fails_behind_one<T: Tasks>(tasks: &T, sig: &TaskSig, arg: Arg) -> Result<bool
     Ok(is_type_error(&tasks.apply(sig.name.get(), &args, sig.kwargs.get())))
 }
 
-/// Whether a call is a TypeError behind each of two numbers.
+/// Returns whether a call is a TypeError after each of two numbers.
 fn fails_behind_numbers<T: Tasks>(tasks: &T, sig: &TaskSig) -> Result<bool, AllocError>
     ensures { IfOk result (λ b.
         b ≡ fails_behind (T.behaviour tasks.now) (its_call (task_view sig.now)) Number) }
@@ -133,7 +133,7 @@ fn fails_behind_numbers<T: Tasks>(tasks: &T, sig: &TaskSig) -> Result<bool, Allo
     fails_behind_one(tasks, sig, Arg::Num(1))
 }
 
-/// The same of two lists.
+/// Returns whether a call is a TypeError after each of two lists.
 fn fails_behind_lists<T: Tasks>(alloc: Global, tasks: &T, sig: &TaskSig) -> Result<bool, AllocError>
     ensures { IfOk result (λ b.
         b ≡ fails_behind (T.behaviour tasks.now) (its_call (task_view sig.now)) Numbers) }
@@ -145,7 +145,7 @@ fn fails_behind_lists<T: Tasks>(alloc: Global, tasks: &T, sig: &TaskSig) -> Resu
     fails_behind_one(tasks, sig, list_of_one(alloc)?)
 }
 
-/// Whether a call is a TypeError behind each of some values that may come in.
+/// Returns whether a call is a TypeError after each of some inputs of a kind.
 fn fails_behind<T: Tasks>(
     alloc: Global,
     tasks: &T,
@@ -163,14 +163,14 @@ fn fails_behind<T: Tasks>(
     }
 }
 
-/// What a call takes in front of its own arguments, where this comes in.
+/// Returns the kind of value that a call takes before its own arguments, given its input.
 fn taken(sig: &TaskSig, input: Input) -> Input
     ensures { result ≡ taken (its_call (task_view sig.now)) input }
 {
     if sig.immutable { Input::Nothing } else { input }
 }
 
-/// What a call is expected to become, where this comes in.
+/// Returns the expected outcome of a call with an input of this kind.
 pub(crate) fn expected<T: Tasks>(
     alloc: Global,
     tasks: &T,

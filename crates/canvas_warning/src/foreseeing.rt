@@ -1,4 +1,4 @@
-//! What is foreseen of a canvas.
+//! The forecasts for a canvas.
 
 ghost use Rattle.std.specs.Prelude.{◌≡◌, IfOk};
 ghost use Rattle.canvas_warning.specs.Foreseen.{forecasts};
@@ -10,12 +10,12 @@ use canvas_task::{Memory, Tasks};
 use canvas_values::Canvas;
 use std::alloc::Global;
 
-/// What is foreseen of each signature of a canvas, in file order: a signature before those in it,
-/// a header before its body, and of a task its links before its error callbacks.
+/// Returns a forecast for each signature of a canvas, in file order: a signature before those
+/// nested in it, a header before its body, and a task's links before its error callbacks.
 ///
-/// A call is expected to be a TypeError where it is one behind each of some values of the kind that
-/// comes in, and the task takes other arguments. Of built-in tasks that is so behind every value of
-/// the kind (`law_of_builtin_forecasts`).
+/// A call is expected to be a TypeError if it is one after each of some values of the input's kind,
+/// and if the task accepts other arguments. For built-in tasks it is then a TypeError after every
+/// value of the kind (`law_of_builtin_forecasts`).
 pub fn forecasts<T: Tasks>(
     alloc: Global,
     canvas: &Canvas,

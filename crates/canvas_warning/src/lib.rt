@@ -1,5 +1,5 @@
-//! What may surprise of a canvas that is accepted: names that no task answers to, calls that are a
-//! TypeError and by which parameter, and where Celery does otherwise.
+//! Warnings about an accepted canvas: names that no task answers to, calls that are a TypeError,
+//! with the parameter at fault, and points in which Celery behaves differently.
 #![tactic(auto)]
 
 mod blaming;

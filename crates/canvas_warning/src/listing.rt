@@ -7,7 +7,7 @@ ghost use Rattle.canvas_warning.specs.Listed.{task_calls, tasks_calls, calls, al
 use canvas_values::{Canvas, Node, TaskSig};
 use std::alloc::{AllocError, Global};
 
-/// What was listed.
+/// The signatures listed so far: each task's, and None for others.
 #[derive(Drop)]
 struct Listing<'a> {
     tasks: Vec<Option<&'a TaskSig>>,
@@ -22,7 +22,7 @@ impl<'a> Listing<'a> {
     }
 }
 
-/// A task, its links and its error callbacks.
+/// Lists a task, its links and its error callbacks.
 #[cycle(callbacks)]
 fn list_task<'a>(sig: &'a TaskSig, found: &mut Listing<'a>) -> Result<(), AllocError>
     ensures { OnOk result (Lists (task_calls (task_view sig.now)) found.old found.new) }
@@ -76,8 +76,8 @@ fn list_nodes<'a>(nodes: &'a [Node], found: &mut Listing<'a>) -> Result<(), Allo
     Ok(())
 }
 
-/// Of each signature of a canvas its task, where it is one, in the order of `forecasts`. The tasks
-/// stand in the order of their numbers.
+/// Returns for each signature of a canvas its task, or None if it is no task, in the order of
+/// `forecasts`. The tasks are in the order of their numbers.
 pub fn tasks_in(alloc: Global, canvas: &Canvas) -> Result<Vec<Option<&TaskSig>>, AllocError>
     ensures { IfOk result (λ tasks. map call_at tasks.items ≡ calls canvas.now) }
 {

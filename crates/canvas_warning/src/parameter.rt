@@ -1,15 +1,15 @@
 //! A parameter that is at fault.
 
-/// What is wrong with a parameter.
+/// The fault of a parameter.
 #[derive(Clone, Copy, Debug, PartialEq, Eq)]
 pub enum Wrong {
-    /// The task has no parameter of the name.
+    /// The task has no parameter of this name.
     NoParameter,
-    /// It has no argument.
+    /// The parameter has no argument.
     Missing,
-    /// It has one by its place and one by its name.
+    /// The parameter has a positional argument and a keyword argument.
     Twice,
-    /// Its argument is of another kind than the task takes.
+    /// The parameter's argument is not of the kind that the task takes.
     OtherKind,
 }
 

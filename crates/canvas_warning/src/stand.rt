@@ -1,4 +1,4 @@
-//! Where a signature stands, as far as that says what becomes of it.
+//! The position of a signature, as far as its forecast depends on it.
 
 ghost use Rattle.std.specs.Prelude.{◌≡◌};
 ghost use Rattle.canvas_warning.specs.Foreseen.{is_unknown_call, of_task, of_chain, of_group, of_chord};
@@ -6,7 +6,7 @@ ghost use Rattle.canvas_warning.specs.Standing.{is_number, is_numbers, start, ta
 
 use crate::{Expected, Forecast};
 
-/// What comes into a call, as far as a canvas says it before it runs.
+/// The input of a call, as far as a canvas determines it before it runs.
 #[derive(Clone, Copy, Debug, PartialEq, Eq)]
 pub enum Input {
     /// Nothing: the call starts with the canvas, or takes no input.
@@ -15,22 +15,22 @@ pub enum Input {
     Number,
     /// The results of a group or header.
     Numbers,
-    /// The identifier of a task that failed.
+    /// The identifier of a failed task.
     Identifier,
 }
 
-/// Where a signature stands.
+/// The position of a signature.
 #[derive(Clone, Copy)]
 pub(crate) struct Stand {
     pub(crate) input: Input,
-    /// Whether a task stands right before it in its line.
+    /// Whether a task comes right before it in its line.
     pub(crate) is_behind_task: bool,
     /// Whether something follows it in its line.
     pub(crate) is_followed: bool,
-    /// Whether it stands in a header, however deep.
+    /// Whether it is in a header, at any depth.
     pub(crate) is_in_header: bool,
-    /// Whether it is a chord's body, as what follows a group is too. With more behind it, the body
-    /// has several tasks.
+    /// Whether it is a chord's body, or what follows a group. If something follows it, the body has
+    /// several tasks.
     pub(crate) is_body: bool,
     /// Whether it is one of the first parts of a body of several tasks.
     pub(crate) begins_body: bool,
@@ -69,7 +69,7 @@ fn is_unknown(call: Expected) -> bool
 }
 
 impl Stand {
-    /// A whole canvas.
+    /// Returns the position of a whole canvas.
     pub(crate) fn start() -> Stand
         ensures { result ≡ start }
     {
@@ -83,7 +83,7 @@ impl Stand {
         }
     }
 
-    /// A link or an error callback.
+    /// Returns the position of a link or an error callback.
     pub(crate) fn of_callback(input: Input) -> Stand
         ensures { result ≡ of_callback input }
     {
@@ -93,14 +93,14 @@ impl Stand {
         }
     }
 
-    /// Whether the exception of a failed header is raised in it.
+    /// Returns whether the exception of a failed header is raised in it.
     fn takes_failure(self) -> bool
         ensures { result ≡ takes_failure self }
     {
         self.is_body || self.begins_body
     }
 
-    /// The same with so many elements behind it.
+    /// Returns the position with a number of elements after it.
     pub(crate) fn before(self, left: usize) -> Stand
         ensures { result ≡ before left self }
     {
@@ -110,7 +110,7 @@ impl Stand {
         }
     }
 
-    /// Where the elements of a chain stand, before they have others beside them.
+    /// Returns the position of a chain's elements, before their neighbours are known.
     pub(crate) fn of_elements(self) -> Stand
         ensures { result ≡ of_elements self }
     {
@@ -121,7 +121,7 @@ impl Stand {
         }
     }
 
-    /// Where the next element stands, behind one of which this came out.
+    /// Returns the position of the next element, after one with this output.
     pub(crate) fn behind(self, input: Input) -> Stand
         ensures { result ≡ behind input self }
     {
@@ -134,7 +134,7 @@ impl Stand {
         }
     }
 
-    /// Where a member stands.
+    /// Returns the position of a member.
     pub(crate) fn of_member(self, is_header: bool) -> Stand
         ensures { result ≡ of_member is_header self }
     {
@@ -148,7 +148,7 @@ impl Stand {
         }
     }
 
-    /// Where the body of a chord with so many members in its header stands.
+    /// Returns the position of the body of a chord whose header has a number of members.
     pub(crate) fn of_body(self, members: usize) -> Stand
         ensures { result ≡ of_body members self }
     {
@@ -161,7 +161,7 @@ impl Stand {
         }
     }
 
-    /// A task with so many error callbacks, whose call is expected to become this.
+    /// Returns the forecast for a task with a number of error callbacks, given its call's outcome.
     pub(crate) fn of_task(self, call: Expected, errbacks: usize) -> Forecast
         ensures { result ≡ of_task call errbacks self }
     {
@@ -182,7 +182,7 @@ impl Stand {
         }
     }
 
-    /// A group with so many members.
+    /// Returns the forecast for a group with a number of members.
     pub(crate) fn of_group(self, members: usize) -> Forecast
         ensures { result ≡ of_group members self }
     {
@@ -196,7 +196,7 @@ impl Stand {
         }
     }
 
-    /// A chord with so many members in its header.
+    /// Returns the forecast for a chord whose header has a number of members.
     pub(crate) fn of_chord(self, members: usize) -> Forecast
         ensures { result ≡ of_chord members self }
     {

@@ -11,7 +11,7 @@ use canvas_task::Tasks;
 use canvas_values::{Node, TaskSig};
 use std::alloc::{AllocError, Global};
 
-/// How many error callbacks there are.
+/// Returns the number of error callbacks.
 #[tactic(auto, using(crate::proofs::Views::tasks_counted))]
 fn count_tasks(sigs: &[TaskSig]) -> usize
     ensures { result ≡ tasks_count (tasks_of (map task_view sigs.now)) }
@@ -19,7 +19,7 @@ fn count_tasks(sigs: &[TaskSig]) -> usize
     sigs.len()
 }
 
-/// A task, its links and its error callbacks.
+/// Appends the forecasts for a task, its links and its error callbacks.
 #[cycle(calls)]
 #[tactic(auto, using(crate::proofs::Views::task_is))]
 fn push_task<T: Tasks>(
@@ -67,7 +67,7 @@ fn push_tasks<T: Tasks>(
     Ok(())
 }
 
-/// How many members there are.
+/// Returns the number of members.
 #[tactic(auto, using(crate::proofs::Views::counted))]
 fn count(nodes: &[Node]) -> usize
     ensures { result ≡ trees_count (trees_of (map view nodes.now)) }
@@ -75,7 +75,7 @@ fn count(nodes: &[Node]) -> usize
     nodes.len()
 }
 
-/// A signature and those in it. It answers what comes out.
+/// Appends the forecasts for a signature and those nested in it, and returns its output.
 #[cycle(nodes)]
 pub(crate) fn push_node<T: Tasks>(
     alloc: Global,
@@ -117,7 +117,7 @@ pub(crate) fn push_node<T: Tasks>(
     }
 }
 
-/// The elements of a chain. They answer what comes out of the last.
+/// Appends the forecasts for the elements of a chain, and returns the output of the last.
 #[cycle(nodes)]
 fn push_elements<T: Tasks>(
     alloc: Global,

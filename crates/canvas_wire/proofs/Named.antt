@@ -12,7 +12,7 @@ use Rattle.canvas_task.specs.Text.{Text}
 abbrev pub names : {B : Type 0} → List (Text × B) → List Text
 names es = map (λ e. e.0) es
 
--- each name stands before this one
+-- each name is less than this one
 abbrev pub AllBelow : List Text → Text → Type 0
 AllBelow [] k = Unit {0}
 AllBelow (n ∷ ns) k = (slice_cmp nat_cmp n k ≡ Less) × AllBelow ns k
@@ -29,7 +29,7 @@ below_next : (ns : List Text) (n k : Text) → AllBelow ns n → slice_cmp nat_c
 below_next [] n k h low = (low, tt)
 below_next (m ∷ ns) n k h low = (nat_list_cmp_total.trans m n k h.0 low, below_next ns n k h.1 low)
 
--- with one more, all stand before what the last one stands before
+-- with one more name, all are less than a name that is greater than the last
 pub still_below : (es new : List (String Global × Arg)) (n : Text) (v : Arg) (k : Text)
     → named new ≡ named es ++ (n, v) ∷ [] → AllBelow (names (named es)) n → slice_cmp nat_cmp n k ≡ Less → AllBelow (names (named new)) k
 still_below es new n v k is h low =

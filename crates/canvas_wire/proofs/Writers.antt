@@ -28,7 +28,7 @@ after_ok (Ok x) old mid new ts us all first second is =
     (second.0 ∙ ap (λ xs. xs ++ us) first.0 ∙ append_assoc old.tokens ts us ∙ ap (λ xs. old.tokens ++ xs) is, second.1 ∙ first.1)
 after_ok (Err e) old mid new ts us all first second is = tt
 
--- what stands between two moments of a writer
+-- the tokens written between two states of a writer
 abbrev pub Stands : Written → Written → List Token → Type 0
 Stands old new ts = (new.tokens ≡ old.tokens ++ ts) × (new.before ≡ old.before)
 

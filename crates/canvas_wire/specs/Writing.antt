@@ -1,5 +1,5 @@
--- The JSON value that a signature is written as: all six members, in the byte order of their names
--- (Celery user guide, Canvas).
+-- The JSON value of a signature, with all six members in the byte order of their names (Celery user
+-- guide, Canvas).
 use Rattle.std.specs.Prelude.{ℕ, Bool, false, List, [], ◌∷◌, ◌++◌, codes, ℤ}
 use Rattle.serde_json.specs.Data.{Data, null, boolean, number, string, array, object, Items, no_items, item, Members, no_members, member}
 use Rattle.serde_json.specs.Find.{of_integer}
@@ -31,7 +31,7 @@ kwargs_wire (e ∷ es) = member e.0 (arg_wire e.1) (kwargs_wire es)
 
 -- ---- signatures
 
--- a list of signatures in front of further members, left out where it is empty
+-- a member with a list of signatures before further members, omitted if the list is empty
 abbrev pub member_unless_empty : List ℕ → Items → Members → Members
 member_unless_empty k no_items more = more
 member_unless_empty k (item d ds) more = member k (array (item d ds)) more
@@ -68,7 +68,7 @@ abbrev mutual
 
 -- ---- chains, groups and chords
 
--- only the keyword arguments differ, the kind, and the name that goes with it
+-- only the keyword arguments, the kind, and the name of the kind differ
 abbrev pub primitive_wire : (kind : List ℕ) → (kwargs : Members) → Data
 primitive_wire kind kwargs =
     signature no_items false kwargs no_members (string kind) (codes "celery." ++ kind)

@@ -11,7 +11,7 @@ use json::Writer;
 use std::alloc::AllocError;
 use std::collections::BTreeMap;
 
-/// The rest of a list of numbers.
+/// Writes the rest of a list of numbers, up to the closing bracket.
 #[tactic(auto, using(crate::proofs::Writers::number_text_of))]
 fn write_numbers(out: &mut Writer, numbers: &[i64]) -> Result<(), AllocError>
     ensures { Appends result out.old out.new (rest_tokens (numbers_wire numbers.now)) }
@@ -41,7 +41,7 @@ fn write_argument(out: &mut Writer, arg: &Arg) -> Result<(), AllocError>
     }
 }
 
-/// The rest of a list of arguments.
+/// Writes the rest of a list of arguments, up to the closing bracket.
 pub fn write_args(out: &mut Writer, args: &[Arg]) -> Result<(), AllocError>
     ensures { Appends result out.old out.new (rest_tokens (args_wire args.now)) }
 {
@@ -51,7 +51,7 @@ pub fn write_args(out: &mut Writer, args: &[Arg]) -> Result<(), AllocError>
     out.end_array()
 }
 
-/// The rest of an object of keyword arguments.
+/// Writes the rest of an object of keyword arguments, up to the closing brace.
 pub fn write_named(out: &mut Writer, args: &BTreeMap<String, Arg>) -> Result<(), AllocError>
     ensures { Appends result out.old out.new (rest_members (kwargs_wire (named args.now.entries))) }
 {

@@ -1,4 +1,4 @@
-//! Signatures as JSON: what each is written as, and its tokens, one after the other.
+//! Signatures as JSON: the value of each, and its tokens, written one after the other.
 #![tactic(auto)]
 
 mod arguments;

@@ -11,7 +11,7 @@ use canvas_values::Node;
 use json::Writer;
 use std::alloc::AllocError;
 
-/// What stands before the keyword arguments of a chain, group or chord.
+/// Writes the part of a chain, group or chord before its keyword arguments.
 fn write_opening(out: &mut Writer) -> Result<(), AllocError>
     ensures { Appends result out.old out.new opening_tokens }
 {
@@ -21,7 +21,7 @@ fn write_opening(out: &mut Writer) -> Result<(), AllocError>
     out.begin_object()
 }
 
-/// The last two members, and the closing brace.
+/// Writes the last two members, `subtask_type` and `task`, and the closing brace.
 pub fn write_kind(out: &mut Writer, kind: &str, name: &str) -> Result<(), AllocError>
     ensures { Appends result out.old out.new
         (kind_tokens (string kind.now) ++ name_tokens name.now) }
@@ -33,7 +33,7 @@ pub fn write_kind(out: &mut Writer, kind: &str, name: &str) -> Result<(), AllocE
     out.end_object()
 }
 
-/// What stands behind the keyword arguments of a chain, group or chord.
+/// Writes the part of a chain, group or chord after its keyword arguments.
 pub fn write_closing(out: &mut Writer, kind: &str, name: &str) -> Result<(), AllocError>
     ensures { Appends result out.old out.new (closing_tokens (string kind.now) name.now) }
 {
@@ -43,7 +43,7 @@ pub fn write_closing(out: &mut Writer, kind: &str, name: &str) -> Result<(), All
     write_kind(out, kind, name)
 }
 
-/// The rest of a list of signatures.
+/// Writes the rest of a list of signatures, up to the closing bracket.
 #[cycle(write_tree)]
 fn write_nodes(out: &mut Writer, nodes: &[Node]) -> Result<(), AllocError>
     ensures { Appends result out.old out.new
@@ -55,7 +55,7 @@ fn write_nodes(out: &mut Writer, nodes: &[Node]) -> Result<(), AllocError>
     out.end_array()
 }
 
-/// A member that is a list of signatures.
+/// Writes a member that is a list of signatures.
 #[cycle(write_tree)]
 fn write_member(out: &mut Writer, name: &str, nodes: &[Node]) -> Result<(), AllocError>
     ensures { Appends result out.old out.new
@@ -66,8 +66,8 @@ fn write_member(out: &mut Writer, name: &str, nodes: &[Node]) -> Result<(), Allo
     write_nodes(out, nodes)
 }
 
-/// The last keyword argument of a chain, group or chord, a list of signatures, and what stands
-/// behind it.
+/// Writes the last keyword argument of a chain, group or chord, a list of signatures, and the rest
+/// after it.
 #[cycle(write_tree)]
 fn write_last(
     out: &mut Writer,
@@ -84,7 +84,7 @@ fn write_last(
     write_closing(out, kind, type_name)
 }
 
-/// A whole chain or group.
+/// Writes a whole chain or group.
 #[cycle(write_tree)]
 fn write_sequence(
     out: &mut Writer,
@@ -100,7 +100,7 @@ fn write_sequence(
     write_last(out, "tasks", nodes, kind, type_name)
 }
 
-/// The front of a chord, with its body.
+/// Writes the start of a chord, including its body.
 #[cycle(write_tree)]
 fn write_body(out: &mut Writer, body: &Node) -> Result<(), AllocError>
     ensures { Appends result out.old out.new (body_tokens (tree_wire (view body.now))) }
@@ -110,9 +110,8 @@ fn write_body(out: &mut Writer, body: &Node) -> Result<(), AllocError>
     write_tree(out, body)
 }
 
-/// A whole signature.
 #[cycle(write_tree)]
-/// A signature as tokens of JSON, with all signatures in it.
+/// Writes a signature as tokens of JSON, with all signatures nested in it.
 pub fn write_tree(out: &mut Writer, node: &Node) -> Result<(), AllocError>
     ensures { Appends result out.old out.new (data_tokens (tree_wire (view node.now))) }
 {

@@ -15,7 +15,7 @@ use json::Writer;
 use std::alloc::AllocError;
 use std::collections::BTreeMap;
 
-/// The opening brace of a signature, and its positional arguments.
+/// Writes the opening brace of a signature, and its positional arguments.
 pub fn write_front(out: &mut Writer, args: &[Arg]) -> Result<(), AllocError>
     ensures { Appends result out.old out.new (front_tokens (args_wire args.now)) }
 {
@@ -25,7 +25,7 @@ pub fn write_front(out: &mut Writer, args: &[Arg]) -> Result<(), AllocError>
     write_args(out, args)
 }
 
-/// The member `immutable`.
+/// Writes the member `immutable`.
 pub fn write_flag(out: &mut Writer, immutable: bool) -> Result<(), AllocError>
     ensures { Appends result out.old out.new (flag_tokens immutable) }
 {
@@ -33,7 +33,7 @@ pub fn write_flag(out: &mut Writer, immutable: bool) -> Result<(), AllocError>
     out.boolean(immutable)
 }
 
-/// The member `kwargs` of a task.
+/// Writes the member `kwargs` of a task.
 pub fn write_kwargs(out: &mut Writer, kwargs: &BTreeMap<String, Arg>) -> Result<(), AllocError>
     ensures { Appends result out.old out.new
         (kwargs_tokens (kwargs_wire (named kwargs.now.entries))) }
@@ -43,7 +43,7 @@ pub fn write_kwargs(out: &mut Writer, kwargs: &BTreeMap<String, Arg>) -> Result<
     write_named(out, kwargs)
 }
 
-/// The members before the options.
+/// Writes the members before the options.
 fn write_call(
     out: &mut Writer,
     args: &[Arg],
@@ -58,7 +58,7 @@ fn write_call(
     write_kwargs(out, kwargs)
 }
 
-/// The last members of a task, and the closing brace.
+/// Writes the last members of a task, and the closing brace.
 pub fn write_end(out: &mut Writer, name: &str) -> Result<(), AllocError>
     ensures { Appends result out.old out.new (kind_tokens null ++ name_tokens name.now) }
 {
@@ -69,7 +69,7 @@ pub fn write_end(out: &mut Writer, name: &str) -> Result<(), AllocError>
     out.end_object()
 }
 
-/// A member that is left out where its list is empty.
+/// Writes a member that is a list of signatures, or nothing if the list is empty.
 #[cycle(write_task)]
 fn write_link(out: &mut Writer, name: &str, sigs: &[TaskSig]) -> Result<(), AllocError>
     ensures { Appends result out.old out.new
@@ -91,7 +91,7 @@ fn write_member(out: &mut Writer, name: &str, sigs: &[TaskSig]) -> Result<(), Al
     write_tasks(out, sigs)
 }
 
-/// The rest of a list of signatures.
+/// Writes the rest of a list of signatures, up to the closing bracket.
 #[cycle(write_task)]
 fn write_tasks(out: &mut Writer, sigs: &[TaskSig]) -> Result<(), AllocError>
     ensures { Appends result out.old out.new
@@ -122,7 +122,7 @@ fn write_options(out: &mut Writer, sig: &TaskSig) -> Result<(), AllocError>
     out.end_object()
 }
 
-/// A whole task signature.
+/// Writes a whole task signature.
 #[cycle(write_task)]
 #[tactic(auto, using(crate::proofs::Writers::task_tokens))]
 pub(crate) fn write_task(out: &mut Writer, sig: &TaskSig) -> Result<(), AllocError>

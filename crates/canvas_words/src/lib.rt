@@ -8,6 +8,5 @@ mod program;
 mod subcommand;
 mod ties;
 
-pub use help::{NOTES, SHORT_NOTES};
 pub use program::{bad_text, read_words};
 pub use subcommand::Subcommand;

@@ -12,7 +12,7 @@ ghost use Rattle.canvas_words.specs.Options.{all, first_word, named_among, offer
 
 use crate::Subcommand;
 use crate::commands::commands_of;
-use crate::help::{NOTES, SHORT_NOTES};
+use crate::help::{NOTES, topic};
 use crate::ties::{Tie, broken_tie};
 use clap::error::ErrorKind;
 use clap::{ArgMatches, Command, Error};
@@ -31,8 +31,7 @@ fn plain_program<'a>(alloc: Global) -> Result<Command<'a>, AllocError>
     let program = Command::new(alloc, "canvas")
         .about("Runs Celery canvases: chains, groups and chords of tasks")
         .version(VERSION)
-        .after_help(SHORT_NOTES)
-        .after_long_help(NOTES)
+        .after_help(NOTES)
         .no_binary_name(true);
     Ok(program.bin_name("canvas")?)
 }
@@ -66,7 +65,54 @@ fn matches_of<'w>(alloc: Global, words: &'w [String]) -> Result<ArgMatches<'w>, 
         (map string_bytes words.entry.now) ≡ true → IsMistake (kind_of e)) }
 {
     let program = program_of(alloc, first_of(words))?;
-    program.try_get_matches_from(words)
+    match program.try_get_matches_from(words) {
+        Ok(matches) => Ok(matches),
+        Err(error) => Err(with_topic(alloc, words, error)),
+    }
+}
+
+/// Returns the topic that `help TOPIC` asks for, if there is one of this name.
+fn topic_in<'t>(words: &[String]) -> Option<&'t str> {
+    match words {
+        [first, name] if first.as_str() == "help" => topic(name.as_str()),
+        _ => None,
+    }
+}
+
+/// Replaces the parser's refusal of `help TOPIC` by the text of the topic, or appends the text to
+/// the help of the command that has the topic's name.
+fn with_topic(alloc: Global, words: &[String], error: Error) -> Error
+    ensures { kind_of error ≡ OutOfMemory → IsMistake (kind_of result) }
+{
+    match error.kind() {
+        ErrorKind::DisplayHelp | ErrorKind::InvalidSubcommand => match topic_in(words) {
+            Some(text) => explained(alloc, text, &error),
+            None => error,
+        },
+        _ => error,
+    }
+}
+
+/// Returns a text as help, after the help of a command if that is asked for.
+fn explained(alloc: Global, text: &str, error: &Error) -> Error {
+    match help_with(alloc, text, error) {
+        Ok(help) => help,
+        Err(error) => error,
+    }
+}
+
+fn help_with(alloc: Global, text: &str, error: &Error) -> Result<Error, Error> {
+    let whole = match error.kind() {
+        ErrorKind::DisplayHelp => format!(in alloc; "{error}\n{text}")?,
+        _ => String::from_str(alloc, text)?,
+    };
+    let program = Command::new(alloc, "canvas")
+        .override_help(&whole)
+        .no_binary_name(true);
+    match program.try_get_matches_from(&["--help"]) {
+        Ok(_) => Ok(no_command(alloc)),
+        Err(help) => Ok(help),
+    }
 }
 
 /// Returns the command that the words after the program's name ask for, with its arguments. Fails

@@ -30,12 +30,13 @@ impl InFlight {
         self.count.fetch_add(1, Ordering::SeqCst);
     }
 
-    /// Counts one envelope as acknowledged, unless the worker is inside its script. A count of none
-    /// stays so if only one worker has it. That is so for worker 0: a message that it took all the
-    /// same wouldn't keep it from ending.
-    pub(crate) fn done_unless(&self, is_inside: bool) {
-        if !is_inside && self.is_some() {
-            self.count.fetch_sub(1, Ordering::SeqCst);
+    /// Subtracts acknowledged envelopes from the count, but not below 0: a message that worker 0
+    /// took all the same wouldn't keep it from ending. If the count is 0 then, wakes the workers
+    /// that nap.
+    pub(crate) fn take_off(&self, acknowledged: u64) {
+        let done = self.count.load(Ordering::SeqCst).min(acknowledged);
+        if done > 0 && self.count.fetch_sub(done, Ordering::SeqCst) == done {
+            self.count.wake_all();
         }
     }
 
@@ -43,8 +44,8 @@ impl InFlight {
         self.count.load(Ordering::SeqCst) != 0
     }
 
-    /// Sleeps for a little while, unless the count changes before. Nobody wakes it, so a publish
-    /// costs no call of the kernel.
+    /// Sleeps for a little while, unless the count changed just before, or becomes 0. A publish
+    /// wakes nobody, so it costs no call of the kernel.
     pub(crate) fn nap<R: Wait>(&self, rt: &R) {
         let Ok(count) = u32::try_from(self.count.load(Ordering::SeqCst)) else {
             return;

@@ -63,6 +63,8 @@ pub(crate) struct Working<'a, R: Wait> {
     parts: u64,
     // How many takes in a row have found nothing. No clause reads it.
     idle: u32,
+    // How many envelopes were acknowledged and are still counted as in flight. No clause reads it.
+    acknowledged: u64,
 }
 
 impl<'a, R: Wait> Model for Working<'a, R> {
@@ -123,6 +125,7 @@ impl<'a, R: Wait> Working<'a, R> {
             first: 0,
             parts: 0,
             idle: 0,
+            acknowledged: 0,
         }
     }
 
@@ -183,7 +186,8 @@ impl<'a, R: Wait> Working<'a, R> {
     {
         match self.answer(tasks, reply) {
             Ok(()) => {
-                self.flight.done_unless(self.core.is_inside());
+                let is_done = !self.core.is_inside();
+                self.acknowledged = self.acknowledged.saturating_add(u64::from(is_done));
                 Ok(())
             }
             Err(end) => Err(end),

@@ -1,4 +1,4 @@
--- Lines of the code: what stands before and behind the body that their ends carry.
+-- Lines of the code: the parts before and after the body that their ends carry.
 use Rattle.std.proofs.Common.{◌≡◌, ◌∙◌, ℕ, true, false, arith, List, [], ◌∷◌, ◌++◌, map, length, ◌==◌, Option, Some, None, Box, Global, refl, sym, ap, ap₂, subst}
 use Rattle.std.specs.Prelude.{codes}
 use Rattle.std.proofs.lemmas.Bool.Decides.{nat_tests}
@@ -24,7 +24,7 @@ use Rattle.canvas_writing.specs.steps.Tokens.{task_behind, chain_before, chain_b
 pub task_carries : (t : FrozenTask) → is_carrying (place_seen (out-FrozenTask t).place) ≡ carries (p_step (p_task_view t) p_stop)
 task_carries t = sym (ap (λ x. is_carrying (place_of x)) (task_seen t))
 
--- ---- what is said of a line's last element
+-- ---- facts about a line's last element
 
 carries_step : (t : PTask) (l : PLine) → is_stop l ≡ false → carries (p_step t l) ≡ carries l
 carries_step t p_stop h = absurd cc
@@ -232,7 +232,7 @@ module _ (l : FrozenLine) (ts : List FrozenTask) (same : ts ≡ (out-FrozenLine 
       by [] h = refl
       by (t ∷ ts) h = absurd cc
 
--- ---- lines of tasks alone
+-- ---- lines of only tasks
 
 module _ (all others : List FrozenTask) (t : FrozenTask) (is : all ≡ others ++ t ∷ []) where
   pub one_before : (size : Option ℕ) → (length others == 0) ≡ true

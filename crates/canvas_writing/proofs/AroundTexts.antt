@@ -110,7 +110,7 @@ mutual
   last_law (p_group_end g ms) h = absurd cc
   last_law (p_chord_end g ms b) h = chord_case None g ms b (line_law None b h)
 
--- ---- where the value stands
+-- ---- the place of the value
 
 task_open : (size : Option ℕ) (t : PTask) (s : Bool) → after s (task_before size t) ≡ false
 task_open size t s =

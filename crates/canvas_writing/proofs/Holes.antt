@@ -1,4 +1,4 @@
--- What is printed before and behind a value.
+-- The printed text before and after a value.
 use Rattle.std.proofs.Common.{◌≡◌, ◌∙◌, ℕ, Bool, true, false, cond, List, [], ◌∷◌, ◌++◌, refl, sym, ap, ap₂, append_assoc}
 use Rattle.json.specs.Token.{Token}
 use Rattle.json.specs.Print.{begins, ends, print, print_from, separator, token_text}

@@ -276,7 +276,7 @@ pub a_tail_by : (l : FrozenLine) (o : Option (Box FrozenEnd Global)) → (out-Fr
 a_tail_by l None e h = absurd cc
 a_tail_by l (Some b) e h = tail_stays l b e
 
--- ---- what a writer puts behind the bytes that it begins with
+-- ---- what a writer appends to the bytes that it begins with
 
 pub put_behind : (d : Data) (start end : Written) (bytes before : List ℕ) → start.before ≡ before → start.tokens ≡ []
     → Stands start end (data_tokens d)

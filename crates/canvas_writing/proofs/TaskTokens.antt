@@ -93,7 +93,7 @@ front_is size t a w ha hw =
 abbrev of_tasks : List FrozenTask → Items
 of_tasks ts = tasks_wire (p_tasks_of (map p_task_view ts))
 
--- what stands in a task behind the body that its place carries
+-- the part of a task after the body that its place carries
 abbrev behind_by : PPlace → (links errbacks : Items) → ℕ → List ℕ → List Token
 behind_by p links errbacks k name =
     unless_null (codes "group_id") (place_id p)

@@ -1,5 +1,9 @@
-//! What stands before and behind the text of the body that the end of a line carries, in the text
-//! of the line, as tokens of JSON.
+//! The parts of a line's text before and after the text of the body that its end carries, as tokens
+//! of JSON.
+//!
+//! A shared text may contain another one, at one place, so it is written in two parts around the
+//! other. Each part is printed by itself: the printed form of tokens depends on the earlier ones
+//! only by whether a value just ended.
 
 ghost use Rattle.std.specs.Prelude.{◌≡◌, None, map};
 ghost use Rattle.canvas_wire.specs.steps.Tokens.{Appends};
@@ -23,7 +27,7 @@ fn is_carrying(place: &Option<Place>) -> bool
     }
 }
 
-/// Whether the end of a line carries a body.
+/// Returns whether the end of a line carries a body.
 #[cycle(carries)]
 pub(crate) fn carries(line: &FrozenLine) -> bool
     ensures { result ≡ carries (p_line_view line.now) }
@@ -47,7 +51,7 @@ fn end_carries(end: &FrozenEnd) -> bool
     }
 }
 
-/// A task up to the body that its place carries.
+/// Writes a task up to the body that its place carries.
 fn write_task_before(
     out: &mut Writer,
     task: &FrozenTask,
@@ -59,7 +63,7 @@ fn write_task_before(
     out.key("chord")
 }
 
-/// A line up to the body that its end carries.
+/// Writes a line up to the body that its end carries.
 #[cycle(before)]
 pub(crate) fn write_line_before(
     out: &mut Writer,
@@ -81,7 +85,7 @@ pub(crate) fn write_line_before(
     }
 }
 
-/// A line of tasks alone.
+/// Writes a line of only tasks, up to that body.
 fn write_tasks_before(
     out: &mut Writer,
     tasks: &[FrozenTask],
@@ -116,7 +120,7 @@ fn write_end_before(out: &mut Writer, end: &FrozenEnd, size: Option<u32>) -> Res
     }
 }
 
-/// The last element of a line, up to the body that it carries.
+/// Writes the last element of a line, up to the body that it carries.
 pub(crate) fn write_last_before(out: &mut Writer, line: &FrozenLine) -> Result<(), AllocError>
     ensures { Appends result out.old out.new (last_before (p_line_view line.now)) }
 {
@@ -129,7 +133,7 @@ pub(crate) fn write_last_before(out: &mut Writer, line: &FrozenLine) -> Result<(
     }
 }
 
-/// A line from behind the body that its end carries.
+/// Writes the part of a line after the body that its end carries.
 #[cycle(behind)]
 pub(crate) fn write_line_behind(out: &mut Writer, line: &FrozenLine) -> Result<(), AllocError>
     ensures { Appends result out.old out.new (line_behind (p_line_view line.now)) }
@@ -147,7 +151,7 @@ pub(crate) fn write_line_behind(out: &mut Writer, line: &FrozenLine) -> Result<(
     }
 }
 
-/// A line of tasks alone.
+/// Writes the part of a line of only tasks after that body.
 fn write_tasks_behind(out: &mut Writer, tasks: &[FrozenTask]) -> Result<(), AllocError>
     ensures { Appends result out.old out.new
         (line_behind (p_steps (map p_task_view tasks.now) p_stop)) }
@@ -177,7 +181,7 @@ fn write_end_behind(out: &mut Writer, end: &FrozenEnd) -> Result<(), AllocError>
     }
 }
 
-/// The last element of a line, from behind the body that it carries.
+/// Writes the part of the last element of a line after the body that it carries.
 pub(crate) fn write_last_behind(out: &mut Writer, line: &FrozenLine) -> Result<(), AllocError>
     ensures { Appends result out.old out.new (last_behind (p_line_view line.now)) }
 {

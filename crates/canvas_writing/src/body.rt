@@ -1,4 +1,4 @@
-//! The body of a message: a text of its own, and a piece that it shares with other messages.
+//! The body of a message: its own text, and a piece that it shares with other messages.
 
 ghost use Rattle.std.specs.Prelude.{◌≡◌, ◌++◌, IfOk, IfSome, MatchOption, None, Some, map, string_bytes};
 ghost use Rattle.std.specs.Str.{IsUtf8};
@@ -28,7 +28,7 @@ use std::alloc::{AllocError, Global};
 use std::collections::BTreeMap;
 use std::sync::Arc;
 
-/// What stands behind a shared piece, but for error callbacks.
+/// The room for the part after a shared piece, without error callbacks.
 const BACK_ROOM: usize = 40;
 
 /// A body: the front, then the shared piece, then the back.
@@ -39,7 +39,7 @@ pub struct Body {
     pub back: String,
 }
 
-/// A list of tasks.
+/// Returns the text of a list of tasks.
 fn tasks_text(alloc: Global, tasks: &[FrozenTask]) -> Result<String, AllocError>
     ensures { IfOk result (λ text. string_bytes text
         ≡ compact_text (array (tasks_wire (p_tasks_of (map p_task_view tasks.now))))) }
@@ -50,7 +50,7 @@ fn tasks_text(alloc: Global, tasks: &[FrozenTask]) -> Result<String, AllocError>
     Ok(String::from_utf8(out.into_inner()).unwrap())
 }
 
-/// Links or error callbacks, null where there is none.
+/// Appends links or error callbacks, or null if there are none.
 fn put_tasks(alloc: Global, out: &mut String, tasks: &[FrozenTask]) -> Result<(), AllocError>
     ensures { Adds result (string_bytes out.old) (string_bytes out.new)
         (compact_text (list_or_null (tasks_wire (p_tasks_of (map p_task_view tasks.now))))) }
@@ -62,7 +62,7 @@ fn put_tasks(alloc: Global, out: &mut String, tasks: &[FrozenTask]) -> Result<()
     }
 }
 
-/// The arguments, and the links.
+/// Appends the arguments and the links.
 fn put_opening(
     alloc: Global,
     out: &mut String,
@@ -79,7 +79,7 @@ fn put_opening(
     put_tasks(alloc, out, links)
 }
 
-/// The error callbacks, which are the last.
+/// Appends the error callbacks, which come last.
 fn put_closing(alloc: Global, out: &mut String, errbacks: &[FrozenTask]) -> Result<(), AllocError>
     ensures { Adds result (string_bytes out.old) (string_bytes out.new)
         (closing_text (list_or_null (tasks_wire (p_tasks_of (map p_task_view errbacks.now))))) }
@@ -89,7 +89,8 @@ fn put_closing(alloc: Global, out: &mut String, errbacks: &[FrozenTask]) -> Resu
     put(out, "}]")
 }
 
-/// The text of what follows, without its brackets.
+/// Returns the text of the rest of a line, without its brackets. A text that the message holds is
+/// shared without a comparison: the invariant of `Message` says that it is the right one.
 fn rest_piece(alloc: Global, texts: &Texts, rest: &FrozenLine) -> Result<Piece, AllocError>
     requires line { IfSome texts.now.line (λ t. IsLineText t (p_line_view rest.now)) }
     requires carried { IfSome texts.now.carried
@@ -109,7 +110,7 @@ fn rest_piece(alloc: Global, texts: &Texts, rest: &FrozenLine) -> Result<Piece, 
     Ok(Piece::Line(LinePiece { text, end }))
 }
 
-/// The text of the body that a place carries, if it carries one.
+/// Returns the text of the body that a place carries, if it carries one.
 fn text_of(
     alloc: Global,
     place: &Place,
@@ -134,7 +135,7 @@ fn text_of(
     }
 }
 
-/// The same as a piece of a body.
+/// Returns the text of the body that a place carries as a piece of a message's body.
 #[tactic(auto, using(crate::proofs::PieceTexts::carried_utf8))]
 fn carried_piece(
     alloc: Global,
@@ -155,7 +156,7 @@ fn carried_piece(
     }
 }
 
-/// The body of a message that others follow on its line.
+/// Makes the body of a message that others follow on its line.
 fn followed(
     alloc: Global,
     front: String,
@@ -180,7 +181,7 @@ fn followed(
     })
 }
 
-/// The body of a message whose place carries one.
+/// Makes the body of a message whose place carries a body.
 fn carrying(
     alloc: Global,
     front: String,
@@ -204,7 +205,7 @@ fn carrying(
     })
 }
 
-/// The body of a message that nothing follows.
+/// Makes the body of a message that nothing follows.
 fn alone(alloc: Global, front: String, errbacks: &[FrozenTask]) -> Result<Body, AllocError>
     ensures value { IfOk result (λ b.
         string_bytes b.front ++ (shared_text b.shared ++ string_bytes b.back)
@@ -222,8 +223,8 @@ fn alone(alloc: Global, front: String, errbacks: &[FrozenTask]) -> Result<Body, 
     })
 }
 
-/// The body of a message, which shares the text of what follows or is carried that the message
-/// holds.
+/// Makes the body of a message. It shares the texts of the rest of the line and of the carried body
+/// that the message holds.
 pub fn body_of(alloc: Global, message: &Message) -> Result<Body, AllocError>
     ensures value { IfOk result (λ b.
         string_bytes b.front ++ (shared_text b.shared ++ string_bytes b.back)

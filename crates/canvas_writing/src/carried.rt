@@ -24,10 +24,10 @@ use json::Writer;
 use std::alloc::{AllocError, Global};
 use std::sync::Arc;
 
-/// What stands in a line behind the body that its end carries, but for links and members.
+/// The room for the part of a line after the body that its end carries, without links and members.
 const BEHIND_ROOM: usize = 300;
 
-/// The text of a task with nothing of its own behind it, by pieces that are known.
+/// Returns the text of a task without callbacks and place, written by known pieces.
 fn task_text(alloc: Global, task: &FrozenTask, size: u32) -> Result<String, AllocError>
     ensures { IfOk result (λ text. string_bytes text
         ≡ compact_text (task_wire (Some size) (bare task.now))) }
@@ -37,7 +37,7 @@ fn task_text(alloc: Global, task: &FrozenTask, size: u32) -> Result<String, Allo
     Ok(text)
 }
 
-/// The text of any line, token by token.
+/// Returns the text of any line, written as tokens.
 fn line_text(alloc: Global, line: &FrozenLine, size: u32) -> Result<String, AllocError>
     ensures { IfOk result (λ text. string_bytes text
         ≡ compact_text (line_wire (Some size) (p_line_view line.now))) }
@@ -47,7 +47,7 @@ fn line_text(alloc: Global, line: &FrozenLine, size: u32) -> Result<String, Allo
     Ok(String::from_utf8(out.into_inner()).unwrap())
 }
 
-/// The text of a carried body, all of it.
+/// Returns the whole text of a carried body.
 fn whole_text(alloc: Global, carried: &Carried) -> Result<String, AllocError>
     ensures { IfOk result (λ text. string_bytes text ≡ compact_text
         (line_wire (Some (out-Carried carried.now).size)
@@ -59,7 +59,7 @@ fn whole_text(alloc: Global, carried: &Carried) -> Result<String, AllocError>
     }
 }
 
-/// The text of a line up to that of the body that its end carries.
+/// Returns the text of a line up to the text of the body that its end carries.
 fn before(alloc: Global, line: &FrozenLine, size: u32) -> Result<String, AllocError>
     ensures { IfOk result (λ text. string_bytes text
         ≡ print (line_before (Some size) (p_line_view line.now))) }
@@ -69,7 +69,7 @@ fn before(alloc: Global, line: &FrozenLine, size: u32) -> Result<String, AllocEr
     Ok(String::from_utf8(out.into_inner()).unwrap())
 }
 
-/// The text of a line from behind that of the body that its end carries.
+/// Returns the text of a line after the text of the body that its end carries.
 fn behind(alloc: Global, line: &FrozenLine) -> Result<Vec<u8>, AllocError>
     ensures text { IfOk result
         (λ text. text.items ≡ 44 ∷ print (line_behind (p_line_view line.now))) }
@@ -82,7 +82,7 @@ fn behind(alloc: Global, line: &FrozenLine) -> Result<Vec<u8>, AllocError>
     Ok(out.into_inner())
 }
 
-/// The text of a carried body around that of the body that its end carries.
+/// Makes the text of a carried body around the text of the body that its end carries.
 fn text_around(
     alloc: Global,
     carried: &Carried,
@@ -99,8 +99,8 @@ fn text_around(
     CarriedText::around(alloc, before, inner, String::from_utf8(behind).unwrap())
 }
 
-/// The text of a body that is carried. Where its end carries a body of which the text is known,
-/// this text is shared.
+/// Returns the text of a carried body. If its end carries a body whose text is known, that text is
+/// shared.
 pub(crate) fn body_text(
     alloc: Global,
     carried: &Carried,
@@ -117,9 +117,9 @@ pub(crate) fn body_text(
     }
 }
 
-/// The text of the body that a place carries, where it carries one. Members whose messages hold it
-/// (`Texts` of `canvas_envelope`) share it. `inner` is the text of the body that the end of this
-/// one carries, where it is known: the two share it.
+/// Returns the text of the body that a place carries, if it carries one. Members share it through
+/// their messages (`Texts` of `canvas_envelope`). `inner` is the text of the body that the end of
+/// this one carries, if it is known; it becomes part of the result, which shares it.
 pub fn carried_text(
     alloc: Global,
     place: &Place,

@@ -17,7 +17,7 @@ use canvas_wire::write_end;
 use json::Writer;
 use std::alloc::AllocError;
 
-/// A member that is left out where its list is empty.
+/// Writes a member that is a list of tasks, or nothing if the list is empty.
 #[cycle(write_task)]
 fn write_link(out: &mut Writer, name: &str, tasks: &[FrozenTask]) -> Result<(), AllocError>
     ensures { Appends result out.old out.new
@@ -31,7 +31,7 @@ fn write_link(out: &mut Writer, name: &str, tasks: &[FrozenTask]) -> Result<(), 
     write_tasks(out, tasks)
 }
 
-/// The rest of a list of tasks.
+/// Writes the rest of a list of tasks, up to the closing bracket.
 #[cycle(write_task)]
 pub(crate) fn write_tasks(out: &mut Writer, tasks: &[FrozenTask]) -> Result<(), AllocError>
     ensures { Appends result out.old out.new
@@ -43,7 +43,7 @@ pub(crate) fn write_tasks(out: &mut Writer, tasks: &[FrozenTask]) -> Result<(), 
     out.end_array()
 }
 
-/// The body that a place carries, where there is one.
+/// Writes the body that a place carries, if there is one.
 #[cycle(write_task)]
 fn write_chord(out: &mut Writer, place: &Option<Place>) -> Result<(), AllocError>
     ensures { Appends result out.old out.new
@@ -61,7 +61,7 @@ fn write_chord(out: &mut Writer, place: &Option<Place>) -> Result<(), AllocError
     }
 }
 
-/// What stands in a task behind the body that its place carries.
+/// Writes the part of a task after the body that its place carries.
 #[cycle(write_task)]
 pub(crate) fn write_task_behind(out: &mut Writer, task: &FrozenTask) -> Result<(), AllocError>
     ensures { Appends result out.old out.new (task_behind (p_task_view task.now)) }
@@ -73,7 +73,7 @@ pub(crate) fn write_task_behind(out: &mut Writer, task: &FrozenTask) -> Result<(
     write_end(out, task.name.get())
 }
 
-/// A whole task; `size` is that of the header, where the task is a carried body.
+/// Writes a whole task; `size` is that of the header, if the task is a carried body.
 #[cycle(write_task)]
 pub(crate) fn write_task(
     out: &mut Writer,
@@ -87,7 +87,7 @@ pub(crate) fn write_task(
     write_task_behind(out, task)
 }
 
-/// A chain up to the last of these tasks, which are its first.
+/// Writes a chain up to the last of these tasks, which are its first.
 #[cycle(write_task)]
 pub(crate) fn write_chain_before(
     out: &mut Writer,
@@ -105,7 +105,7 @@ pub(crate) fn write_chain_before(
     Ok(())
 }
 
-/// A line of one element is that element, a longer one a chain.
+/// Writes a line: a line of one element as that element, a longer one as a chain.
 #[cycle(write_task)]
 pub(crate) fn write_line(
     out: &mut Writer,
@@ -134,7 +134,7 @@ pub(crate) fn write_line(
     }
 }
 
-/// The members of a group or chord, and what stands behind them.
+/// Writes the members of a group or chord, and the part after them.
 #[cycle(write_task)]
 pub(crate) fn write_rest(
     out: &mut Writer,
@@ -158,7 +158,7 @@ pub(crate) fn write_rest(
     write_group_closing(out, end.group, kind, type_name)
 }
 
-/// A whole group or chord.
+/// Writes a whole group or chord.
 #[cycle(write_task)]
 fn write_last(out: &mut Writer, end: &FrozenEnd, size: Option<u32>) -> Result<(), AllocError>
     ensures { Appends result out.old out.new (data_tokens (line_wire size (p_end_view end.now))) }
@@ -174,7 +174,7 @@ fn write_last(out: &mut Writer, end: &FrozenEnd, size: Option<u32>) -> Result<()
     }
 }
 
-/// The group or chord that a line ends in.
+/// Writes the group or chord that a line ends in.
 pub(crate) fn write_tail(out: &mut Writer, line: &FrozenLine) -> Result<(), AllocError>
     ensures { Appends result out.old out.new (tail_tokens (p_line_view line.now)) }
 {

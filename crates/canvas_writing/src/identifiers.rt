@@ -25,7 +25,7 @@ fn write_task_id(out: &mut Writer, task: TaskNo) -> Result<(), AllocError>
     write_id(out, &task_text(task))
 }
 
-/// A member that is the identifier of a task.
+/// Writes a member that is the identifier of a task.
 pub(crate) fn write_task_member(
     out: &mut Writer,
     name: &str,

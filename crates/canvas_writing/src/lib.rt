@@ -1,4 +1,4 @@
-//! Writing the texts of messages: signatures as tokens of JSON, what stands around them as text.
+//! Writing the texts of messages: signatures as tokens of JSON, and the rest as text.
 #![tactic(auto)]
 
 mod around;

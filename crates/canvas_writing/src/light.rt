@@ -1,5 +1,7 @@
-//! Properties, headers, arguments, and carried tasks with nothing of their own behind them, by
-//! pieces that are known.
+//! Properties, headers, arguments, and carried tasks without callbacks and place, written by known
+//! pieces: constant bytes with identifiers, arguments and a name between them. This takes fewer
+//! steps than tokens, which are each checked for characters to escape. A name or text with such
+//! characters is written by the writer of tokens.
 
 ghost use Rattle.std.specs.Prelude.{◌≡◌, true, Some, IfSome, string_bytes};
 ghost use Rattle.json.specs.Print.{escape};
@@ -23,7 +25,7 @@ use canvas_task::{Arg, TaskNo};
 use std::alloc::{AllocError, Global};
 use std::collections::BTreeMap;
 
-/// Adds the properties of a message with this identifier.
+/// Appends the properties of a message with this identifier.
 pub fn put_properties(out: &mut String, id: &str) -> Result<(), AllocError>
     requires { escape id.now ≡ id.now }
     ensures { Adds result (string_bytes out.old) (string_bytes out.new)
@@ -46,7 +48,7 @@ fn put_place(out: &mut String, place: &Place) -> Result<(), AllocError>
     put(out, "\",\"id\":\"")
 }
 
-/// The group or chord of a place, up to the identifier.
+/// Appends the headers up to the identifier: the group or chord of a place.
 fn put_front(out: &mut String, place: &Option<Place>) -> Result<(), AllocError>
     ensures { Adds result (string_bytes out.old) (string_bytes out.new)
         (front_text (place_id (place_seen place.now))) }
@@ -69,7 +71,7 @@ fn put_parent(out: &mut String, task: TaskNo) -> Result<(), AllocError>
     )
 }
 
-/// What stands between the identifier and the name.
+/// Appends the headers between the identifier and the name.
 fn put_origin(out: &mut String, parent: Option<TaskNo>) -> Result<(), AllocError>
     ensures { Adds result (string_bytes out.old) (string_bytes out.new)
         (origin_text (parent_id parent)) }
@@ -83,7 +85,7 @@ fn put_origin(out: &mut String, parent: Option<TaskNo>) -> Result<(), AllocError
     }
 }
 
-/// The name, which is the last.
+/// Appends the name, which comes last.
 fn put_name(alloc: Global, out: &mut String, name: &str) -> Result<(), AllocError>
     ensures { Adds result (string_bytes out.old) (string_bytes out.new) (name_text name.now) }
 {
@@ -91,7 +93,7 @@ fn put_name(alloc: Global, out: &mut String, name: &str) -> Result<(), AllocErro
     put(out, "}")
 }
 
-/// Adds the headers of a message with this identifier.
+/// Appends the headers of a message with this identifier.
 pub fn put_headers(
     alloc: Global,
     out: &mut String,
@@ -108,14 +110,14 @@ pub fn put_headers(
     put_name(alloc, out, message.name.get())
 }
 
-/// Whether a task has nothing of its own behind it.
+/// Returns whether a task has neither callbacks nor a place.
 fn is_bare(task: &FrozenTask) -> bool
     ensures { result ≡ true → p_task_view task.now ≡ bare task.now }
 {
     task.links.get().is_empty() && task.errbacks.get().is_empty() && task.place.is_none()
 }
 
-/// The task that is all of a line, where it has nothing of its own behind it.
+/// Returns the task of a line that is only one task without callbacks and place.
 pub(crate) fn bare_task(line: &FrozenLine) -> Option<&FrozenTask>
     ensures { IfSome result (λ task. p_line_view line.now ≡ p_step (bare task.now) p_stop) }
 {
@@ -150,7 +152,7 @@ fn put_flag(out: &mut String, immutable: bool) -> Result<(), AllocError>
     }
 }
 
-/// What stands in a task before its options.
+/// Appends the part of a task before its options.
 fn put_call(alloc: Global, out: &mut String, size: u32, task: &FrozenTask) -> Result<(), AllocError>
     ensures { Adds result (string_bytes out.old) (string_bytes out.new)
         (call_text size (args_wire (out-FrozenTask task.now).args)
@@ -170,7 +172,7 @@ fn put_options(out: &mut String, task: TaskNo) -> Result<(), AllocError>
     put(out, "\"},\"subtask_type\":null,\"task\":")
 }
 
-/// A task that is carried for a header of this size, with nothing of its own behind it.
+/// Appends a task without callbacks and place that is carried for a header of this size.
 pub(crate) fn put_task(
     alloc: Global,
     out: &mut String,

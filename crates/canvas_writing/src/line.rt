@@ -1,4 +1,6 @@
-//! The text of what follows on a line, which its messages share.
+//! The text of the rest of a line, which its messages share. The last element comes first in
+//! `chain`, so each time a task is taken the text of what is left is a prefix, and writing the
+//! messages of a chain takes time linear in its length.
 
 ghost use Rattle.std.specs.Prelude.{◌≡◌, ◌∷◌, [], ◌++◌, ℕ, List, true, IfOk, IfSome, None, OnOk, map, string_bytes};
 ghost use Rattle.std.specs.Str.{IsUtf8};
@@ -20,17 +22,17 @@ use json::Writer;
 use std::alloc::{AllocError, Global};
 use std::sync::Arc;
 
-/// What stands in the last element of a line behind the body that it carries, but for links.
+/// The room for the part of a line's last element after the body that it carries, without links.
 const BEHIND_ROOM: usize = 230;
 
-/// The last elements of a line, as they are written so far, behind the head.
+/// The last elements of a line, as far as they are written, after the head.
 #[derive(Drop)]
 struct Listed {
     text: Vec<u8>,
     ends: Vec<usize>,
 }
 
-/// The group or chord that a line ends in, if it ends in one.
+/// Writes the group or chord that a line ends in, if there is one.
 fn begin(alloc: Global, line: &FrozenLine) -> Result<Listed, AllocError>
     ensures { IfOk result
         (λ l. Listing [] l.text.items l.ends.items (tail_line (p_line_view line.now))) }
@@ -46,7 +48,7 @@ fn begin(alloc: Global, line: &FrozenLine) -> Result<Listed, AllocError>
     Ok(Listed { text, ends })
 }
 
-/// The tasks before the last element of a line.
+/// Returns the tasks before the last element of a line.
 fn front(line: &FrozenLine) -> &[FrozenTask]
     ensures { map p_task_view result.now ≡ front_tasks (p_line_view line.now) }
 {
@@ -60,7 +62,7 @@ fn front(line: &FrozenLine) -> &[FrozenTask]
     }
 }
 
-/// The last element of a line up to the text of the body that it carries.
+/// Returns the last element of a line up to the text of the body that it carries.
 fn before(alloc: Global, line: &FrozenLine) -> Result<String, AllocError>
     ensures { IfOk result (λ text. string_bytes text ≡ print (last_before (p_line_view line.now))) }
 {
@@ -69,7 +71,7 @@ fn before(alloc: Global, line: &FrozenLine) -> Result<String, AllocError>
     Ok(String::from_utf8(out.into_inner()).unwrap())
 }
 
-/// The last element of a line from behind the text of the body that it carries.
+/// Returns the last element of a line after the text of the body that it carries.
 fn behind(alloc: Global, line: &FrozenLine) -> Result<Vec<u8>, AllocError>
     ensures text { IfOk result
         (λ text. text.items ≡ 44 ∷ print (last_behind (p_line_view line.now))) }
@@ -91,7 +93,7 @@ fn put_comma(text: &mut Vec<u8>, later: bool) -> Result<(), AllocError>
     Ok(())
 }
 
-/// The task that stands in front of what is written.
+/// Appends a task that comes before those written so far.
 fn add(listed: Listed, task: &FrozenTask) -> Result<Listed, AllocError>
     ensures { IfOk result (λ l. (head : List ℕ) (line : PLine)
         → Listing head listed.text.items listed.ends.items line
@@ -108,7 +110,7 @@ fn add(listed: Listed, task: &FrozenTask) -> Result<Listed, AllocError>
     Ok(Listed { text, ends })
 }
 
-/// The tasks that stand in front of what is written.
+/// Appends tasks that come before those written so far.
 fn add_all(listed: Listed, tasks: &[FrozenTask]) -> Result<Listed, AllocError>
     ensures { IfOk result (λ l. (head : List ℕ) (line : PLine)
         → Listing head listed.text.items listed.ends.items line
@@ -135,7 +137,7 @@ fn share(alloc: Global, head: Option<Head>, listed: Listed) -> Result<LineText, 
     Ok(LineText { text, ends })
 }
 
-/// The text of a line, where that of the body that its end carries isn't known or there is none.
+/// Returns the text of a line, without sharing that of a carried body.
 fn whole_text(alloc: Global, line: &FrozenLine) -> Result<LineText, AllocError>
     ensures { IfOk result (λ t. IsLineText t (p_line_view line.now)
         × IsListed (elements_head t ++ elements_own t) (backwards (p_line_view line.now))) }
@@ -145,7 +147,7 @@ fn whole_text(alloc: Global, line: &FrozenLine) -> Result<LineText, AllocError>
     share(alloc, None, listed)
 }
 
-/// The text of a line around that of the body that its end carries.
+/// Returns the text of a line around that of the body that its end carries.
 fn text_around(
     alloc: Global,
     line: &FrozenLine,
@@ -166,8 +168,8 @@ fn text_around(
     share(alloc, Some(Head { before, carried }), listed)
 }
 
-/// The text of a line, the last element first. Where its end carries a body of which the text is
-/// known, this text is shared.
+/// Returns the text of a line, the last element first. If its end carries a body whose text is
+/// known, that text is shared.
 pub fn line_text(
     alloc: Global,
     line: &FrozenLine,

@@ -11,7 +11,7 @@ use canvas_rewrite::FrozenLine;
 use json::Writer;
 use std::alloc::{AllocError, Global};
 
-/// Writes a line as JSON: a frozen signature, whose options name its tasks, groups and chords.
+/// Writes a line as JSON: a frozen signature, whose options identify its tasks, groups and chords.
 pub fn numbered_text(alloc: Global, line: &FrozenLine) -> Result<String, AllocError>
     ensures { IfOk result (λ text. string_bytes text
         ≡ compact_text (line_wire None (p_line_view line.now))) }

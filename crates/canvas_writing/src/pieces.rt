@@ -1,4 +1,4 @@
-//! The parts of frozen signatures that hold no signature.
+//! The parts of frozen signatures that contain no signature.
 
 ghost use Rattle.std.specs.Prelude.{◌∷◌, [], ◌++◌, codes, decimal};
 ghost use Rattle.json.specs.Token.{begin_object, end_object, key, number};
@@ -25,7 +25,7 @@ fn write_how_many(out: &mut Writer, size: u32) -> Result<(), AllocError>
     out.u64(u64::from(size))
 }
 
-/// How many members a header has, in a carried body.
+/// Writes the number of members of a header, for a carried body.
 fn write_size(out: &mut Writer, size: Option<u32>) -> Result<(), AllocError>
     ensures { Appends result out.old out.new (size_tokens size) }
 {
@@ -42,7 +42,7 @@ fn write_start(out: &mut Writer, args: &[Arg], size: Option<u32>) -> Result<(), 
     write_size(out, size)
 }
 
-/// A task up to its options, with their opening brace.
+/// Writes a task up to its options, with their opening brace.
 pub(crate) fn write_task_front(
     out: &mut Writer,
     task: &FrozenTask,
@@ -57,7 +57,7 @@ pub(crate) fn write_task_front(
     out.begin_object()
 }
 
-/// The group or chord that a place names, where there is one.
+/// Writes the group or chord that a place names, if there is one.
 pub(crate) fn write_group(out: &mut Writer, place: &Option<Place>) -> Result<(), AllocError>
     ensures { Appends result out.old out.new
         (unless_null (codes "group_id") (place_id (place_seen place.now))) }
@@ -71,7 +71,7 @@ pub(crate) fn write_group(out: &mut Writer, place: &Option<Place>) -> Result<(),
     }
 }
 
-/// The last of a task's options, and the closing brace.
+/// Writes the last of a task's options, and the closing brace.
 pub(crate) fn write_own_id(out: &mut Writer, task: TaskNo) -> Result<(), AllocError>
     ensures { Appends result out.old out.new
         (named_tokens (codes "task_id") (task_id task) ++ end_object ∷ []) }
@@ -80,7 +80,7 @@ pub(crate) fn write_own_id(out: &mut Writer, task: TaskNo) -> Result<(), AllocEr
     out.end_object()
 }
 
-/// What stands before the keyword arguments of a chain, group or chord.
+/// Writes the part of a chain, group or chord before its keyword arguments.
 pub(crate) fn write_opening(out: &mut Writer, size: Option<u32>) -> Result<(), AllocError>
     ensures { Appends result out.old out.new (opening_tokens size) }
 {
@@ -90,7 +90,7 @@ pub(crate) fn write_opening(out: &mut Writer, size: Option<u32>) -> Result<(), A
     out.begin_object()
 }
 
-/// What stands in a chain behind its last element.
+/// Writes the part of a chain after its last element.
 pub(crate) fn write_chain_behind(out: &mut Writer) -> Result<(), AllocError>
     ensures { Appends result out.old out.new chain_behind }
 {
@@ -109,7 +109,7 @@ fn write_group_options(out: &mut Writer, group: GroupNo) -> Result<(), AllocErro
     write_group_id(out, group)
 }
 
-/// What stands behind the keyword arguments of a group or chord.
+/// Writes the part of a group or chord after its keyword arguments.
 pub(crate) fn write_group_closing(
     out: &mut Writer,
     group: GroupNo,

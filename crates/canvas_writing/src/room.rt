@@ -1,15 +1,15 @@
-//! About how many bytes texts take, so that most stay where they are begun. No clause reads it. The
-//! first of several tasks or members stands for all, so that an estimate costs the same however
-//! many there are.
+//! Estimates of the lengths of texts in bytes, so that most texts need not be moved when they grow.
+//! No contract depends on them. The first of several tasks or members counts for all, so that an
+//! estimate takes the same time for any number of them.
 
 use canvas_envelope::Message;
 use canvas_rewrite::{FrozenEnd, FrozenLine, FrozenTask, Place};
 use canvas_task::Arg;
 
-/// The most that is taken at once; a longer text grows.
+/// The greatest capacity that is reserved at once; a longer text grows.
 const MOST_ROOM: usize = 2_097_152;
 
-/// How many bytes an argument has at least, with its comma.
+/// Estimates the length of an argument, with its comma.
 fn argument_room(arg: &Arg) -> usize {
     match arg {
         Arg::Num(_) => 8,
@@ -26,7 +26,7 @@ fn arguments_room(args: &[Arg]) -> usize {
     room
 }
 
-/// Of a task, with its callbacks.
+/// Estimates the length of a task, with its callbacks.
 fn task_room(task: &FrozenTask) -> usize {
     let callbacks = task
         .links
@@ -40,7 +40,7 @@ fn task_room(task: &FrozenTask) -> usize {
         .saturating_add(150)
 }
 
-/// Of tasks that stand beside each other.
+/// Estimates the length of several tasks.
 pub(crate) fn tasks_room(tasks: &[FrozenTask]) -> usize {
     match tasks.first() {
         Some(task) => task_room(task).saturating_mul(tasks.len()),
@@ -48,7 +48,7 @@ pub(crate) fn tasks_room(tasks: &[FrozenTask]) -> usize {
     }
 }
 
-/// Of the body that the last of some tasks carries.
+/// Estimates the length of the body that the last of some tasks carries.
 #[cycle(rooms)]
 fn last_place_room(tasks: &[FrozenTask]) -> usize {
     match tasks.last() {
@@ -57,7 +57,7 @@ fn last_place_room(tasks: &[FrozenTask]) -> usize {
     }
 }
 
-/// Of a place, with the body that it carries.
+/// Estimates the length of the body that a place carries.
 #[cycle(rooms)]
 fn place_room(place: &Option<Place>) -> usize {
     match place {
@@ -76,7 +76,7 @@ pub(crate) fn line_room(line: &FrozenLine) -> usize {
         .saturating_add(end_room(&line.tail))
 }
 
-/// Of the group or chord at the end of a line, where there is one.
+/// Estimates the length of the group or chord at the end of a line, if there is one.
 #[cycle(rooms)]
 fn end_room(tail: &Option<Box<FrozenEnd>>) -> usize {
     match tail {
@@ -93,7 +93,7 @@ fn members_room(members: &[FrozenLine]) -> usize {
     }
 }
 
-/// Of what follows, where something does.
+/// Estimates the length of the rest of a line, if there is one.
 #[cycle(rooms)]
 fn rest_room(rest: &Option<FrozenLine>) -> usize {
     match rest {
@@ -102,15 +102,15 @@ fn rest_room(rest: &Option<FrozenLine>) -> usize {
     }
 }
 
-/// Of properties, and of headers that name a group and a parent: all but the task's name is as long
-/// in all of them.
+/// Estimates the length of properties, and of headers that name a group and a parent. Only the
+/// task's name has a variable length.
 fn head_room(message: &Message) -> usize {
     message.name.get().len().saturating_add(353)
 }
 
-/// Of what a letter has for itself: its body, but for what that shares and what follows, and its
-/// properties and headers. Where nothing goes with the call, what stands around its arguments has
-/// 69 bytes.
+/// Estimates the length of a letter's own text: its properties, its headers and its body, without
+/// the shared piece and the part after it. The part around the arguments has 69 bytes, if there are
+/// no callbacks.
 pub(crate) fn own_room(message: &Message) -> usize {
     tasks_room(message.links.get())
         .saturating_add(tasks_room(message.errbacks.get()))

@@ -1,4 +1,5 @@
-//! JSON as text, piece by piece, which takes fewer steps than tokens.
+//! JSON as text, piece by piece, which takes fewer steps than tokens. It is built in a `String`,
+//! whose type says that it is UTF-8.
 
 ghost use Rattle.std.specs.Prelude.{◌≡◌, ◌∷◌, [], true, false, IfOk, decimal, string_bytes};
 ghost use Rattle.std.specs.Str.{IsAscii};
@@ -43,7 +44,7 @@ fn put_number(out: &mut String, number: i64) -> Result<(), AllocError>
     put(out, buffer.format(number))
 }
 
-/// The rest of a list of numbers.
+/// Appends the rest of a list of numbers, up to the closing bracket.
 fn put_numbers(out: &mut String, numbers: &[i64]) -> Result<(), AllocError>
     ensures { Adds result (string_bytes out.old) (string_bytes out.new)
         (items_text false (numbers_wire numbers.now)) }
@@ -65,7 +66,7 @@ fn put_list(out: &mut String, numbers: &[i64]) -> Result<(), AllocError>
     put_numbers(out, numbers)
 }
 
-/// Whether a byte stands for itself in a JSON text.
+/// Returns whether a byte needs no escape in a JSON text.
 #[tactic(auto, using(crate::proofs::KnownTexts::plain_alone))]
 fn is_plain_byte(byte: u8) -> bool
     ensures { result ≡ true → escape_byte byte ≡ byte ∷ [] }
@@ -73,7 +74,7 @@ fn is_plain_byte(byte: u8) -> bool
     byte >= 32 && byte != b'"' && byte != b'\\'
 }
 
-/// Whether a text has nothing to escape.
+/// Returns whether a text needs no escapes.
 #[tactic(auto, using(crate::proofs::KnownTexts::plain_next))]
 fn is_plain(text: &[u8]) -> bool
     ensures { result ≡ true → escape text.now ≡ text.now }
@@ -96,7 +97,7 @@ fn put_quoted(out: &mut String, text: &str) -> Result<(), AllocError>
     put(out, "\"")
 }
 
-/// Room for the quotes of a text and some escapes, beside its own bytes.
+/// The room for the quotes of a text and some escapes, in addition to its own bytes.
 const ESCAPES_ROOM: usize = 16;
 
 fn escaped(alloc: Global, text: &str) -> Result<String, AllocError>
@@ -130,7 +131,7 @@ fn put_arg(alloc: Global, out: &mut String, arg: &Arg) -> Result<(), AllocError>
     }
 }
 
-/// The rest of a list of arguments.
+/// Appends the rest of a list of arguments, up to the closing bracket.
 pub(crate) fn put_args(alloc: Global, out: &mut String, args: &[Arg]) -> Result<(), AllocError>
     ensures { Adds result (string_bytes out.old) (string_bytes out.new)
         (items_text false (args_wire args.now)) }
@@ -144,7 +145,7 @@ pub(crate) fn put_args(alloc: Global, out: &mut String, args: &[Arg]) -> Result<
     put(out, "]")
 }
 
-/// The rest of an object of keyword arguments.
+/// Appends the rest of an object of keyword arguments, up to the closing brace.
 fn put_named(
     alloc: Global,
     out: &mut String,
@@ -176,7 +177,7 @@ pub(crate) fn put_kwargs(
     put_named(alloc, out, kwargs)
 }
 
-/// Bytes of ASCII as a text.
+/// Returns bytes of ASCII as a text.
 #[tactic(auto, using(crate::proofs::IdentifierTexts::is_text))]
 pub fn ascii(bytes: &[u8]) -> &str
     requires { IsAscii bytes.now }
@@ -185,14 +186,14 @@ pub fn ascii(bytes: &[u8]) -> &str
     str::from_utf8(bytes).unwrap()
 }
 
-/// The identifier of a task, without quotes.
+/// Appends the identifier of a task, without quotes.
 pub(crate) fn put_task_text(out: &mut String, task: TaskNo) -> Result<(), AllocError>
     ensures { Adds result (string_bytes out.old) (string_bytes out.new) (task_text task) }
 {
     put(out, ascii(&task_text(task)))
 }
 
-/// The identifier of a group or chord, without quotes.
+/// Appends the identifier of a group or chord, without quotes.
 pub(crate) fn put_group_text(out: &mut String, group: GroupNo) -> Result<(), AllocError>
     ensures { Adds result (string_bytes out.old) (string_bytes out.new) (group_text group) }
 {

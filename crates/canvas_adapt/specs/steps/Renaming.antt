@@ -12,7 +12,7 @@ abbrev pub trees_renamed : List Rename → ℕ → List Tree → List Tree
 trees_renamed rs k [] = []
 trees_renamed rs k (t ∷ ts) = rename_tree rs k t ∷ trees_renamed rs (k + count t) ts
 
--- how many tasks there are in signatures
+-- the number of tasks in signatures
 abbrev pub trees_in : List Tree → ℕ
 trees_in [] = 0
 trees_in (t ∷ ts) = count t + trees_in ts

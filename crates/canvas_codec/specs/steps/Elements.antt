@@ -1,4 +1,4 @@
--- What was read of a message, before it is one.
+-- The parts of a message, as they are read.
 use Rattle.std.specs.Prelude.{List, map, reverse, Result, Ok}
 use Rattle.serde_json.specs.Data.{Data}
 use Rattle.canvas_sig.specs.Datum.{view}
@@ -19,12 +19,12 @@ abbrev pub element_view : Element → PLine
 element_view (element.Task t) = p_step (p_task_view t) p_stop
 element_view (element.End e) = p_end_view e
 
--- a line, by what reads its last element and those before it
+-- a line, from the functions that read its last element and those before it
 abbrev pub line_with : (Data → Result PTask SigFault) → (Data → Result PLine SigFault) → List Data
     → Data → Result PLine SigFault
 line_with s e ds d = in_turn s ds >>= λ ts. e d >>= λ l. Ok (p_steps ts l)
 
--- the same, where the last element is read first and those before it come from the last on
+-- a line, if the last element is read first, and then those before it in reverse order
 abbrev pub reversed_with : (Data → Result PTask SigFault) → (Data → Result PLine SigFault) → Data
     → List Data → Result PLine SigFault
 reversed_with s e d ds = e d >>= λ l. in_turn s ds >>= λ ts. Ok (p_steps (reverse ts) l)

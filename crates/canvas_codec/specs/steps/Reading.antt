@@ -1,5 +1,5 @@
--- Reading step by step, as the code goes: the message that three JSON texts stand for, or the first
--- reason why they stand for none.
+-- Reading step by step, as the code does: the message that three JSON texts encode, or the first
+-- refusal. It is proved to be the definitions of refusals and of contents together.
 use Rattle.std.specs.Prelude.{◌≡◌, ℕ, Bool, false, true, not, ◌&&◌, ◌||◌, ◌==◌, if◌then◌else◌, List, [], ◌∷◌, reverse, is_some, Option, Some, None, Result, Ok, Err, codes}
 use Rattle.std.specs.Option.{option_and_then}
 use Rattle.serde_json.specs.Data.{Data, array, no_items, item}
@@ -21,9 +21,9 @@ use Rattle.canvas_codec.specs.steps.FrozenReading.{place_with, link_reading, ste
 use Rattle.canvas_envelope.specs.declared.fault.MessageFault.{MessageFault}
 use Rattle.canvas_envelope.specs.declared.fault.MessageFault.TheVariants.{NotJson, NotVersion2, BadId, BadContentType, BadBody, BadArgs as bad_args, BadEmbed, Memory}
 
--- ---- answers
+-- ---- results
 
--- What a function returned, seen by view, is what reading gives, unless memory ran out.
+-- A function returned what reading gives, seen by `view`, unless memory ran out.
 abbrev pub Fails : {Y : Type 0} → MessageFault → Result Y MessageFault → Type 0
 Fails Memory read = Unit {0}
 Fails e read = read ≡ Err e
@@ -45,7 +45,7 @@ abbrev pub some_or : {A : Type 0} → MessageFault → Option A → Result A Mes
 some_or e None = Err e
 some_or e (Some x) = Ok x
 
--- one refusal for whatever is wrong with a part
+-- one refusal for any fault of a part
 abbrev pub refused_as : {A : Type 0} → MessageFault → Result A SigFault → Result A MessageFault
 refused_as e (Ok x) = Ok x
 refused_as e (Err f) = Err e
@@ -59,8 +59,7 @@ abbrev pub is_that_task : ℕ → Option ℕ → Bool
 is_that_task k None = false
 is_that_task k (Some j) = j == k
 
--- what a look-up of the correlation's identifier found names the same task, where it found
--- something
+-- whether the correlation's identifier, if there is one, names the same task
 abbrev pub correlates : ℕ → Option Data → Bool
 correlates k None = true
 correlates k (Some d) = is_that_task k (task_of d)
@@ -74,7 +73,7 @@ ids_ok p h k =
     is_group_or_null (field (codes "group") h) && is_object p
     && correlates k (get (codes "correlation_id") p)
 
--- the task, where all identifiers are in order
+-- the task, if all identifiers are valid
 abbrev pub id_reading : (properties headers : Data) → Option ℕ
 id_reading p h =
     option_and_then (λ k. if ids_ok p h k then Some k else None) (task_of (field (codes "id") h))
@@ -84,7 +83,7 @@ is_json p =
     is_text (codes "application/json") (field (codes "content_type") p)
     && is_text (codes "utf-8") (field (codes "content_encoding") p)
 
--- ---- the body: arguments, keyword arguments, and what goes with the call
+-- ---- the body: arguments, keyword arguments, and the embed
 
 pub record BodyParts : Type 0 where
   pub args : Data
@@ -107,7 +106,7 @@ given_reading a k =
     λ args. in_turn named_reading (object_members k) >>=
     λ kwargs. Ok (record { args = args; kwargs = kwargs }))
 
--- what follows on the line: the last element first
+-- the rest of the line, of which the last element comes first
 abbrev pub chain_reading : List Data → Result PLine SigFault
 chain_reading [] = Ok p_stop
 chain_reading (d ∷ ds) =
@@ -137,7 +136,7 @@ embed_reading group e =
 
 -- ---- messages
 
--- Places, sizes and reach are looked at last.
+-- Places, sizes and reach are checked last.
 abbrev pub if_fits : Content → Result Content MessageFault
 if_fits c = if fits c then Ok c else Err BadEmbed
 

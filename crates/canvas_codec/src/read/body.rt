@@ -1,4 +1,4 @@
-//! A body's parts, and the arguments among them.
+//! Reading the parts of a body, and the arguments among them.
 
 ghost use Rattle.std.specs.Prelude.{◌≡◌, map};
 ghost use Rattle.std.specs.Option.{option_map};

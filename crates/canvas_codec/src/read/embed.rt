@@ -1,4 +1,4 @@
-//! What goes with a call in a message's body.
+//! Reading the embed of a message's body.
 
 ghost use Rattle.std.specs.Prelude.{◌≡◌, map, reverse};
 ghost use Rattle.canvas_sig.specs.Datum.{view, value_at};
@@ -16,7 +16,7 @@ use canvas_sig::parts::{Datum, MOST_LEVELS, is_list_or_null, is_object_or_null, 
 use canvas_task::ListOf;
 use std::alloc::Global;
 
-/// Links, error callbacks, the place of the line, and what follows on it.
+/// Links, error callbacks, the place of the line, and its rest.
 #[derive(Drop)]
 pub(crate) struct Embed {
     pub(crate) links: ListOf<FrozenTask>,
@@ -41,7 +41,7 @@ fn turned(mut tasks: Vec<FrozenTask>) -> Vec<FrozenTask>
     tasks
 }
 
-/// The line whose last element is given first.
+/// Reads a line of which the last element is given first.
 fn read_reversed(
     alloc: Global,
     last: &Datum<'_>,
@@ -56,7 +56,7 @@ fn read_reversed(
     Ok(Some(line_of(alloc, tasks, last)?))
 }
 
-/// What follows on the line, its last element first.
+/// Reads the rest of the line, its last element first.
 fn read_rest(alloc: Global, values: &[Datum<'_>]) -> Result<Option<FrozenLine>, SigFault>
     ensures { Gives rest_seen result (chain_reading (map view values.now)) }
 {
@@ -66,7 +66,7 @@ fn read_rest(alloc: Global, values: &[Datum<'_>]) -> Result<Option<FrozenLine>, 
     }
 }
 
-/// `group` is the identifier of the group that the message's place is in.
+/// Reads the embed. `group` is the identifier of the group of the message's place.
 pub(crate) fn read_embed(
     alloc: Global,
     group: Option<&Datum<'_>>,

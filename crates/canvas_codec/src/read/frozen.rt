@@ -1,4 +1,6 @@
-//! Reading frozen signatures, with the signatures in them, out of JSON values.
+//! Reading frozen signatures, with the signatures nested in them, from JSON values. The walk is
+//! that of the reader of canvases in `canvas_sig`, but the values have other types, and one generic
+//! reader would have longer contracts.
 
 ghost use Rattle.std.specs.Prelude.{◌≡◌, false, true, map, OnOk, IfErr, MatchOption, Some, None};
 ghost use Rattle.canvas_sig.specs.Datum.{view, value_at};
@@ -24,7 +26,7 @@ use canvas_values::Primitive;
 use std::alloc::Global;
 use std::sync::Arc;
 
-/// A place isn't a fault of a task.
+/// Returns the fault, unless it is that a task has a place.
 fn but_a_place(fault: Option<SigFault>) -> Option<SigFault>
     ensures { result ≡ but_a_place fault }
 {
@@ -34,7 +36,7 @@ fn but_a_place(fault: Option<SigFault>) -> Option<SigFault>
     }
 }
 
-/// The refusal for a fault that was found.
+/// Returns an error if a fault was found.
 fn refuse(fault: Option<SigFault>) -> Result<(), SigFault>
     ensures ok { OnOk result (fault ≡ None) }
     ensures err { IfErr result (λ e. fault ≡ Some e) }
@@ -45,7 +47,7 @@ fn refuse(fault: Option<SigFault>) -> Result<(), SigFault>
     }
 }
 
-/// A value other than null.
+/// Returns the value of a field, unless it is null or missing.
 fn given<'a>(field: Option<&'a Datum<'a>>) -> Option<&'a Datum<'a>>
     ensures { MatchOption result (is_null (value_at field.entry) ≡ true)
         (λ value. (is_null (value_at field.entry) ≡ false)
@@ -67,7 +69,7 @@ fn header_fault(value: &Datum<'_>) -> Option<SigFault>
     }
 }
 
-/// The link or error callback that a value stands for; signatures in it nest at most `left` deep.
+/// Reads a link or an error callback; signatures in it nest at most `left` deep.
 #[cycle(read)]
 #[tactic(auto, using(crate::proofs::Levels::link_level_below))]
 pub(crate) fn read_link(alloc: Global, value: &Datum<'_>, left: u32) -> Result<FrozenTask, SigFault>
@@ -79,7 +81,7 @@ pub(crate) fn read_link(alloc: Global, value: &Datum<'_>, left: u32) -> Result<F
     read_task(alloc, value, true, left - 1)
 }
 
-/// The task that a value stands for; `linked` says that it is a link or an error callback.
+/// Reads a task; `linked` says that it is a link or an error callback.
 #[cycle(read)]
 fn read_task(
     alloc: Global,
@@ -111,7 +113,7 @@ fn read_task(
     })
 }
 
-/// The signatures in a list.
+/// Reads the signatures in a list.
 #[cycle(read)]
 pub(crate) fn read_all_links(
     alloc: Global,
@@ -128,7 +130,7 @@ pub(crate) fn read_all_links(
     Ok(tasks)
 }
 
-/// The place that a group's identifier and a chord's body give.
+/// Reads the place with a group's identifier and a chord's body.
 #[cycle(read)]
 pub(crate) fn read_place(
     alloc: Global,
@@ -170,7 +172,7 @@ fn read_carried(alloc: Global, value: &Datum<'_>, left: u32) -> Result<Carried, 
     })
 }
 
-/// The line that a value stands for: one element, or a chain of some.
+/// Reads a line, which is one element, or a chain of several.
 #[cycle(read)]
 #[tactic(auto, using(crate::proofs::Levels::line_level_below))]
 pub(crate) fn read_line(alloc: Global, value: &Datum<'_>, left: u32) -> Result<FrozenLine, SigFault>
@@ -217,7 +219,7 @@ fn read_parts(
     Ok(line_of(alloc, tasks, last)?)
 }
 
-/// The elements of a line that aren't its last.
+/// Reads the elements of a line other than its last.
 #[cycle(read)]
 pub(crate) fn read_steps(
     alloc: Global,
@@ -248,7 +250,7 @@ fn read_step(alloc: Global, value: &Datum<'_>, left: u32) -> Result<FrozenTask, 
     }
 }
 
-/// The last element of a line.
+/// Reads the last element of a line.
 #[cycle(read)]
 #[tactic(auto, using(crate::proofs::Levels::last_level_below))]
 pub(crate) fn read_last(alloc: Global, value: &Datum<'_>, left: u32) -> Result<Element, SigFault>

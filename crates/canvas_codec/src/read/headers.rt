@@ -1,4 +1,4 @@
-//! What headers and properties say.
+//! Reading the headers and the properties.
 
 ghost use Rattle.std.specs.Prelude.{◌≡◌, ◌&&◌, codes};
 ghost use Rattle.std.specs.Option.{option_map};
@@ -11,7 +11,7 @@ use super::identifiers::{group_of, task_of};
 use canvas_sig::parts::{Datum, is_name, is_null, is_text};
 use canvas_task::TaskNo;
 
-/// Whether these are headers of a version 2 message.
+/// Returns whether these are headers of a version 2 message.
 pub(crate) fn is_version_2(headers: &Datum<'_>) -> bool
     ensures { result ≡ is_version_2 (view headers.now) }
 {
@@ -27,7 +27,7 @@ fn is_that_task(task: TaskNo, other: Option<TaskNo>) -> bool
     }
 }
 
-/// Whether a correlation's identifier, where there is one, names the task.
+/// Returns whether a correlation's identifier, if there is one, names the task.
 fn correlates(task: TaskNo, field: Option<&Datum<'_>>) -> bool
     ensures { result ≡ correlates task (option_map (λ v. view v.now) field.entry) }
 {
@@ -43,7 +43,7 @@ fn is_group_or_null(field: Option<&Datum<'_>>) -> bool
     is_null(field) || group_of(field).is_some()
 }
 
-/// Whether the properties name no other task.
+/// Returns whether the properties are an object and name no other task.
 fn is_correlated(properties: &Datum<'_>, task: TaskNo) -> bool
     ensures { result
         ≡ (is_object (view properties.now)
@@ -58,7 +58,7 @@ fn ids_ok(properties: &Datum<'_>, headers: &Datum<'_>, task: TaskNo) -> bool
     is_group_or_null(headers.get("group")) && is_correlated(properties, task)
 }
 
-/// The task that is called, where all identifiers are in order.
+/// Returns the called task, if all identifiers are valid.
 pub(crate) fn read_id(properties: &Datum<'_>, headers: &Datum<'_>) -> Option<TaskNo>
     ensures { result ≡ id_reading (view properties.now) (view headers.now) }
 {
@@ -70,7 +70,7 @@ pub(crate) fn read_id(properties: &Datum<'_>, headers: &Datum<'_>) -> Option<Tas
     }
 }
 
-/// Whether the body is JSON in UTF-8.
+/// Returns whether the properties say that the body is JSON in UTF-8.
 pub(crate) fn is_json(properties: &Datum<'_>) -> bool
     ensures { result ≡ is_json (view properties.now) }
 {

@@ -1,4 +1,4 @@
-//! Identifiers and sizes.
+//! Reading identifiers and sizes.
 
 ghost use Rattle.std.specs.Prelude.{◌≡◌, Some};
 ghost use Rattle.serde_json.specs.Find.{as_i64};
@@ -14,7 +14,7 @@ use canvas_sig::parts::Datum;
 use canvas_task::{GroupNo, TaskNo, group_of_text, task_of_text};
 use serde_json::Number;
 
-/// The task that a member identifies.
+/// Returns the task that a member identifies.
 pub(crate) fn task_of(field: Option<&Datum<'_>>) -> Option<TaskNo>
     ensures { result ≡ task_of (value_at field.entry) }
 {
@@ -24,7 +24,7 @@ pub(crate) fn task_of(field: Option<&Datum<'_>>) -> Option<TaskNo>
     }
 }
 
-/// The group or chord that a member identifies.
+/// Returns the group or chord that a member identifies.
 pub(crate) fn group_of(field: Option<&Datum<'_>>) -> Option<GroupNo>
     ensures { result ≡ group_of (value_at field.entry) }
 {
@@ -71,7 +71,7 @@ fn size_of_number(number: &Number) -> Result<u32, SigFault>
     }
 }
 
-/// The number of members that a carried body names.
+/// Reads the number of members that a carried body names.
 pub(crate) fn read_size(field: Option<&Datum<'_>>) -> Result<u32, SigFault>
     ensures { Gives (λ n. n) result (size_reading (value_at field.entry)) }
 {

@@ -1,4 +1,4 @@
-//! Lines, made of what was read.
+//! Building lines from what was read.
 
 ghost use Rattle.std.specs.Prelude.{◌≡◌, IfOk, map};
 ghost use Rattle.canvas_rewrite.specs.FrozenView.{p_task_view, p_line_view, p_steps};
@@ -15,7 +15,7 @@ pub(crate) enum Element {
     End(FrozenEnd),
 }
 
-/// The line of some tasks and a last element.
+/// Makes the line of some tasks and a last element.
 pub(crate) fn line_of(
     alloc: Global,
     mut tasks: Vec<FrozenTask>,

@@ -1,4 +1,4 @@
--- The text of a chord's body, where it is known; and that it is that tells no more than a fact.
+-- The text of a chord's body, if it is known; and that knowing it is a proposition.
 use Rattle.std.specs.Prelude.{ℕ, List, [], ◌∷◌, Option, Some, None, IfSome}
 use Rattle.std.specs.Coded.{codes}
 use Rattle.std.specs.Global.{Global}
@@ -13,7 +13,7 @@ use Rattle.canvas_envelope.specs.SharedTexts.{SaysText, SaysRinged, SaysCarried,
 abbrev pub Known : Type 0
 Known = Option (Arc CarriedText Global)
 
--- a text that is known is that of the body
+-- a known text is that of the body
 abbrev pub SaysBody : Known → PCarried → Type 0
 SaysBody o c = IfSome o (λ t. SaysCarried t.value (carrying_place c))
 

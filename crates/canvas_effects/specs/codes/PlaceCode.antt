@@ -1,5 +1,5 @@
--- How a place is stored, so that a type may have it as its value: as the message of a task at it;
--- and how what it carries is.
+-- The encoding of a place, as the message of a task with it, and of what it carries, so that a type
+-- may have these as its value.
 use Rattle.std.specs.Prelude.{ℕ, zero, false, [], Option, Some, None, refl}
 use Rattle.std.specs.Coded.{Coded, code_by}
 use Rattle.canvas_rewrite.specs.FrozenView.{PCarried}
@@ -22,7 +22,7 @@ to_place c = place_of c.own
 abbrev pub place_code : Coded PPlace
 place_code = code_by Content content_code of_place to_place (λ p. refl)
 
--- a load as a message of no task
+-- the carried size and body, as a message of no task
 abbrev of_carried : PCarried → Content
 of_carried c =
     record {

@@ -1,4 +1,4 @@
--- What the walks of a line give, apart: the messages of one that is started, the stores of one that
+-- The walks of a line, each by itself: the messages of a line that starts, the stores of one that
 -- is skipped, and both of one in which an exception is raised.
 use Rattle.std.specs.Prelude.{ℕ, Bool, true, false, List, [], ◌∷◌, ◌++◌, map, Option, Some, None, Box, ℤ}
 use Rattle.std.specs.declared.alloc.Global.{Global}
@@ -18,7 +18,7 @@ use Rattle.canvas_effects.specs.Placing.{last_at, placed, end_place, last_task}
 use Rattle.canvas_effects.specs.declared.input.Input as the_input
 use Rattle.canvas_effects.specs.declared.input.Input.TheVariants as given
 
--- ---- what the code has
+-- ---- the values of the code
 
 abbrev pub input_seen : the_input.Input → Input
 input_seen given.Nothing = no_input
@@ -26,7 +26,7 @@ input_seen (given.Number n) = number_input n
 input_seen (given.Numbers ns) = list_input ns
 input_seen (given.Ident k) = id_input k
 
--- what a line ends in
+-- the end of a line
 abbrev pub tail_seen : Option (Box FrozenEnd Global) → PLine
 tail_seen None = p_stop
 tail_seen (Some e) = p_end_view e.value
@@ -44,17 +44,17 @@ begins_with_task (p_chord_end g ms body) = false
 abbrev pub at_place : PPlace → PTask → PTask
 at_place p t = last_at p t p_stop
 
--- the message of a line's first task, where the line's end goes to p
+-- the message of a line's first task; the line's end goes to p
 abbrev pub first_message : Option ℕ → PTask → Input → PPlace → PLine → Content
 first_message u t x p rest = message u (last_at p t rest) x (placed p rest)
 
--- where the members of a group or chord end, where the end of the whole goes to p
+-- the place of the ends of a group's or chord's members; the end of the whole goes to p
 abbrev pub member_place : PLine → PPlace → PPlace
 member_place (p_group_end g ms) p = p_group g
 member_place (p_chord_end g ms body) p = p_chord g (how_many ms) (placed p body)
 member_place l p = p
 
--- the last task; none where the line ends in a group
+-- the last task, or None if the line ends in a group
 abbrev pub last_of : PLine → Option PTask
 last_of p_stop = None
 last_of (p_step t p_stop) = Some t
@@ -110,7 +110,7 @@ first_failure [] = None
 first_failure ((k, Success n) ∷ es) = first_failure es
 first_failure ((k, Failure f) ∷ es) = Some (fault.Chord k (why_of f))
 
--- the numbers of those that succeeded
+-- the numbers of the members that succeeded
 abbrev pub successes : List (ℕ × Outcome) → List ℤ
 successes [] = []
 successes ((k, Success n) ∷ es) = n ∷ successes es

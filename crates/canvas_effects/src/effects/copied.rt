@@ -1,4 +1,4 @@
-//! Copies of messages.
+//! Cloning messages.
 
 ghost use Rattle.std.specs.Prelude.{◌≡◌, IfOk};
 ghost use Rattle.canvas_envelope.specs.MessageView.{rest_seen};
@@ -19,8 +19,8 @@ fn copy_rest(alloc: Global, rest: &Option<FrozenLine>) -> Result<Option<FrozenLi
     }
 }
 
-/// The same message once more. The bodies that it carries are shared, and the text of what follows
-/// on its line is left to be written anew.
+/// Clones a message. The carried bodies are shared, but not the text of the rest of its line, which
+/// has to be written again.
 pub(super) fn copy_message(alloc: Global, message: &Message) -> Result<Message, AllocError>
     ensures { IfOk result (λ copy. copy ≡ message.now) }
 {

@@ -1,4 +1,4 @@
-//! The messages that a run begins with, a line's after another's.
+//! The messages that a run begins with, line by line.
 
 ghost use Rattle.std.specs.Prelude.{◌≡◌, ◌∷◌, ◌==◌, [], false, length, map, IfOk, IfSome, MatchOption, None, OnErr, true};
 ghost use Rattle.canvas_semantics.specs.PlacedLine.{p_nowhere, p_step, p_stop};
@@ -22,14 +22,16 @@ use std::alloc::{AllocError, Global};
 use std::marker::Model;
 use std::slice::from_ref;
 
-/// What `first_messages` answers, a portion at a time: of each member of the group or chord that a
-/// plan begins with, or of the whole line of any other plan. Who seals a portion before it takes
-/// the next never has all messages beside all letters. Contracts see the portions that are left.
+/// The result of `first_messages` in portions: one for each member of the group or chord that a
+/// plan begins with, or a single one for the whole line of any other plan. A caller that seals each
+/// portion before it takes the next never has all messages and all letters at once. This is
+/// possible since a plan's first messages are in the order of their numbers. Contracts see the
+/// portions that are left.
 #[derive(Drop)]
 pub struct FirstMessages<'p> {
-    /// The lines that aren't begun.
+    /// The lines that haven't begun.
     lines: &'p [FrozenLine],
-    /// Where their ends go.
+    /// The place where their ends go.
     place: Option<Destination>,
 }
 
@@ -51,7 +53,7 @@ impl<'p> Model for FirstMessages<'p> {
     ghost invariant = { λ f. AllStand (place_or f.place) (map p_line_view f.lines.now) };
 }
 
-/// The header that a plan begins with, where it begins with one that has members.
+/// Returns the header that a plan begins with, if it begins with one that has members.
 fn header_first(plan: &Plan) -> Option<&FrozenEnd>
     ensures members { IfSome result
         (λ e. (length (out-FrozenEnd e.now).members == 0) ≡ false) }
@@ -66,7 +68,7 @@ fn header_first(plan: &Plan) -> Option<&FrozenEnd>
     }
 }
 
-/// A plan's line, alone.
+/// Returns the line of a plan as a slice of one.
 fn whole_line(plan: &Plan) -> &[FrozenLine]
     ensures stand { AllStand p_nowhere (map p_line_view result.now) }
     ensures value { together (portions (map p_line_view result.now) p_nowhere)
@@ -75,8 +77,8 @@ fn whole_line(plan: &Plan) -> &[FrozenLine]
     from_ref(plan.line())
 }
 
-/// The members of a group or chord. It is a function for its contract's sake: each of them can
-/// stand where its end goes.
+/// Borrows the members of a group or chord. It is a function for its contract: each of them can be
+/// a line whose end goes to the members' place.
 fn standing_members(end: &FrozenEnd) -> &[FrozenLine]
     requires { can_stand (p_end_view end.now) p_nowhere ≡ true }
     ensures value { result.now ≡ (out-FrozenEnd end.now).members }
@@ -86,7 +88,7 @@ fn standing_members(end: &FrozenEnd) -> &[FrozenLine]
     end.members.get()
 }
 
-/// Where they end, where the end of the whole goes nowhere.
+/// Returns the place of the members' ends, if the end of the whole goes nowhere.
 fn first_place(alloc: Global, end: &FrozenEnd) -> Result<Destination, AllocError>
     requires { can_stand (p_end_view end.now) p_nowhere ≡ true }
     ensures { IfOk result (λ d. d ≡ member_place (p_end_view end.now) p_nowhere) }
@@ -101,7 +103,7 @@ fn first_place(alloc: Global, end: &FrozenEnd) -> Result<Destination, AllocError
     }
 }
 
-/// The members of a header, begun from nothing.
+/// Makes the portions of a header's members, which start without input.
 fn of_header<'p>(alloc: Global, end: &'p FrozenEnd) -> Result<FirstMessages<'p>, AllocError>
     requires members { (length (out-FrozenEnd end.now).members == 0) ≡ false }
     requires stand { can_stand (p_end_view end.now) p_nowhere ≡ true }
@@ -113,7 +115,7 @@ fn of_header<'p>(alloc: Global, end: &'p FrozenEnd) -> Result<FirstMessages<'p>,
     Ok(FirstMessages { lines, place })
 }
 
-/// The task that is all of a line.
+/// Returns the task of a line that is only one task.
 fn only_task(line: &FrozenLine) -> Option<&FrozenTask>
     ensures { IfSome result (λ t. p_line_view line.now ≡ p_step (p_task_view t.now) p_stop) }
 {
@@ -123,8 +125,8 @@ fn only_task(line: &FrozenLine) -> Option<&FrozenTask>
     }
 }
 
-/// The messages that a line begins with from nothing, whose end goes to the place. Most members are
-/// one task, and of such a line only the task is copied.
+/// Returns the messages with which a line begins without input; its end goes to the place. Most
+/// members are a single task, and for such a line only the task is cloned.
 fn portion_of(
     alloc: Global,
     line: &FrozenLine,
@@ -146,7 +148,7 @@ fn portion_of(
 }
 
 impl<'p> FirstMessages<'p> {
-    /// All portions of a plan.
+    /// Makes all portions of a plan.
     pub fn of(alloc: Global, plan: &'p Plan) -> Result<FirstMessages<'p>, Memory>
         ensures { IfOk result (λ f. together f ≡ first_messages plan.now) }
     {
@@ -159,7 +161,8 @@ impl<'p> FirstMessages<'p> {
         }
     }
 
-    /// The next portion, or none where all were taken. Where memory is refused nothing is lost.
+    /// Returns the next portion, or None if all were taken. After an allocation failure the portion
+    /// is still there.
     pub fn next(&mut self, alloc: Global) -> Result<Option<Vec<Message>>, Memory>
         ensures ok { IfOk result (λ o. MatchOption o (self.old ≡ [])
             (λ messages. self.old ≡ messages.items ∷ self.new)) }

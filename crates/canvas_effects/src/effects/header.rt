@@ -1,4 +1,4 @@
-//! What the outcomes of a header's members give to the body.
+//! The input of a body, from the outcomes of the header's members.
 
 ghost use Rattle.std.specs.Prelude.{◌≡◌, ◌∷◌, [], ◌++◌, IfOk, OnOk};
 ghost use Rattle.canvas_effects.specs.steps.Walks.{first_failure, successes};
@@ -7,7 +7,7 @@ use super::raised::why_of;
 use canvas_task::{Fault, ListOf, Outcome, TaskNo};
 use std::alloc::{AllocError, Global};
 
-/// The exception that the first failed member raises, if one failed.
+/// Returns the exception that the first failed member raises, if one failed.
 pub(super) fn failure_of(outcomes: &[(TaskNo, Outcome)]) -> Option<Fault>
     ensures { result ≡ first_failure outcomes.now }
 {
@@ -22,7 +22,7 @@ pub(super) fn failure_of(outcomes: &[(TaskNo, Outcome)]) -> Option<Fault>
     None
 }
 
-/// The number of a member that succeeded, put behind the others.
+/// Appends the number of a member that succeeded.
 fn put_number(numbers: &mut Vec<i64>, ended: &(TaskNo, Outcome)) -> Result<(), AllocError>
     ensures { OnOk result
         (numbers.new.items ≡ numbers.old.items ++ successes (ended.now ∷ [])) }
@@ -36,7 +36,7 @@ fn put_number(numbers: &mut Vec<i64>, ended: &(TaskNo, Outcome)) -> Result<(), A
     }
 }
 
-/// The numbers of the members that succeeded, in order.
+/// Returns the numbers of the members that succeeded, in order.
 pub(super) fn numbers_of(
     alloc: Global,
     outcomes: &[(TaskNo, Outcome)],

@@ -7,7 +7,7 @@ ghost use Rattle.canvas_effects.specs.steps.Walks.{last_of};
 
 use canvas_rewrite::{FrozenEnd, FrozenLine, FrozenTask};
 
-/// The last task of a line; none of one that ends in a group.
+/// Returns the last task of a line. A line that ends in a group has none.
 #[cycle(last)]
 pub(super) fn last_task(line: &FrozenLine) -> Option<&FrozenTask>
     ensures { option_map (λ t. p_task_view t.now) result ≡ last_of (p_line_view line.now) }

@@ -1,5 +1,5 @@
-//! What follows a message that is given up: the next task of its line, or the part that its end
-//! returns, takes over what it carries.
+//! The effects of the end of a task whose message is consumed: the next task of its line, or the
+//! part that its end returns, takes over what the message carries.
 
 ghost use Rattle.std.specs.Prelude.{◌≡◌, ◌++◌, true, false, IfOk, IfSome, OnOk, MatchBool, MatchOption};
 ghost use Rattle.std.specs.Option.{option_map};
@@ -30,10 +30,9 @@ use canvas_task::{Fault, ListOf, Memory, Outcome, TaskNo};
 use std::alloc::{AllocError, Global};
 use std::sync::Arc;
 
-/// What follows the end of a message's task, as `after` says, where the message isn't needed
-/// any more: the task that follows it on its line, or the part that its end returns, takes over
-/// what it carries, and no copy is made of that. The message is given up, also where memory is
-/// refused.
+/// Returns what follows the end of a message's task, like `after`, but consumes the message, also
+/// if an allocation fails. The next task of its line, the group or chord that follows, or the part
+/// that its end returns, takes over what the message carries, without a clone.
 pub fn into_todo(alloc: Global, message: Message, outcome: &Outcome) -> Result<Todo, Memory>
     requires { IsInRange outcome.now }
     ensures { IfOk result (λ todo. todo_view todo ≡ after message outcome.now) }
@@ -54,14 +53,14 @@ fn given_up(alloc: Global, message: Message, outcome: &Outcome) -> Result<Todo, 
     behind(alloc, rest, texts, task, outcome, messages)
 }
 
-/// Whether a task comes first on a line.
+/// Returns whether a task comes first on a line.
 pub(super) fn begins_with_task(line: &FrozenLine) -> bool
     ensures { result ≡ begins_with_task (p_line_view line.now) }
 {
     !line.tasks.get().is_empty()
 }
 
-/// Whether nothing comes next on a line.
+/// Returns whether nothing comes next on a line.
 pub(super) fn is_last(rest: &Option<FrozenLine>) -> bool
     ensures { MatchBool result (rest_seen rest.now ≡ p_stop) (rest_seen rest.now ≡ p_stop → ⊥) }
 {
@@ -71,7 +70,7 @@ pub(super) fn is_last(rest: &Option<FrozenLine>) -> bool
     }
 }
 
-/// The task that comes next on a line, and what follows it.
+/// Takes the next task off a line, and returns it and the rest.
 pub(super) fn take_next(line: FrozenLine) -> Option<(FrozenTask, Option<FrozenLine>)>
     ensures { MatchOption result (begins_with_task (p_line_view line) ≡ false)
         (λ p. p_line_view line ≡ p_step (p_task_view p.0) (rest_seen p.1)) }
@@ -89,7 +88,7 @@ pub(super) fn take_next(line: FrozenLine) -> Option<(FrozenTask, Option<FrozenLi
     Some((next, Some(FrozenLine { tasks, tail })))
 }
 
-/// What follows as a line, one of nothing where nothing follows.
+/// Returns the rest as a line, which is empty if nothing follows.
 fn line_of(alloc: Global, rest: Option<FrozenLine>) -> FrozenLine
     ensures { p_line_view result ≡ rest_seen rest }
 {
@@ -102,7 +101,7 @@ fn line_of(alloc: Global, rest: Option<FrozenLine>) -> FrozenLine
     }
 }
 
-/// What follows the task of a message, and what is known of that.
+/// Returns the line that follows the task of a message, and what is known of its texts.
 fn line_left(alloc: Global, message: Message) -> (FrozenLine, Texts)
     ensures line { p_line_view result.0 ≡ message.rest }
     ensures texts { AreTexts result.1 (place_of message.own) message.rest }
@@ -111,7 +110,7 @@ fn line_left(alloc: Global, message: Message) -> (FrozenLine, Texts)
     (line_of(alloc, rest), texts)
 }
 
-/// The text of a line, when its next task is taken: its front, up to an earlier end.
+/// Returns the text of a line after its next task is taken, which is a prefix of the line's text.
 fn text_behind(text: LineText) -> LineText
     ensures { (t : PTask) (rest : PLine)
         → IsLineText text (p_step t rest) → IsLineText result rest }
@@ -122,7 +121,7 @@ fn text_behind(text: LineText) -> LineText
     LineText { text, ends }
 }
 
-/// The text of what the place at the end of a line carries, where it is known.
+/// Returns the text of what the place at the end of a line carries, if it is known.
 fn carried_by(texts: Texts) -> Option<Arc<CarriedText>>
     ensures { (own : PPlace) (rest : PLine) → AreTexts texts own rest
         → IfSome result (λ t. SaysCarried t.value (place_behind own rest)) }
@@ -135,7 +134,7 @@ fn carried_by(texts: Texts) -> Option<Arc<CarriedText>>
     carried
 }
 
-/// What is known of a line, when its next task is taken.
+/// Returns what is known of a line's texts after its next task is taken.
 fn texts_behind(texts: Texts) -> Texts
     ensures { (own : PPlace) (t : PTask) (rest : PLine) → AreTexts texts own (p_step t rest)
         → AreTexts result (place_of t) rest }
@@ -160,7 +159,7 @@ fn texts_behind(texts: Texts) -> Texts
     }
 }
 
-/// The message of the task that a line begins with, which takes over what is carried.
+/// Appends the message of the task that a line begins with. It takes over what is carried.
 fn hand_on(
     alloc: Global,
     line: FrozenLine,
@@ -189,7 +188,7 @@ fn hand_on(
     }
 }
 
-/// The messages of what comes next on a line, put behind the others.
+/// Appends the messages that start the next element of the line.
 fn go_on(
     alloc: Global,
     line: FrozenLine,
@@ -214,8 +213,8 @@ fn go_on(
     start_whole(alloc, line, input, parent, carried_by(texts), messages)
 }
 
-/// What the end of a task makes a worker do that a line follows, behind the messages of what it
-/// calls back.
+/// Returns what a worker has to do after a task that a line follows. `messages` are those of its
+/// callbacks.
 fn behind(
     alloc: Global,
     rest: FrozenLine,
@@ -248,7 +247,7 @@ fn behind(
     }
 }
 
-/// The same where the task failed.
+/// Returns what a worker has to do after a failed task that a line follows.
 fn skipped_behind(
     alloc: Global,
     rest: &FrozenLine,
@@ -269,8 +268,8 @@ fn skipped_behind(
     todo_of(stores, messages, part)
 }
 
-/// The part that the task of a place returns, which takes over what the place carries, and the text
-/// of that.
+/// Returns the part that a task with this place returns. It takes over what the place carries, and
+/// the text of that.
 fn part_at(place: Place, task: TaskNo, text: Option<Arc<CarriedText>>) -> Option<PartCall>
     requires place { place_stands (place_view place) ≡ true }
     requires text { IfSome text (λ t. SaysCarried t.value (place_view place)) }
@@ -288,7 +287,7 @@ fn part_at(place: Place, task: TaskNo, text: Option<Arc<CarriedText>>) -> Option
     }
 }
 
-/// The same where there may be no place.
+/// Like `part_at`, but `place` may be None.
 fn take_part(place: Option<Place>, task: TaskNo, texts: Texts) -> Option<PartCall>
     requires place { place_stands (place_seen place) ≡ true }
     requires texts { AreTexts texts (place_seen place) p_stop }
@@ -300,7 +299,7 @@ fn take_part(place: Option<Place>, task: TaskNo, texts: Texts) -> Option<PartCal
     }
 }
 
-/// The part that a message's task returns which is the last of its line.
+/// Returns the part that a message's task returns if it is the last of its line.
 fn part_left(message: Message) -> Option<PartCall>
     requires { message.rest ≡ p_stop }
     ensures { option_map part_view result

@@ -1,4 +1,5 @@
-//! Stores and messages in the order of their tasks' numbers.
+//! Sorting stores and messages by the numbers of their tasks, in a stable way. A line that is
+//! numbered in file order is walked in that order, so usually nothing has to be moved.
 
 ghost use Rattle.std.specs.Prelude.{◌≡◌, IsTrue, OnOk};
 ghost use Rattle.canvas_envelope.specs.Content.{number_of};
@@ -20,7 +21,7 @@ fn messages_rise(messages: &[Message]) -> bool
     messages.is_sorted_by_key(|message| message.task.get())
 }
 
-/// Sorts stores, unless they stand in order, as those of a plan's own messages do.
+/// Sorts stores, unless they are already in order, as those of a plan's own messages are.
 pub(super) fn sort_stores(stores: &mut Vec<(TaskNo, Outcome)>) -> Result<(), AllocError>
     ensures { OnOk result (stores.new.items ≡ in_order (λ e. e.0) stores.old.items) }
 {
@@ -30,7 +31,7 @@ pub(super) fn sort_stores(stores: &mut Vec<(TaskNo, Outcome)>) -> Result<(), All
     stores.sort_by_key(|store| store.0.get())
 }
 
-/// The same of messages.
+/// Sorts messages, unless they are already in order.
 pub(super) fn sort_messages(messages: &mut Vec<Message>) -> Result<(), AllocError>
     ensures { OnOk result
         (messages.new.items ≡ in_order (λ m. number_of m.own) messages.old.items) }

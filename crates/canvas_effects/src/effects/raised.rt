@@ -21,7 +21,7 @@ use canvas_rewrite::{FrozenEnd, FrozenLine, FrozenTask};
 use canvas_task::{Fault, Outcome, TaskNo, Why};
 use std::alloc::{AllocError, Global};
 
-/// Where an exception is raised in a line: the one that its last task fails with.
+/// Returns the exception with which the last task of a line fails, if one is raised in the line.
 #[cycle(fault)]
 fn fault_at_end(line: &FrozenLine, fault: &Fault) -> Fault
     requires { is_walkable (p_line_view line.now) ≡ true }
@@ -59,8 +59,8 @@ pub(super) fn why_of(fault: &Fault) -> Why
     }
 }
 
-/// The exception that is raised behind a header in whose members one is raised: it names the first
-/// member's last task.
+/// Returns the exception that is raised in the body after a header in whose members one is raised:
+/// it names the first member's last task.
 #[cycle(fault)]
 fn fault_behind(members: &[FrozenLine], fault: &Fault) -> Fault
     requires { members_ok (p_lines_of (map p_line_view members.now)) ≡ true }
@@ -104,8 +104,8 @@ fn raise_task(
     )
 }
 
-/// The members of a group or chord in which an exception is raised. It is a function for its
-/// contract's sake: each of them is whole.
+/// Borrows the members of a group or chord in which an exception is raised. It is a function for
+/// its contract: each of them is whole.
 fn whole_members(end: &FrozenEnd) -> &[FrozenLine]
     requires { is_whole (p_end_view end.now) ≡ true }
     ensures value { result.now ≡ (out-FrozenEnd end.now).members }
@@ -114,7 +114,7 @@ fn whole_members(end: &FrozenEnd) -> &[FrozenLine]
     end.members.get()
 }
 
-/// Raises an exception in a line: its first task fails with it as its own, and the others are
+/// Raises an exception in a line: its first task fails with it as if by itself, and the others are
 /// skipped.
 #[cycle(raise)]
 pub(super) fn raise_line(

@@ -1,4 +1,4 @@
-//! Lines into which an exception flows that fails each task.
+//! Lines that an exception skips: each task fails with it.
 
 ghost use Rattle.std.specs.Prelude.{◌≡◌, ◌++◌, OnOk, map};
 ghost use Rattle.canvas_rewrite.specs.FrozenView.{p_steps, p_task_view, p_line_view, p_end_view};
@@ -22,7 +22,7 @@ fn skip_tasks(
     Ok(())
 }
 
-/// The tasks of a line, put behind the others.
+/// Appends the stores of the tasks of a line.
 #[cycle(skip)]
 pub(super) fn skip_line(
     line: &FrozenLine,
@@ -35,7 +35,7 @@ pub(super) fn skip_line(
     skip_rest(&line.tail, line.tasks.get(), fault, stores)
 }
 
-/// The same of the line of some tasks and what they end in.
+/// Appends the stores of the line of some tasks and an end.
 #[cycle(skip)]
 pub(super) fn skip_rest(
     tail: &Option<Box<FrozenEnd>>,

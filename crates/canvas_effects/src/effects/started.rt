@@ -1,5 +1,7 @@
-//! Lines that start, and are given up: their tasks become messages, and none is copied. Only a task
-//! that is all of its line can start as a copy, where the line is lent.
+//! Lines that start. They are consumed, and their tasks become messages without being cloned. If a
+//! line is only borrowed, a clone of it starts; if it is a single task, only that is cloned. The
+//! place of the line's end is passed along, and is written on the last task when that is published
+//! or carried, so frozen groups contain no places.
 
 ghost use Rattle.std.specs.Prelude.{◌≡◌, ◌++◌, true, false, None, IfOk, IfSome, MatchOption, OnOk, map};
 ghost use Rattle.canvas_rewrite.specs.FrozenView.{p_task_view, p_line_view, p_end_view, place_or};
@@ -26,7 +28,7 @@ use canvas_task::{GroupNo, ListOf, TaskNo};
 use std::alloc::{AllocError, Global};
 use std::sync::Arc;
 
-/// The message of a line's first task, where the line's end goes to the destination.
+/// Makes the message of a line's first task; the line's end goes to the destination.
 fn first_message(
     alloc: Global,
     first: FrozenTask,
@@ -51,8 +53,8 @@ fn first_message(
     message_from(alloc, first, input, parent, rest, texts)
 }
 
-/// The message of a copy of a task that is all of its line, from nothing, where the line's end goes
-/// to the destination.
+/// Makes the message of a clone of a line's only task, without input; the line's end goes to the
+/// destination.
 pub(super) fn only_message(
     alloc: Global,
     task: &FrozenTask,
@@ -67,8 +69,8 @@ pub(super) fn only_message(
     first_message(alloc, task, None, place, &Input::Nothing, &None)
 }
 
-/// Where the members of a chord end whose whole goes to the place: what they carry is written once
-/// for all of them.
+/// Returns the place of the ends of a chord's members; the end of the whole goes to the given
+/// place. What the members carry is written once for all of them.
 pub(super) fn header_place(
     alloc: Global,
     group: GroupNo,
@@ -90,7 +92,7 @@ pub(super) fn header_place(
     Destination::written(alloc, place, &text)
 }
 
-/// Where the members of a group end.
+/// Returns the place of the ends of a group's members.
 pub(super) fn group_place(alloc: Global, group: GroupNo) -> Result<Destination, AllocError>
     ensures { IfOk result (λ d. d ≡ p_group group) }
 {
@@ -98,7 +100,7 @@ pub(super) fn group_place(alloc: Global, group: GroupNo) -> Result<Destination, 
     Destination::written(alloc, place, &None)
 }
 
-/// The message of a line that begins with a task, put behind the others.
+/// Appends the message of a line that begins with a task.
 fn start_task(
     alloc: Global,
     line: FrozenLine,
@@ -124,7 +126,7 @@ fn start_task(
     }
 }
 
-/// What a line ends in that begins with no task.
+/// Returns the end of a line that doesn't begin with a task.
 fn take_end(line: FrozenLine) -> Option<FrozenEnd>
     requires { begins_with_task (p_line_view line) ≡ false }
     ensures { MatchOption result (p_line_view line ≡ p_stop)
@@ -137,7 +139,7 @@ fn take_end(line: FrozenLine) -> Option<FrozenEnd>
     }
 }
 
-/// The messages that a line begins with whose end goes to the place, put behind the others.
+/// Appends the messages with which a line begins; its end goes to the place.
 #[cycle(start)]
 pub(super) fn start_line(
     alloc: Global,
@@ -163,7 +165,8 @@ pub(super) fn start_line(
     }
 }
 
-/// The same of a group or chord. An empty header starts its body at once.
+/// Appends the messages with which a group or chord begins. An empty header starts its body at
+/// once.
 #[cycle(start)]
 fn start_end(
     alloc: Global,
@@ -202,7 +205,7 @@ fn start_end(
     }
 }
 
-/// The same of lines whose ends go to one place.
+/// Appends the messages with which lines begin whose ends go to the same place.
 #[cycle(start)]
 fn start_members(
     alloc: Global,
@@ -228,8 +231,8 @@ fn start_members(
     Ok(())
 }
 
-/// Where the end of a line goes, as its last task says. `text` is that of what the end carries,
-/// where it is known.
+/// Returns the place where the end of a line goes, which its last task has. `text` is the text of
+/// what the end carries, if it is known.
 fn end_of(
     line: &FrozenLine,
     text: Option<Arc<CarriedText>>,
@@ -243,8 +246,7 @@ fn end_of(
     }
 }
 
-/// The messages that a line begins with whose end goes where its last task says, put behind the
-/// others.
+/// Appends the messages with which a line begins; its end goes to the place of its last task.
 pub(super) fn start_whole(
     alloc: Global,
     line: FrozenLine,

@@ -21,7 +21,7 @@ use canvas_task::{Arg, ListOf, TaskNo};
 use std::alloc::{AllocError, Global};
 use std::sync::Arc;
 
-/// Arguments with an input in front, unless their task is immutable.
+/// Returns the arguments with an input in front, unless the task is immutable.
 fn put_input(
     alloc: Global,
     args: ListOf<Arg>,
@@ -39,7 +39,9 @@ fn put_input(
     Ok(ListOf::of(args))
 }
 
-/// The task whose end publishes a message: the failed task that is the input, or another.
+/// Returns the task whose end publishes a message: the failed task that is the input, or the given
+/// one. A body after an empty header gets the task whose end starts it, and a body that a completed
+/// header starts gets none.
 fn parent_of(input: &Input, parent: &Option<TaskNo>) -> Option<TaskNo>
     ensures { result ≡ parent_for parent.now (input_seen input.now) }
 {
@@ -49,7 +51,7 @@ fn parent_of(input: &Input, parent: &Option<TaskNo>) -> Option<TaskNo>
     }
 }
 
-/// The message of a task that is run, which takes over what the task carries.
+/// Makes the message of a task. It takes over what the task carries.
 pub(super) fn message_from(
     alloc: Global,
     task: FrozenTask,
@@ -89,7 +91,7 @@ pub(super) fn message_from(
     })
 }
 
-/// The message of a copy of a task that nothing follows.
+/// Makes the message of a clone of a task that nothing follows.
 fn message_of(
     alloc: Global,
     task: &FrozenTask,
@@ -106,7 +108,7 @@ fn message_of(
     message_from(alloc, task, input, parent, None, Texts::none())
 }
 
-/// The messages of links or error callbacks, put behind the others.
+/// Appends the messages of links or error callbacks.
 pub(super) fn call_back(
     alloc: Global,
     tasks: &[FrozenTask],
@@ -128,7 +130,7 @@ pub(super) fn call_back(
     Ok(())
 }
 
-/// What is written of what a message carries to the end of its line.
+/// Makes the texts of a message, of which only that of what the end of its line carries is known.
 pub(super) fn texts_of(carried: Option<Arc<CarriedText>>) -> Texts
     ensures { (place : PPlace) (rest : PLine)
         → IfSome carried (λ t. SaysCarried t.value (place_behind place rest))

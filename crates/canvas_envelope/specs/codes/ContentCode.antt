@@ -1,4 +1,4 @@
--- How what a message says is stored, so that a type may have it as its value.
+-- The encoding of a message's contents, so that a type may have them as its value.
 use Rattle.std.specs.Prelude.{◌≡◌, ℕ, zero, suc, false, [], Option, ◌⊎◌, refl}
 use Rattle.std.proofs.Common.{inl, inr, ap, ap₂, ◌∙◌}
 use Rattle.std.specs.Coded.{Coded, code_by, coded_ℕ, coded_option, coded×, coded⊎}
@@ -15,7 +15,7 @@ Label = (ℕ × Call) ⊎ (ℕ ⊎ (ℕ × ℕ))
 abbrev label_code : Coded Label
 label_code = coded⊎ (coded× coded_ℕ call_code) (coded⊎ coded_ℕ (coded× coded_ℕ coded_ℕ))
 
--- between two parts that no number goes with
+-- the label of two parts without a number
 abbrev pair : Label
 pair = inr (inl 0)
 
@@ -48,7 +48,7 @@ abbrev mutual
 abbrev nothing_called : Call
 nothing_called = record { name = []; args = []; kwargs = []; immutable = false }
 
--- what stands for no task
+-- the value for codes of no task
 abbrev no_task : PTask
 no_task = p_task 0 nothing_called no_p_tasks no_p_tasks p_nowhere
 

@@ -1,4 +1,4 @@
--- The message that a letter keeps, however it is held.
+-- The message that a letter keeps, in any form.
 use Rattle.std.specs.Prelude.{Option, Some, None}
 use Rattle.canvas_envelope.specs.Content.{Content}
 use Rattle.canvas_envelope.specs.declared.kept.Kept.{Kept}

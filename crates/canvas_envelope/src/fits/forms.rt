@@ -1,4 +1,4 @@
-//! Whether numbers, names and places are in order.
+//! Checks of numbers, names and places.
 
 ghost use Rattle.std.specs.Prelude.{◌≡◌, map, false, nat_le};
 ghost use Rattle.canvas_task.specs.Entries.{named};
@@ -13,15 +13,15 @@ use canvas_task::{Arg, GroupNo, TaskNo, name_ok};
 use canvas_values::{args_fit, kwargs_fit};
 use std::collections::BTreeMap;
 
-/// Always true, since such a number is from 1. The rule in the contract is on any number, so it is
-/// tested here.
+/// Returns true, since the number of a task is at least 1. The rule in the contract is about any
+/// number, so this checks it.
 pub(super) fn is_task(task: TaskNo) -> bool
     ensures { result ≡ is_task_number task }
 {
     task.get() > 0
 }
 
-/// The same of a group or chord: always true.
+/// Returns true, since the number of a group or chord is at least 1.
 fn is_group(group: GroupNo) -> bool
     ensures { result ≡ is_task_number group }
 {
@@ -40,7 +40,7 @@ fn is_header(members: &[FrozenLine]) -> bool
     members.len() <= MOST_MEMBERS as usize
 }
 
-/// A call's name, its numbers, and the order of its keyword arguments.
+/// Returns whether a call's name and numbers are allowed, and its keyword arguments ordered.
 pub(super) fn is_call(name: &str, args: &[Arg], kwargs: &BTreeMap<String, Arg>) -> bool
     ensures { result
         ≡ call_ok (record {
@@ -64,7 +64,7 @@ fn task_fits(task: &FrozenTask, last: bool) -> bool
         && place_fits(&task.place, last)
 }
 
-/// Tasks of which none may have a place.
+/// Returns whether tasks are allowed, none with a place.
 #[cycle(tasks)]
 pub(super) fn tasks_fit(tasks: &[FrozenTask]) -> bool
     ensures { result ≡ tasks_ok (p_tasks_of (map p_task_view tasks.now)) }
@@ -94,7 +94,8 @@ pub(super) fn place_fits(place: &Option<Place>, last: bool) -> bool
     }
 }
 
-/// A line of at least one element; `last` says whether its end may have a place.
+/// Returns whether a line has an element and is allowed; `last` says whether its end may have a
+/// place.
 #[cycle(tasks)]
 pub(super) fn line_fits(line: &FrozenLine, last: bool) -> bool
     ensures { result ≡ line_ok last (p_line_view line.now) }
@@ -124,7 +125,7 @@ fn end_fits(end: &FrozenEnd, last: bool) -> bool
     }
 }
 
-/// Lines of members, of which none has a place or ends in a group.
+/// Returns whether members' lines are allowed, none with a place or ending in a group.
 #[cycle(tasks)]
 fn members_fit(lines: &[FrozenLine]) -> bool
     ensures { result ≡ members_ok (p_lines_of (map p_line_view lines.now)) }

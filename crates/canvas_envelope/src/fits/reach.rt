@@ -1,4 +1,4 @@
-//! How deeply signatures stand in each other, past the limit only that it is past.
+//! The depth to which signatures are nested. Beyond the limit it is only known to be greater.
 
 ghost use Rattle.std.specs.Prelude.{◌≡◌, ◌≤◌, max, map};
 ghost use Rattle.canvas_values.specs.steps.LineReach.{capped, above};
@@ -10,14 +10,14 @@ ghost use Rattle.canvas_envelope.specs.MessageView.{place_seen};
 use canvas_rewrite::{FrozenEnd, FrozenLine, FrozenTask, Place};
 use canvas_semantics::MOST_REACH;
 
-/// A level more.
+/// Adds a level to a reach, up to one more than the limit.
 pub(super) fn above(reach: u32) -> u32
     ensures { result ≡ above reach }
 {
     reach.min(MOST_REACH) + 1
 }
 
-/// A task that carries what has reach `carried`.
+/// Returns the reach of a task that also carries something of reach `carried`.
 #[cycle(tasks)]
 fn task_reach(task: &FrozenTask, carried: u32) -> u32
     ensures { result ≡ capped (task_reach carried (p_task_view task.now)) }
@@ -26,7 +26,7 @@ fn task_reach(task: &FrozenTask, carried: u32) -> u32
     above(callbacks.max(place_reach(&task.place).max(carried)))
 }
 
-/// The greatest of tasks that carry nothing.
+/// Returns the greatest reach of tasks that carry nothing.
 #[cycle(tasks)]
 pub(super) fn tasks_reach(tasks: &[FrozenTask]) -> u32
     ensures { result ≡ capped (tasks_reach (p_tasks_of (map p_task_view tasks.now))) }
@@ -51,7 +51,7 @@ pub(super) fn place_reach(place: &Option<Place>) -> u32
     }
 }
 
-/// Whether the line has more than one element.
+/// Returns whether the line has more than one element.
 fn is_longer(line: &FrozenLine) -> bool
     ensures { result ≡ is_longer (p_line_view line.now) }
 {
@@ -61,7 +61,7 @@ fn is_longer(line: &FrozenLine) -> bool
     }
 }
 
-/// The greatest of a line's elements.
+/// Returns the greatest reach of a line's elements.
 #[cycle(tasks)]
 pub(super) fn greatest(line: &FrozenLine, carried: u32) -> u32
     ensures { result ≡ capped (greatest_reach carried (p_line_view line.now)) }
@@ -96,7 +96,8 @@ fn end_reach(end: &FrozenEnd, carried: u32) -> u32
     }
 }
 
-/// The greatest of members' lines whose last tasks carry what has reach `carried`.
+/// Returns the greatest reach of members' lines whose last tasks carry something of reach
+/// `carried`.
 #[cycle(tasks)]
 fn members_reach(lines: &[FrozenLine], carried: u32) -> u32
     ensures { result ≡ capped (members_reach carried (p_lines_of (map p_line_view lines.now))) }

@@ -9,7 +9,7 @@ use Rattle.canvas_rewrite.specs.FrozenView.{end_of}
 use Rattle.canvas_rewrite.specs.declared.line.LineEnd.{LineEnd}
 use Rattle.canvas_rewrite.specs.declared.growing.Growing.{Growing}
 
--- tasks, the last of them first, in front of further elements
+-- tasks, the last of them first, before further elements
 abbrev pub grown : List TaskSig → Trees → Trees
 grown [] after = after
 grown (t ∷ ts) after = grown ts (and_tree (one (task_view t)) after)

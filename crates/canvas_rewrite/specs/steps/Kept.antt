@@ -1,4 +1,4 @@
--- What a plan keeps beside its line: all of it is said by the line.
+-- The tables that a plan keeps in addition to its line. The line determines all of them.
 use Rattle.std.specs.Prelude.{◌≡◌, ℕ, Bool, List}
 use Rattle.canvas_semantics.specs.Line.{GroupEntry, count_line, line_groups, group_entries, ends_of, in_group, names}
 use Rattle.canvas_semantics.specs.PlacedLine.{bare}

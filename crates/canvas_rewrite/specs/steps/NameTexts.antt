@@ -1,4 +1,4 @@
--- Names whose texts are kept once where equal ones follow each other.
+-- Names of which equal ones in a row share one text.
 use Rattle.std.specs.Prelude.{◌≡◌, ◌<◌, ◌-◌, ◌++◌, ℕ, List, [], length, map, get_or}
 
 -- the texts at these indices
@@ -9,6 +9,6 @@ texts_at texts places = map (λ i. get_or texts i []) places
 abbrev pub EndsIn : (texts : List (List ℕ)) → (name : List ℕ) → Type 0
 EndsIn texts name = (0 < length texts) × (get_or texts (length texts - 1) [] ≡ name)
 
--- these texts, and perhaps more
+-- the old texts, and perhaps more
 abbrev pub Extends : (old new : List (List ℕ)) → Type 0
 Extends old new = (more : List (List ℕ)) × (new ≡ old ++ more)

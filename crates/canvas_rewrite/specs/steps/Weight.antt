@@ -1,4 +1,4 @@
--- How many signatures stand in a tree: what a walk that takes it apart has left to do.
+-- The number of signatures in a tree, which bounds a walk that takes it apart.
 use Rattle.std.specs.Prelude.{ℕ, ◌+◌, List, [], ◌∷◌}
 use Rattle.canvas_semantics.specs.Tree.{Tree, one, chain, group, chord, Trees, no_trees, and_tree}
 use Rattle.canvas_values.specs.declared.node.Node.{Node}

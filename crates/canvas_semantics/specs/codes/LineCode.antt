@@ -1,4 +1,4 @@
--- How lines are stored, so that a type may have them as its value: as their trees.
+-- The encoding of lines, as their trees, so that a type may have lines as its value.
 use Rattle.std.specs.Prelude.{◌≡◌, refl}
 use Rattle.std.proofs.Common.{ap, ap₂}
 use Rattle.std.specs.Coded.{Coded, code_by}
@@ -6,7 +6,7 @@ use Rattle.canvas_semantics.specs.Tree.{Tree, one, chain, group, chord, Trees, n
 use Rattle.canvas_semantics.specs.codes.TreeCode.{tree_code}
 use Rattle.canvas_semantics.specs.Line.{Line, stop, step, group_end, chord_end, Lines, no_lines, and_line, elements_of, members_of, tree_of}
 
--- the line of a tree that is a line's
+-- the line of a line's tree
 abbrev mutual
   line_from : Tree → Line
   line_from (chain ts) = elements_from ts

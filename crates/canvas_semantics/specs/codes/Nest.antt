@@ -1,5 +1,5 @@
--- Data with two parts at each place, and how it is stored: data that holds itself can be written as
--- such, and so be stored.
+-- Data with two parts at each place, and its encoding: recursive data can be written as such, and
+-- so be encoded.
 use Rattle.std.specs.Prelude.{◌≡◌, List, [], ◌∷◌, Option, Some, None, refl}
 use Rattle.std.proofs.Common.{ap, ◌∙◌}
 use Rattle.std.specs.Coded.{Coded, code_by, coded_list, coded_option}
@@ -9,7 +9,7 @@ pub data Nest (L : Type 0) : Type 0 where
   branch : L → Nest L → Nest L → Nest L
 
 module _ {L : Type 0} where
-  -- each branch behind its two parts, before what follows
+  -- each branch after its two parts, before the rest
   abbrev spelled : Nest L → List (Option L) → List (Option L)
   spelled leaf more = None ∷ more
   spelled (branch l a b) more = spelled a (spelled b (Some l ∷ more))

@@ -1,4 +1,4 @@
--- How trees are stored, so that a type may have them as its value.
+-- The encoding of trees, so that a type may have trees as its value.
 use Rattle.std.specs.Prelude.{◌≡◌, ℕ, ℤ, Bool, true, false, List, [], ◌⊎◌, refl}
 use Rattle.std.proofs.Common.{inl, inr, ap, ap₂}
 use Rattle.std.specs.Coded.{Coded, code_by, coded_ℕ, coded_ℤ, coded_bool, coded_list, coded×, coded⊎}
@@ -44,15 +44,15 @@ call_code =
 
 -- ---- tasks and trees, as data with two parts at each place
 
--- a task's number and call; a group's; a chord's; and a lone task and a chain, by whether it is a
--- chain
+-- a task's number and call; a group's number; a chord's number; and for a single task and a chain,
+-- whether it is a chain
 abbrev Label : Type 0
 Label = (ℕ × Call) ⊎ (ℕ ⊎ (ℕ ⊎ Bool))
 
 abbrev label_code : Coded Label
 label_code = coded⊎ (coded× coded_ℕ call_code) (coded⊎ coded_ℕ (coded⊎ coded_ℕ coded_bool))
 
--- between a list's first element and the rest
+-- the label of a list's first element and its rest
 abbrev pair : Label
 pair = inr (inr (inr false))
 
@@ -75,7 +75,7 @@ abbrev mutual
   trees_to no_trees = leaf
   trees_to (and_tree t ts) = branch pair (tree_to t) (trees_to ts)
 
--- what stands for no task, and for no tree
+-- the values for codes of no task, and of no tree
 abbrev no_task : Task
 no_task = task 0 (record { name = []; args = []; kwargs = []; immutable = false }) no_tasks no_tasks
 

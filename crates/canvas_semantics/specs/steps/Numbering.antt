@@ -1,4 +1,4 @@
--- Lists of tasks and of lines, numbered one after another, with no place in them.
+-- Lists of tasks and of lines, numbered one after another, without places.
 use Rattle.std.specs.Prelude.{ℕ, ◌+◌, ◌≤◌, List, [], ◌∷◌, ◌++◌}
 use Rattle.canvas_semantics.specs.Tree.{Task, count_task, number_task}
 use Rattle.canvas_semantics.specs.Line.{Line, count_line, line_groups, number_line, ends_of, group_entries, GroupEntry, task_names, names}
@@ -8,7 +8,7 @@ use Rattle.canvas_semantics.specs.PlacedLine.{PTask, bare_task, PLine, bare}
 abbrev pub greatest_number : ℕ
 greatest_number = 4294967295
 
--- tasks numbered one after another from a number on, and how many there are
+-- tasks numbered one after another from a number, and their count
 abbrev pub tasks_from : ℕ → List Task → List PTask
 tasks_from k [] = []
 tasks_from k (t ∷ ts) = bare_task (number_task k t) ∷ tasks_from (k + count_task t) ts
@@ -17,7 +17,7 @@ abbrev pub tasks_in : List Task → ℕ
 tasks_in [] = 0
 tasks_in (t ∷ ts) = count_task t + tasks_in ts
 
--- the same of lines, with how many groups and chords there are
+-- lines numbered one after another, with the counts of their tasks and of their groups and chords
 abbrev pub lines_from : ℕ → ℕ → List Line → List PLine
 lines_from k g [] = []
 lines_from k g (l ∷ ls) =
@@ -31,11 +31,11 @@ abbrev pub lines_group_count : List Line → ℕ
 lines_group_count [] = 0
 lines_group_count (l ∷ ls) = line_groups l + lines_group_count ls
 
--- n tasks and m groups can be numbered from k and g on
+-- n tasks and m groups can be numbered from k and g
 abbrev pub HasRoom : ℕ → ℕ → ℕ → ℕ → Type 0
 HasRoom k g n m = (1 ≤ k) × (1 ≤ g) × (k + n ≤ greatest_number) × (g + m ≤ greatest_number)
 
--- what the lines of a list end in, their groups and chords, and the names of tasks and lines, one
+-- the ends of the lines of a list, their groups and chords, and the names of tasks and lines, one
 -- after another
 abbrev pub lines_ends : List Line → List ℕ
 lines_ends [] = []

@@ -1,5 +1,5 @@
--- Values that are read again as they were written: whole numbers of 64 bits, and members in the
--- order of their names.
+-- Values that read back as they were written: whole numbers of 64 bits, and members in the order of
+-- their names.
 use Rattle.std.specs.Prelude.{◌≡◌, ℕ, ◌<◌, ◌^◌, pos, negsuc, List}
 use Rattle.std.specs.Ordering.{nat_cmp}
 use Rattle.std.specs.declared.cmp.Ordering.TheVariants.{Greater}
@@ -17,7 +17,7 @@ abbrev pub IsAbove : List ℕ → Members → Type 0
 IsAbove k no_members = Unit {0}
 IsAbove k (member l d ms) = (slice_cmp nat_cmp k l ≡ Greater) × IsAbove k ms
 
--- a member behind those before
+-- appends a member to the others
 abbrev pub behind_members : Members → List ℕ → Data → Members
 behind_members no_members k d = member k d no_members
 behind_members (member l e ms) k d = member l e (behind_members ms k d)
@@ -35,7 +35,7 @@ abbrev mutual
   AreClean no_items = Unit {0}
   AreClean (item d ds) = IsClean d × AreClean ds
 
-  -- behind those before, in their order
+  -- after the earlier members, in their order
   pub MembersClean : Members → Members → Type 0
   MembersClean before no_members = Unit {0}
   MembersClean before (member k d ms) =

@@ -1,10 +1,10 @@
--- The members of a signature, as they are looked up once for all that is read of them.
+-- The members of a signature, each looked up once for everything that is read of them.
 use Rattle.std.specs.Prelude.{◌≡◌, codes}
 use Rattle.canvas_values.specs.Fields.{field, option}
 use Rattle.canvas_sig.specs.Datum.{view, value_at}
 use Rattle.canvas_sig.specs.declared.members.Members.{Members}
 
--- what was found of each is what the value has by that name, null where it has nothing
+-- each found member is the value's member of that name, null if there is none
 pub record AreFound (m : Members) : Type 0 where
   pub name_found : value_at m.task ≡ field (codes "task") (view m.value.now)
   pub kind_found : value_at m.subtask_type ≡ field (codes "subtask_type") (view m.value.now)

@@ -1,4 +1,4 @@
--- What may come next, as the reader of `json` has it.
+-- The places of reading, as in the reader of `json`.
 use Rattle.json.specs.declared.reader.Place as reader
 use Rattle.json.specs.declared.reader.Place.TheVariants as kit
 use Rattle.canvas_sig.specs.declared.place.Place.{Place}

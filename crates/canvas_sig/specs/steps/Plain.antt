@@ -1,4 +1,4 @@
--- Plain tokens of a text, and where reading goes on behind one.
+-- Plain tokens of a text, and the places where reading continues after one.
 use Rattle.std.specs.Prelude.{◌≡◌, ◌⊎◌, ℕ, List, [], ◌∷◌, ◌++◌, drop, true}
 use Rattle.json.specs.Token.{Token, end_object, end_array, key, number, boolean, null, bad}
 use Rattle.json.specs.Word.{head, ends_word}
@@ -7,16 +7,16 @@ use Rattle.json.specs.Align.{is_blank}
 use Rattle.canvas_sig.specs.declared.place.Place.{Place}
 use Rattle.canvas_sig.specs.declared.place.Place.TheVariants.{AfterValue}
 
--- no space stands before the next token
+-- no space comes before the next token
 abbrev pub IsTrimmed : List ℕ → Type 0
 IsTrimmed t = is_blank (class (head t)) ≡ true → t ≡ []
 
--- what stands here where a value was passed, and its comma where there was one
+-- the text after a value, and after its comma if there was one
 abbrev pub Ends : Place → List ℕ → Type 0
 Ends AfterValue t = (t ≡ []) ⊎ ((head t ≡ 93) ⊎ (head t ≡ 125))
 Ends p t = Unit {0}
 
--- reading goes on here
+-- reading continues here
 abbrev pub IsSettled : Place → List ℕ → Type 0
 IsSettled p t = Ends p t × IsTrimmed t
 
@@ -27,7 +27,7 @@ IsWord (boolean b) = Unit {0}
 IsWord null = Unit {0}
 IsWord t = ⊥
 
--- a value begins with it
+-- a value begins with this token
 abbrev pub BeginsValue : Token → Type 0
 BeginsValue end_object = ⊥
 BeginsValue end_array = ⊥
@@ -35,12 +35,12 @@ BeginsValue (key s) = ⊥
 BeginsValue bad = ⊥
 BeginsValue t = Unit {0}
 
--- the name, before what ends a word, is this token
+-- the name, before a byte that ends a word, is this token
 abbrev pub Spells : List ℕ → Token → Type 0
 Spells name k =
     (r : List ℕ) → ends_word r ≡ true → lex between (name ++ r) ≡ token k ∷ lex between r
 
--- a text with its quotes comes first, as far as the lexer passes over it, and then the rest
+-- a quoted text comes first, up to where the lexer has passed over it, and then the rest
 pub record IsQuoted (text quoted rest : List ℕ) : Type 0 where
   pub parts : text ≡ quoted ++ rest
   pub opens : head text ≡ 34

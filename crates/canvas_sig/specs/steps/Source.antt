@@ -1,4 +1,4 @@
--- The tokens that a source has still to give.
+-- The tokens that are still to come from a source.
 use Rattle.std.specs.Prelude.{◌≡◌, ◌∷◌, List, Option, Some, None, IfSome, MatchOption, unwrap_or}
 use Rattle.json.specs.Token.{Token}
 use Rattle.json.specs.Json.{after_end_array}
@@ -15,7 +15,7 @@ pub record IsSource (a : Inside) : Type 0 where
   pub settled : IsSettled a.place a.rest.now
   pub handed : IfSome a.reader (λ _. a.place ≡ Failed)
 
--- of the tokens `old`, one that closes no array comes first, or none where the first closes one
+-- the first of the tokens `old` is an item's, or None if it closes the array
 abbrev pub Item : List Token → Option Token → List Token → Type 0
 Item old r new =
     MatchOption r (after_end_array old ≡ Some new)

@@ -1,4 +1,4 @@
-//! One argument as a JSON value.
+//! Writing one argument as a JSON value.
 
 ghost use Rattle.std.specs.Prelude.{◌≡◌, IfOk, map, true};
 ghost use Rattle.serde_json.specs.View.{view};
@@ -20,8 +20,8 @@ fn number_values(alloc: Global, numbers: &[i64]) -> Result<Vec<Value>, Memory>
     Ok(values)
 }
 
-/// The JSON value that an argument is written as, which reads as the argument where its numbers are
-/// in range.
+/// Returns the JSON value of an argument. It reads back as the argument if its numbers are in
+/// range.
 pub fn write_arg(alloc: Global, arg: &Arg) -> Result<Value, Memory>
     ensures value { IfOk result (λ value. view value ≡ arg_wire arg.now) }
     ensures reads_back { IfOk result

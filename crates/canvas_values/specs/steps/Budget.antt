@@ -1,4 +1,4 @@
--- What is left of a number once n are taken from it, or none where it has fewer.
+-- The rest of a number after n are taken from it, or None if it is less than n.
 use Rattle.std.specs.Prelude.{◌≡◌, ℕ, ◌+◌, ◌<◌, Option, Some, None}
 
 abbrev pub LeavesOver : Option ℕ → ℕ → ℕ → Type 0

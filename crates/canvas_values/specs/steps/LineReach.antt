@@ -1,6 +1,6 @@
--- The reach of a normal line, reckoned without the line: what stands behind an element is known by
--- how many elements it has, up to two, and by the greatest of their reaches. Past the limit all
--- reaches are one more than it.
+-- The reach of a normal line, computed without the line: the rest of a line is represented by its
+-- number of elements, up to two, and by the greatest of their reaches. Every reach beyond the limit
+-- is one more than the limit.
 use Rattle.std.specs.Prelude.{ℕ, suc, ◌+◌, min, max}
 use Rattle.canvas_values.specs.declared.reach.LineReach.{LineReach}
 use Rattle.canvas_values.specs.declared.reach.LineReach.TheVariants.{Empty, One, More}
@@ -14,7 +14,7 @@ past = suc most_reach
 abbrev pub capped : ℕ → ℕ
 capped r = min r past
 
--- a level more
+-- one level more
 abbrev pub above : ℕ → ℕ
 above r = capped (1 + r)
 
@@ -33,11 +33,11 @@ reach_of_line Empty = 0
 reach_of_line (One r) = r
 reach_of_line (More r) = above r
 
--- a chord, by how its members' greatest reach follows from its body's, and by its body's
+-- a chord: its members' greatest reach is a function of its body's reach
 abbrev pub chord_reach : (ℕ → ℕ) → ℕ → LineReach
 chord_reach members body = One (above (max body (members body)))
 
--- a group is a chord where something follows it
+-- a group is a chord if something follows it
 abbrev pub group_reach : (ℕ → ℕ) → LineReach → LineReach
 group_reach members Empty = One (above (members 0))
 group_reach members (One r) = chord_reach members r
@@ -49,7 +49,7 @@ task_onto t (One r) c = More (max (sig_reach 0 t) r)
 task_onto t (More r) c = More (max (sig_reach 0 t) r)
 
 abbrev mutual
-  -- a node that a line follows, where the last task of all carries what has reach c
+  -- a node followed by a line; the last task of all carries something of reach c
   pub onto_reach : Tree → LineReach → ℕ → LineReach
   onto_reach (one t) after c = task_onto t after c
   onto_reach (chain ts) after c = all_onto_reach ts after c

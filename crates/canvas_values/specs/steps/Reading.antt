@@ -1,4 +1,4 @@
--- Reading step by step, as the code goes: the signature that a JSON value stands for, or its first
+-- Reading step by step, as the code does: the signature that a JSON value spells, or its first
 -- fault.
 use Rattle.std.specs.Prelude.{ℕ, zero, suc, true, false, if◌then◌else◌, List, Option, Some, None, Result, Ok, Err, codes, ℤ}
 use Rattle.std.specs.List.{list_all}
@@ -37,7 +37,7 @@ arg_steps (string s) = Ok (arg.Text s)
 arg_steps (array ds) = list_reading (items ds)
 arg_steps d = Err BadArgs
 
--- a task, by what reads its links and error callbacks
+-- a task, from the function that reads its links and error callbacks
 abbrev pub task_with : (Data → Result Task SigFault) → Data → Result Task SigFault
 task_with f d =
     in_turn arg_reading (listed (args d)) >>= λ args.
@@ -55,19 +55,18 @@ task_with f d =
 abbrev pub linked_with : (Data → Result Task SigFault) → Data → Result Task SigFault
 linked_with f d = unless (own_fault true d) (task_with f d)
 
--- A link or an error callback. The number bounds how deep signatures nest;
--- JSON that reads nests at most `max_depth` deep, so one more is enough, and the end isn't reached.
+-- Reads a link or an error callback. The number bounds how deep signatures nest; JSON that can be
+-- read nests at most `max_depth` deep, so one more is enough, and 0 isn't reached.
 abbrev pub task_reading : ℕ → Data → Result Task SigFault
 task_reading zero d = Err TooDeep
 task_reading (suc n) d = linked_with (task_reading n) d
 
--- the members of a header, which is a list, or one group signature
+-- the members of a header, which is a list or a single group signature
 abbrev pub header_reading : (Data → Result Tree SigFault) → Data → Result Trees SigFault
 header_reading f (array ds) = in_turn f (items ds) >>= λ ts. Ok (trees_of ts)
 header_reading f d = f d >>= λ t. Ok (members_in t)
 
--- a signature that stands for a primitive, by what reads links and by what reads the signatures in
--- it
+-- a signature of a kind, from the functions that read links and nested signatures
 abbrev pub tree_as : (Data → Result Task SigFault) → (Data → Result Tree SigFault)
     → Option Primitive → Data → Result Tree SigFault
 tree_as g f (Some kind.Chain) d = in_turn f (listed (tasks d)) >>= λ ts. Ok (chain (trees_of ts))
@@ -80,7 +79,7 @@ abbrev pub tree_with : (Data → Result Task SigFault) → (Data → Result Tree
     → Result Tree SigFault
 tree_with g f d = unless (own_fault false d) (tree_as g f (primitive_of (subtype d)) d)
 
--- a signature that is no link, to the same depth
+-- a signature that is not a link, to the same depth
 abbrev pub tree_reading : ℕ → Data → Result Tree SigFault
 tree_reading zero d = Err TooDeep
 tree_reading (suc n) d = tree_with (task_reading n) (tree_reading n) d

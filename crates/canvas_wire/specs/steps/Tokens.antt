@@ -1,4 +1,4 @@
--- The tokens of JSON that a signature is written as.
+-- The tokens of a signature's JSON.
 use Rattle.std.specs.Prelude.{◌≡◌, ℕ, Bool, false, List, [], ◌∷◌, ◌++◌, OnOk, Result, codes}
 use Rattle.json.specs.Token.{Token, begin_array, begin_object, end_object, key, string, boolean}
 use Rattle.json.specs.Tree.{json_tokens, items_tokens, members_tokens}
@@ -11,15 +11,15 @@ use Rattle.canvas_wire.specs.Writing.{tasks_wire}
 abbrev pub data_tokens : Data → List Token
 data_tokens d = json_tokens (outline d)
 
--- with the closing bracket
+-- the items of a list, up to the closing bracket
 abbrev pub rest_tokens : Items → List Token
 rest_tokens ds = items_tokens (items_outline ds)
 
--- with the closing brace
+-- the members of an object, up to the closing brace
 abbrev pub rest_members : Members → List Token
 rest_members ms = members_tokens (members_outline ms)
 
--- the tokens stand behind those before; what stood before the first stays
+-- the tokens come after the earlier ones; the text before the first token is unchanged
 abbrev pub Appends : {E : Type 0} → Result (Unit {0}) E → Written → Written → List Token → Type 0
 Appends r old new ts = OnOk r ((new.tokens ≡ old.tokens ++ ts) × (new.before ≡ old.before))
 
@@ -34,7 +34,7 @@ flag_tokens immutable = key (codes "immutable") ∷ boolean immutable ∷ []
 abbrev pub kwargs_tokens : Members → List Token
 kwargs_tokens kwargs = key (codes "kwargs") ∷ begin_object ∷ rest_members kwargs
 
--- with the brace after the keyword arguments
+-- a task up to the brace after its keyword arguments
 abbrev pub call_tokens : (args : Items) → Bool → (kwargs : Members) → List Token
 call_tokens args immutable kwargs =
     front_tokens args ++ (flag_tokens immutable ++ kwargs_tokens kwargs)
@@ -45,7 +45,7 @@ links_wire (task k call links errbacks) = tasks_wire links
 abbrev pub errbacks_wire : Task → Items
 errbacks_wire (task k call links errbacks) = tasks_wire errbacks
 
--- a list of signatures that is left out where it is empty
+-- a list of signatures, omitted if it is empty
 abbrev pub link_tokens : List ℕ → Items → List Token
 link_tokens k no_items = []
 link_tokens k (item d ds) = key k ∷ begin_array ∷ rest_tokens (item d ds)
@@ -76,10 +76,10 @@ closing_tokens kind name =
 abbrev pub member_tokens : List ℕ → Items → List Token
 member_tokens k ds = key k ∷ begin_array ∷ rest_tokens ds
 
--- from the last keyword argument on
+-- a chain, group or chord from its last keyword argument to the end
 abbrev pub last_tokens : List ℕ → Items → (kind : Data) → (name : List ℕ) → List Token
 last_tokens k ds kind name = member_tokens k ds ++ end_object ∷ closing_tokens kind name
 
--- up to the body of a chord
+-- a chord up to the end of its body
 abbrev pub body_tokens : Data → List Token
 body_tokens body = opening_tokens ++ key (codes "body") ∷ data_tokens body

@@ -79,6 +79,9 @@ impl<R: Wait> Working<'_, R> {
         if let Some(envelope) = self.source.next() {
             return self.give(tasks, envelope);
         }
+        // Once for a batch, since all workers share the count. A worker that rests owes none.
+        self.flight.take_off(self.acknowledged);
+        self.acknowledged = 0;
         if self.source.is_alone() {
             self.take_one(tasks)
         } else {

@@ -1,7 +1,6 @@
--- What stands before and behind the text of the body that the end of a line carries, in the text of
--- the line.
---     line_before, line_behind    in a line
---     last_before, last_behind    in its last element
+-- The parts of a line's text before and after the text of the body that its end carries.
+--    line_before, line_behind    of a line
+--    last_before, last_behind    of its last element
 use Rattle.std.specs.Prelude.{ℕ, Bool, true, false, List, [], ◌∷◌, ◌++◌, Option, None, codes}
 use Rattle.json.specs.Token.{Token, key}
 use Rattle.serde_json.specs.Data.{Data, null, string}
@@ -62,7 +61,7 @@ abbrev mutual
   last_before (p_group_end g ms) = []
   last_before (p_chord_end g ms b) = chord_before None ++ line_before None b
 
--- ---- behind
+-- ---- after
 
 abbrev pub chord_behind : (number : ℕ) → PLines → List Token
 chord_behind g ms =

@@ -1,4 +1,4 @@
--- What is written of a line, from its last element on.
+-- The part of a line that is written, from its last element.
 use Rattle.std.specs.Prelude.{◌≡◌, ◌==◌, ◌++◌, ℕ, List, length, reverse}
 use Rattle.std.specs.Str.{IsUtf8}
 use Rattle.canvas_semantics.specs.PlacedLine.{PLine, p_stop, p_step, p_group_end, p_chord_end}

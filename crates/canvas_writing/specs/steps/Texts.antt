@@ -6,7 +6,7 @@ use Rattle.canvas_semantics.specs.PlacedLine.{PTask, p_task, no_p_tasks, p_nowhe
 use Rattle.canvas_rewrite.specs.declared.frozen.FrozenTask.{FrozenTask, out-FrozenTask}
 use Rattle.canvas_envelope.specs.Wire.{task_id}
 
--- the text stands behind what stood there
+-- the text was appended
 abbrev pub Adds : {E : Type 0} → Result (Unit {0}) E → (old new : List ℕ) → List ℕ → Type 0
 Adds r old new text = OnOk r (new ≡ old ++ text)
 
@@ -27,11 +27,11 @@ headers_naming group id parent name =
     (member (codes "root_id") (task_id 1)
     (member (codes "task") (string name) no_members))))))
 
--- up to the identifier, with its opening quote
+-- the headers up to the identifier, with its opening quote
 abbrev pub front_text : (group : Data) → List ℕ
 front_text group = codes "{\"group\":" ++ (compact_text group ++ codes ",\"id\":\"")
 
--- from the identifier's closing quote up to the name
+-- the headers from the identifier's closing quote up to the name
 abbrev pub origin_text : (parent : Data) → List ℕ
 origin_text parent =
     codes "\",\"lang\":\"rs\",\"parent_id\":" ++ (compact_text parent
@@ -40,7 +40,7 @@ origin_text parent =
 abbrev pub name_text : (name : List ℕ) → List ℕ
 name_text name = compact_text (string name) ++ codes "}"
 
--- ---- a task with nothing of its own behind it
+-- ---- a task without callbacks and place
 
 abbrev pub bare : FrozenTask → PTask
 bare t =
@@ -61,19 +61,19 @@ abbrev pub flag_text : Bool → List ℕ
 flag_text true = codes ",\"immutable\":true,\"kwargs\":"
 flag_text false = codes ",\"immutable\":false,\"kwargs\":"
 
--- up to the options
+-- a task up to its options
 abbrev pub call_text : (size : ℕ) (args : Items) → Bool → (kwargs : Members) → List ℕ
 call_text size args immutable kwargs =
     size_text size args ++ (flag_text immutable ++ compact_text (object kwargs))
 
--- the options, and what stands behind them but the name
+-- the options, and the part after them without the name
 abbrev pub own_text : (id : List ℕ) → List ℕ
 own_text id =
     codes ",\"options\":{\"task_id\":\"" ++ (id ++ codes "\"},\"subtask_type\":null,\"task\":")
 
 -- ---- a body
 
--- what goes with a call
+-- the embed
 abbrev pub embed_of : (callbacks chain chord errbacks : Data) → Data
 embed_of callbacks chain chord errbacks =
     object (member (codes "callbacks") callbacks
@@ -85,16 +85,16 @@ abbrev pub args_text : (args : Items) (kwargs : Members) → List ℕ
 args_text args kwargs =
     codes "[[" ++ (items_text false args ++ (codes "," ++ compact_text (object kwargs)))
 
--- up to what follows on the line
+-- a body up to the rest of the line
 abbrev pub opening_text : (args : Items) (kwargs : Members) (callbacks : Data) → List ℕ
 opening_text args kwargs callbacks =
     args_text args kwargs ++ (codes ",{\"callbacks\":" ++ compact_text callbacks)
 
--- from the error callbacks on
+-- a body from the error callbacks to the end
 abbrev pub closing_text : (errbacks : Data) → List ℕ
 closing_text errbacks = codes ",\"errbacks\":" ++ (compact_text errbacks ++ codes "}]")
 
--- from what follows on the line on
+-- a body from the rest of the line to the end
 abbrev pub behind_text : (chain chord errbacks : Data) → List ℕ
 behind_text chain chord errbacks =
     codes ",\"chain\":" ++ (compact_text chain

@@ -1,4 +1,4 @@
--- The tokens of JSON that a message is written as.
+-- The tokens of a message's JSON.
 use Rattle.std.specs.Prelude.{ℕ, Bool, false, List, [], ◌∷◌, ◌++◌, Option, Some, None, decimal, codes}
 use Rattle.json.specs.Token.{Token, begin_array, end_array, begin_object, end_object, key, number}
 use Rattle.serde_json.specs.Data.{Data, null, string, Items, no_items, Members}
@@ -31,7 +31,7 @@ links_wire t = tasks_wire (links_of t)
 abbrev pub errbacks_wire : PTask → Items
 errbacks_wire t = tasks_wire (errbacks_of t)
 
--- a member that is left out where it is null
+-- a member, omitted if it is null
 abbrev pub unless_null : List ℕ → Data → List Token
 unless_null k null = []
 unless_null k d = key k ∷ data_tokens d
@@ -47,7 +47,7 @@ task_front size t =
     (kwargs_wire (call_of t).kwargs)
     ++ key (codes "options") ∷ begin_object ∷ []
 
--- a task from behind the body that its place carries
+-- the part of a task after the body that its place carries
 abbrev pub task_behind : PTask → List Token
 task_behind t =
     unless_null (codes "group_id") (place_id (place_of t))
@@ -55,12 +55,12 @@ task_behind t =
     ++ ((named_tokens (codes "task_id") (task_id (number_of t)) ++ end_object ∷ [])
     ++ (kind_tokens null ++ name_tokens (call_of t).name)))
 
--- up to the keyword arguments of a chain, group or chord
+-- a chain, group or chord up to its keyword arguments
 abbrev pub opening_tokens : (size : Option ℕ) → List Token
 opening_tokens size =
     start_tokens size no_items ++ (flag_tokens false ++ key (codes "kwargs") ∷ begin_object ∷ [])
 
--- from a group's options on
+-- a group or chord from its options to the end
 abbrev pub group_closing : (number : ℕ) → (kind : Data) → (name : List ℕ) → List Token
 group_closing g kind name =
     (key (codes "options") ∷ begin_object ∷ named_tokens (codes "group_id") (group_id g))
@@ -76,7 +76,7 @@ abbrev pub each_tokens : List PTask → List Token
 each_tokens [] = []
 each_tokens (t ∷ ts) = data_tokens (task_wire None t) ++ each_tokens ts
 
--- a chain up to the last of its first tasks, and from behind its last element
+-- a chain up to the last of its first tasks, and the part after its last element
 abbrev pub chain_before : (size : Option ℕ) → List PTask → List Token
 chain_before size ts = opening_tokens size ++ key (codes "tasks") ∷ begin_array ∷ each_tokens ts
 

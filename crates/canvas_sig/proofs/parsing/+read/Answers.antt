@@ -165,7 +165,7 @@ read_members-members-preserved t c =
       c.in_ok-push.ensures.items ∙ ap (λ es. es ++ e ∷ []) (done.stack ∙ l.invariant.5) ∙ append_assoc c.args.stack.now.items found (e ∷ []),
     )
 
--- what stands on the stack since the object began
+-- the part of the stack pushed since the object began
 pub read_members-returns-clause-ok : goal.read_members-returns-clause-ok
 read_members-returns-clause-ok t c =
     let p = value c.args.left in

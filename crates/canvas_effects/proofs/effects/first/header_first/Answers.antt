@@ -7,7 +7,7 @@ use Rattle.canvas_effects.proofs.FirstInOrder.{begins_there, end_stands, end_beg
 use Rattle.canvas_effects.proofs.PlanStands.{plan_stands}
 use Rattle.canvas_effects.proofs.effects.first.header_first.Goals as goal
 
--- nothing stands in front of the group or chord
+-- nothing comes before the group or chord
 begins : (c : goal.After-deref-in-Some) → p_end_view c.deref-in-Some.result.now ≡ p_line_view c.line-line.result.now
 begins c =
     let line = c.line-line.result.now in
