@@ -32,7 +32,7 @@ struct Told<'a> {
 }
 
 impl Told<'_> {
-    /// The object, whose members are in the byte order of their names.
+    /// Returns the object, whose members are in the byte order of their names.
     fn json(&self, alloc: Global) -> Result<String, AllocError> {
         let mut text = String::from_str(alloc, "{")?;
         if let Some((fault, found)) = self.canvas {
