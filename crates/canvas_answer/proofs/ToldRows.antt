@@ -1,4 +1,4 @@
--- What is told of rows that show the states of a run and the classes of its exceptions.
+-- The rows that show the states of a run and the classes of its exceptions, and their texts.
 use Rattle.std.proofs.Common.{◌≡◌, ◌∙◌, ◌==◌, ℕ, true, List, [], length, Option, None, String, Global, sym, subst}
 use Rattle.std.proofs.lemmas.Bool.{eqb-true}
 use Rattle.std.proofs.lemmas.List.{nil_from_length}

@@ -1,4 +1,4 @@
--- What a command asks for with what is given for its options.
+-- What a command asks for, by what is given for its options.
 use Rattle.std.specs.Prelude.{◌≡◌, ◌≢◌, ℕ, Bool, true, false, if◌then◌else◌, List, Option, None, Some, codes, option_map, unwrap_or, not}
 use Rattle.clap.specs.Walk.{Row, first_of}
 use Rattle.canvas_adapt.specs.RenameTexts.{AreRenameTexts}
@@ -30,12 +30,12 @@ use Rattle.canvas_answer.specs.declared.reporting.Form.TheVariants.{Plain, Json,
 use Rattle.canvas_answer.specs.declared.reporting.Manner.{Manner}
 
 module _ (given : List Row) where
-  -- ---- parts of what is asked for
+  -- ---- parts of a request
 
   abbrev pub IsWorkers : ℕ → Type 0
   IsWorkers n = IsNumber given (codes "workers") 1 n
 
-  -- JSON, or by the flag that asks for an explanation
+  -- JSON, or else as the flag for an explanation says
   abbrev pub IsFormWhere : (json : Bool) → Form → Type 0
   IsFormWhere true form = form ≡ Json
   IsFormWhere false form = (explains : Bool) × IsFlag given (codes "explain") explains
@@ -44,14 +44,14 @@ module _ (given : List Row) where
   abbrev pub IsForm : Form → Type 0
   IsForm form = (json : Bool) × IsFlag given (codes "json") json × IsFormWhere json form
 
-  -- by the flag that gives a status of its own
+  -- with the flag that gives a failure a status of its own
   abbrev pub IsManner : Text → Manner → Type 0
   IsManner flag m = IsForm m.form × IsFlag given flag m.fails
 
   abbrev pub AreTurns : ℕ → List ℕ → Type 0
   AreTurns workers turns = IsTurnList workers (text_of given (codes "turns")) turns
 
-  -- what is delivered again: a list of numbers, or another text, which may have names
+  -- what is redelivered: a list of numbers, or another text, which may have names
   abbrev pub IsAgain : Option Text → Again → Type 0
   IsAgain None again.Nothing = Unit {0}
   IsAgain (Some list) (again.Entries es) = IsEntryList list es.items
@@ -61,7 +61,7 @@ module _ (given : List Row) where
   abbrev pub IsRun : Text → run_number.Run → Type 0
   IsRun option run = run.digits ≡ text_of given option
 
-  -- what a picture shows: results where their file is given, else those of a run where that is
+  -- what a picture shows: results if their file is given, else those of a run if that is
   abbrev pub IsShowing : Option Text → States → Type 0
   IsShowing None states.None = IsFlag given (codes "run") false
   IsShowing None (states.Run workers) = IsFlag given (codes "run") true × IsWorkers workers
@@ -92,7 +92,7 @@ module _ (given : List Row) where
       IsFlag given (codes "complete") c.completes × IsForm c.manner.form
       × (c.manner.fails ≡ false)
 
-  -- ---- what is asked for
+  -- ---- the requests
 
   abbrev pub IsVerb : Subcommand → Verb → Type 0
   IsVerb Run (verb.Run workers manner) = IsWorkers workers × IsManner (codes "fail") manner
@@ -101,7 +101,7 @@ module _ (given : List Row) where
       × IsAgain (first_of (codes "again") given) again × IsFlag given (codes "steps") steps
       × IsManner (codes "fail") manner
   IsVerb Normal (verb.Normal numbers) = IsFlag given (codes "numbers") numbers
-  -- of a page without a word for failures, but it has one, given or not
+  -- the work of a page that has no word for failures; but it has one, given or not
   IsVerb Page (verb.Normal numbers) = IsFlag given (codes "numbers") numbers
   IsVerb Check (verb.Check manner) = IsManner (codes "strict") manner
   IsVerb Adapt (verb.Adapt renames) =
@@ -118,7 +118,7 @@ module _ (given : List Row) where
       IsRun (codes "run") run × IsCollecting collecting
   IsVerb command other = ⊥
 
-  -- of many canvases a line feed, 10, ends each, or a zero byte
+  -- each of many canvases ends with a line feed, 10, or with a zero byte
   pub record IsEach (e : each.Each) : Type 0 where
     pub workers : IsWorkers e.workers
     pub fails : IsFlag given (codes "fail") e.fails
@@ -130,7 +130,7 @@ module _ (given : List Row) where
   abbrev pub AreFailures : (word : Option Text) → failures.Failures → Type 0
   AreFailures word f = (word ≡ Some f.word.now) × IsFlag given (codes "fail") f.fails
 
-  -- in lines, or by the command for that in a page
+  -- in lines, or in a page for that command
   abbrev pub AreFailuresBy : Subcommand → (word : Option Text) → Work → Type 0
   AreFailuresBy command word (work.Failures f) = (command ≢ Page) × AreFailures word f
   AreFailuresBy command word (work.Page f) = (command ≡ Page) × AreFailures word f

@@ -1,4 +1,4 @@
-//! What the program `canvas` is asked, and its answers as far as they need no run of the engine.
+//! Requests to the program `canvas`, and its answers as far as they need no run of the engine.
 #![tactic(auto)]
 
 pub mod adapt;

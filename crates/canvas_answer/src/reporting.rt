@@ -29,11 +29,11 @@ pub enum Form {
     Plain,
     /// Each task is a JSON object in a line.
     Json,
-    /// Tasks go by their numbers, and what wasn't called has its reason.
+    /// Tasks have their numbers, and a task that wasn't called has its reason.
     Explained,
 }
 
-/// How a report is printed, and what its result does.
+/// How a report is printed, and whether its result has a status.
 #[derive(Clone, Copy)]
 pub struct Manner {
     pub form: Form,
@@ -41,12 +41,11 @@ pub struct Manner {
     pub fails: bool,
 }
 
-/// The status of a canvas whose result is a failure, or of which something is warned, where that is
-/// asked for.
+/// The status of a canvas whose result is a failure, or that has a warning, if that is asked for.
 pub const FAILED: u8 = 3;
 
 impl Manner {
-    /// The report of a whole run.
+    /// Returns the report of a whole run.
     fn whole_text<T: Tasks>(
         &self,
         alloc: Global,
@@ -68,7 +67,7 @@ impl Manner {
         }
     }
 
-    /// The report of a whole run, and the status that its result has.
+    /// Returns the report of a whole run, with the status of its result.
     pub fn whole<T: Tasks>(
         &self,
         alloc: Global,
@@ -86,7 +85,7 @@ impl Manner {
         Ok(self.answer(text.into_bytes(), &plans.shown, report))
     }
 
-    /// Lines that are told of a whole run, and the status that its result has.
+    /// Returns the lines of a whole run, with the status of its result.
     pub fn answer(&self, lines: Vec<u8>, plan: &Plan, report: &Report) -> Answer
         ensures { AnswersAll lines.items (report_status self.now.fails
             (any_failed (with_states (rows_from 1 report.now.rows) (ends_of plan.now)))) result }
@@ -99,8 +98,8 @@ impl Manner {
         Answer::whole(lines).with_status(status)
     }
 
-    /// Why a run has no whole report, and what it stored, where that is known and there is memory
-    /// for it.
+    /// Returns why a run has no whole report, with what it stored, if that is known and there is
+    /// memory for it.
     pub fn early<T>(
         &self,
         alloc: Global,
@@ -135,7 +134,8 @@ impl Manner {
         }
     }
 
-    /// What a run that ended early stored.
+    /// Returns the report of a run that ended early. It doesn't say which tasks were called, since
+    /// its rows don't show whether a pending task will run.
     fn stored_report<T>(
         &self,
         alloc: Global,

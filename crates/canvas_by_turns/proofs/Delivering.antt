@@ -41,7 +41,7 @@ module _ (s : Stage) (n i : ℕ) (c : Standing) (place : i < length s.cores.item
   none_wanted e = not_wanted (ap (λ p. wanted p s.again.items) (sym e))
 
   module _ (p : Entry) (is_point : Some p ≡ point_at c) where
-    -- whether an entry stands for the point, in a list that is the one of the stage
+    -- whether there is an entry for the point, in a list that is the one of the stage
     wanted_is : (b : Bool) (es : List Entry) → es ≡ s.again.items → has p.0 p.1 es ≡ b → wanted (point_at c) s.again.items ≡ b
     wanted_is b es e h = ap (λ q. wanted q s.again.items) (sym is_point) ∙ ap (has p.0 p.1) (sym e) ∙ h
 

@@ -1,8 +1,8 @@
--- The steps of a run by turns as a run tells them, in their order. The first messages come before
+-- The steps of a run by turns as a run reports them, in their order. The first messages come before
 -- all turns: worker 0 publishes them.
 --     step_seen s        the worker's ask with its answer that a step of the code is
---     IsStepped l n turns es rows m steps    rows of a run by these turns with these entries, how
---                                            many of its stores answered Again, and its steps
+--     IsStepped l n turns es rows m steps    rows of a run by these turns with these entries, m of
+--                                            its stores answered Again, and its steps
 use Rattle.std.specs.Prelude.{◌≡◌, ℕ, List, ◌++◌, map, None}
 use Rattle.canvas_task.specs.Apply.{Behaviour}
 use Rattle.canvas_semantics.specs.Evaluation.{State}

@@ -26,7 +26,7 @@ use canvas_semantics::MOST_WORKERS;
 use canvas_task::{Fault, ListOf, Memory, Outcome, TaskNo, Tasks};
 use std::alloc::Global;
 
-/// A turn of each worker, from the first to the last. Whether an ask was answered.
+/// Takes a turn of each worker, from the first to the last. Returns whether an ask was answered.
 fn run_round<T: Tasks>(
     alloc: Global,
     stage: &mut Stage,
@@ -54,7 +54,7 @@ fn run_round<T: Tasks>(
     Ok(answered)
 }
 
-/// The turns of a list.
+/// Takes the turns of a list.
 fn run_list<T: Tasks>(
     alloc: Global,
     stage: &mut Stage,
@@ -83,7 +83,7 @@ fn run_list<T: Tasks>(
     Ok(())
 }
 
-/// Turns in rotation, until all workers are at their ends.
+/// Takes turns in rotation, until all workers are at their ends.
 fn run_rounds<T: Tasks>(
     alloc: Global,
     stage: &mut Stage,
@@ -137,18 +137,18 @@ fn run_stage<T: Tasks>(
     }
 }
 
-/// Rows that hold nothing yet, one for each task.
+/// Returns pending rows, one for each task.
 pub fn new_rows(alloc: Global, plan: &Plan) -> Result<Vec<Option<Outcome>>, Memory>
     ensures rows { IfOk result (λ rows. length rows.items ≡ count_line plan.now) }
     ensures pending { IfOk result (λ rows. All (λ s. s ≡ None) rows.items) }
     ensures planned { IsPlan plan.now }
 {
-    // A proof about rows is made only where the type of a failure's fault is named.
+    // A proof about rows is made only if the type of a failure's fault is named.
     let _none: Option<Fault> = None;
     Ok(Vec::from_elem(alloc, None, plan.tasks() as usize)?)
 }
 
-/// The report of a stage, whose rows were reserved.
+/// Returns the report of a stage, whose rows were reserved.
 fn report_of(stage: &Stage, plan: &Plan, rows: Vec<Option<Outcome>>) -> Report
     requires plan { stage.now.table.plan ≡ roster_of plan.now }
     requires rows { length rows.items ≡ count_line plan.now }
@@ -161,8 +161,8 @@ fn report_of(stage: &Stage, plan: &Plan, rows: Vec<Option<Outcome>>) -> Report
     }
 }
 
-/// What a run by turns leaves: its report, how many stores answered Again, and the steps that were
-/// to be noted.
+/// The result of a run by turns: its report, how many stores answered Again, and the steps that
+/// were to be noted.
 #[derive(Drop)]
 struct Ran {
     report: Report,
@@ -170,7 +170,7 @@ struct Ran {
     steps: Vec<NotedStep>,
 }
 
-/// Runs a plan, at most so many asks being answered.
+/// Runs a plan until `steps` asks are answered.
 fn run_steps<T: Tasks>(
     alloc: Global,
     plan: &Plan,
@@ -212,7 +212,7 @@ fn are_turns(turns: &[u32], workers: u32) -> bool
     turns.iter().all(|turn| *turn >= 1 && *turn <= workers)
 }
 
-/// Checks what is asked for, then runs.
+/// Checks the workers and the turns, then runs.
 fn run_checked<T: Tasks>(
     alloc: Global,
     plan: &Plan,
@@ -239,7 +239,11 @@ fn run_checked<T: Tasks>(
     }
 }
 
-/// One more than the asks that a run of the plan may have.
+/// Returns one more than the most asks that a run of the plan may have.
+///
+/// With this bound no run is stopped: each task is published, taken, stored and its part returned
+/// at most once, and in rotation one of each two rounds has such a call, until all have ended. The
+/// bound is quadratic in the tasks, as `most_steps` is.
 fn more_than_all(plan: &Plan, workers: u32, turns: &[u32], again: &[(TaskNo, When)]) -> u128
     ensures value { result
         ≡ suc (most_steps plan.now workers (length turns.now) (length again.now)) }
@@ -251,7 +255,7 @@ fn more_than_all(plan: &Plan, workers: u32, turns: &[u32], again: &[(TaskNo, Whe
     turns.len() as u128 + product(2 * (calls + 1), workers as u128) + entries + 1
 }
 
-/// A function for its contract's sake: its bounds say that the product fits.
+/// Multiplies. It is a function for its contract's sake: its bounds say that the product fits.
 fn product(left: u128, right: u128) -> u128
     requires left { left < 2 ^ 80 }
     requires right { right < 2 ^ 40 }
@@ -261,9 +265,9 @@ fn product(left: u128, right: u128) -> u128
     left * right
 }
 
-/// Runs a plan with 1 to 16 workers on one thread. Each turn lets that worker have one ask
-/// answered; after the list the workers take turns in rotation from 1, until all are at their ends.
-/// A worker at its end skips its turn.
+/// Runs a plan with 1 to 16 workers on one thread. Each turn lets its worker have one ask answered;
+/// after the list the workers take turns in rotation from 1, until all are at their ends. A worker
+/// at its end skips its turn.
 pub fn run_turns<T: Tasks>(
     alloc: Global,
     plan: &Plan,
@@ -282,11 +286,11 @@ pub fn run_turns<T: Tasks>(
     }
 }
 
-/// As `run_turns`, but envelopes are delivered again where `again` says so: a worker whose message
-/// has come to a point, before its first store or before its acknowledgement, spends the first
-/// unspent entry for its task and that point, and has a copy of its envelope published within the
-/// same turn, before its ask is answered. An entry for a task that isn't run does nothing. With the
-/// report it tells how many stores answered Again.
+/// Like `run_turns`, but redelivers envelopes as `again` says: a worker whose message has reached a
+/// point, before its first store or before its acknowledgement, spends the first unspent entry for
+/// its task and that point, and publishes a clone of its envelope within the same turn, before its
+/// ask is answered. An entry for a task that isn't run does nothing. Also returns how many stores
+/// answered Again.
 pub fn run_turns_again<T: Tasks>(
     alloc: Global,
     plan: &Plan,
@@ -317,9 +321,9 @@ pub fn run_turns_again<T: Tasks>(
     }
 }
 
-/// As `run_turns`. With the report it gives a copy of each letter that was published, in the order
-/// in which they were: those of the tasks that start at once, and what each turn published. They
-/// share their texts as the run's own do.
+/// Like `run_turns`. Also returns a clone of each letter that was published, in their order: those
+/// of the tasks that start at once, and what each turn published. They share their texts as the
+/// run's own do.
 pub fn run_turns_traced<T: Tasks>(
     alloc: Global,
     plan: &Plan,
@@ -343,9 +347,9 @@ pub fn run_turns_traced<T: Tasks>(
     }
 }
 
-/// As `run_turns_again`. Behind the report and the number of stores that answered Again it gives
-/// the steps of the run, in their order: the first messages, which worker 0 publishes, and then
-/// what each step of a worker was. Their letters share their texts as the run's own do.
+/// Like `run_turns_again`. Also returns the steps of the run, in their order: the first messages,
+/// which worker 0 publishes, and then each step of a worker. Their letters share their texts as the
+/// run's own do.
 pub fn run_turns_stepped<T: Tasks>(
     alloc: Global,
     plan: &Plan,
@@ -367,8 +371,10 @@ pub fn run_turns_stepped<T: Tasks>(
     }
 }
 
-/// As `run_turns`, but halted, as stopped, once `steps` asks have been answered and some worker
-/// isn't at its end.
+/// Like `run_turns`, but is halted, as stopped, once `steps` asks have been answered and some
+/// worker isn't at its end.
+///
+/// Takes that find nothing and rests count, though no history has them.
 pub fn run_turns_within<T: Tasks>(
     alloc: Global,
     plan: &Plan,

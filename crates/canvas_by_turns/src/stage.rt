@@ -63,7 +63,8 @@ fn publish<T: Tasks>(
     }
 }
 
-/// A count with one more where a store answered Again. It stays at its greatest value.
+/// Returns a count with one more if a store answered Again. It saturates. No list of entries
+/// reaches its greatest value.
 fn count_again(repeats: u64, stored: Stored) -> u64
     ensures { result ≡ counted_on repeats stored }
 {
@@ -73,8 +74,8 @@ fn count_again(repeats: u64, stored: Stored) -> u64
     }
 }
 
-/// One ask of a worker, answered by the queue and the table. A worker that rests is told whether
-/// there is more. A store that answers Again is counted, and the step noted.
+/// Answers one ask of a worker by the queue and the table. A rest is answered with whether there is
+/// more. A store that answers Again is counted, and the step noted.
 fn step<T: Tasks>(
     core: &mut Core,
     queue: &mut PlainBroker<Letter>,
@@ -151,7 +152,7 @@ fn publish_all(queue: &mut PlainBroker<Letter>, envelopes: Vec<Letter>) -> Resul
     Ok(())
 }
 
-/// Whether a worker asks for nothing more.
+/// Returns whether a worker asks for nothing more.
 fn has_ended(core: &Core) -> bool
     ensures end { MatchBool result (next core.now ≡ ask.End) (next core.now ≡ ask.End → ⊥) }
     ensures reads_back { core.now.is_out ≡ false
@@ -163,7 +164,7 @@ fn has_ended(core: &Core) -> bool
     }
 }
 
-/// A copy of the entries that a run is given.
+/// Returns a clone of the entries that a run is given.
 fn copied(alloc: Global, entries: &[(TaskNo, When)]) -> Result<Vec<(TaskNo, When)>, Memory>
     ensures copy { IfOk result (λ copy. copy.items ≡ entries.now) }
     ensures few { length entries.now ≤ greatest_count }
@@ -179,7 +180,8 @@ pub(crate) struct Stage {
     queue: PlainBroker<Letter>,
     table: PlainBackend,
     cores: Vec<Core>,
-    /// How many asks may still be answered.
+    /// How many asks may still be answered. A redelivery is none, so no run stops between it and
+    /// the ask of the same turn.
     steps: u128,
     /// The entries that are unspent.
     again: Vec<(TaskNo, When)>,
@@ -188,7 +190,7 @@ pub(crate) struct Stage {
     notes: Notes,
 }
 
-/// Workers that have asked for nothing yet.
+/// Returns workers that have asked for nothing yet.
 fn new_cores(alloc: Global, workers: u32) -> Result<Vec<Core>, Memory>
     ensures { IfOk result (λ cores. (length cores.items ≡ workers) × AreNew cores.items) }
 {
@@ -206,7 +208,7 @@ fn is_any_inside(cores: &[Core]) -> bool
 }
 
 impl Stage {
-    /// A stage before the first publish.
+    /// Returns a stage before the first publish.
     pub(crate) fn new(
         alloc: Global,
         plan: &Plan,
@@ -256,7 +258,8 @@ impl Stage {
         }
     }
 
-    /// Whether the queue holds something or a worker is inside a message.
+    /// Returns whether the queue holds something or a worker is inside a message. It looks over the
+    /// workers, 16 at most; nothing else in a step depends on how many workers or tasks there are.
     fn holds_more(&self) -> bool
         ensures { result
             ≡ (is_queued self.now.queue || list_any (λ c. is_inside c.left) self.now.cores.items) }
@@ -264,7 +267,7 @@ impl Stage {
         !self.queue.is_empty() || is_any_inside(&self.cores)
     }
 
-    /// What a worker that rests is told.
+    /// Returns whether there is more to do, which a worker that rests is answered.
     fn tells_more(&self, index: usize) -> bool
         requires { index < length self.now.cores.items }
         ensures { (core : Standing) → slice_get self.now.cores.items index ≡ Some core
@@ -279,8 +282,8 @@ impl Stage {
         }
     }
 
-    /// Has the envelope that a worker holds delivered again, where an entry for the point to which
-    /// the worker has come is unspent. That entry is spent.
+    /// Redelivers the envelope that a worker holds, if an entry for the point that the worker has
+    /// reached is unspent. That entry is spent.
     fn deliver_again(&mut self, alloc: Global, worker: u32, index: usize) -> Result<(), Memory>
         requires index { index < length self.old.cores.items }
         requires holds { (core : Standing) → slice_get self.old.cores.items index ≡ Some core
@@ -311,22 +314,22 @@ impl Stage {
         }
     }
 
-    /// How many stores have answered Again.
+    /// Returns how many stores have answered Again.
     pub(crate) fn repeats(&self) -> u64
         ensures { result ≡ self.now.repeats }
     {
         self.repeats
     }
 
-    /// The steps that were to be noted.
+    /// Returns the steps that were to be noted.
     pub(crate) fn into_steps(self) -> Vec<NotedStep>
         ensures { result ≡ self.notes.steps }
     {
         self.notes.into_steps()
     }
 
-    /// A worker's turn: one ask of it is answered, unless it is at its end. Whether one was. An
-    /// entry for the point to which it has come is spent before.
+    /// Takes a worker's turn: answers one ask of it, unless it is at its end, and returns whether
+    /// it did. Before that it spends an entry for the point that the worker has reached.
     pub(crate) fn turn<T: Tasks>(
         &mut self,
         alloc: Global,

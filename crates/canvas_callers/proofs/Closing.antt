@@ -18,7 +18,7 @@ module _ (plan : Roster) where
   same_read : (x y : Option Outcome) → ◌≡◌ {A = TableReply} (found x) (found y) → x ≡ y
   same_read x y e = cc
 
-  -- alone, reads answer what is held, and leave it
+  -- if no other caller is live, reads answer what the table holds, and leave it
   reads_alone : (s t : Seat) (cs : List TableAnswered) → s.name ≡ 0 → Sole s.seen 0 → Each IsRead cs → Serves plan s cs t
       → (results plan t.seen ≡ results plan s.seen) × Each (ReadsWhatIsHeld (results plan s.seen)) cs
   reads_alone s t [] n a i m = (ap (λ (x : Seat). results plan x.seen) m, tt)

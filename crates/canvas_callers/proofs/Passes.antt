@@ -250,7 +250,7 @@ module _ (behaviour : Behaviour) (plan : Roster) where
     numbers_are : names_of behaviour hs ≡ numbers_along 1 hs
     some : NoZero (names_of behaviour hs)
 
-  -- from the call clauses alone
+  -- only from the call clauses
   gathered : (p0 p1 p2 p3 : Pass) (hs : List (Mate behaviour plan)) (first : List (QueueAnswered Envelope))
       → p0.name ≡ 0 → p0.mine ≡ 0 ∷ [] → p0.seen ≡ [] → p0.owed ≡ []
       → SplitPasses p0 (passes_of behaviour hs) p1 → Makes p1 first p2 → JoinPasses p2 (left_of behaviour hs) p3 → Gathered p3 hs first
@@ -289,7 +289,7 @@ module _ (behaviour : Behaviour) (plan : Roster) where
         some = no_zero hs made.1;
       }
 
-  -- alone, worker 0 adds its calls and nothing comes between
+  -- as the only live caller, worker 0 adds its calls and nothing comes between
   alone_on : (p q : Pass) (cs : List (QueueAnswered Envelope)) → p.name ≡ 0 → Sole (p.seen ++ p.owed) 0 → IsLegal (p.seen ++ p.owed) → Makes p cs q
       → (q.seen ++ q.owed ≡ (p.seen ++ p.owed) ++ entries_by 0 cs) × (q.name ≡ 0) × Sole (q.seen ++ q.owed) 0 × IsLegal (q.seen ++ q.owed)
   alone_on p q [] n s y m = (

@@ -237,7 +237,7 @@ module _ (behaviour : Behaviour) (plan : Roster) where
       let more : names_of behaviour hs ≡ numbers_along (suc k) hs = cc in
       (subst (λ n. made_by n log ≡ entries_by n (its_calls g)) same h.1, has_rows log (suc k) hs more h.2)
 
-  -- the whole list, from the call clauses alone: worker 0 works on by itself
+  -- the whole list, only from the call clauses: worker 0 works on as the only caller
   pub ledger : (s0 s1 s2 t : Seat) (hs : List (Mate behaviour plan)) (last : List TableAnswered)
       → s0.name ≡ 0 → s0.seen ≡ [] → SplitSeats P s0 (seats_of behaviour hs) s1 → JoinSeats P s1 (left_of behaviour hs) s2 → Serves P s2 last t
       → (t.name ≡ 0) × TableAccounts behaviour plan hs last t.seen

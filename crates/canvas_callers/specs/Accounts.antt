@@ -1,6 +1,6 @@
--- What the one list of all calls of a run has of each caller (Lamport's sequential consistency: its
--- own calls in its own order): worker 0's calls, and for the workers, numbered from 1 in the order
--- of their making, just theirs.
+-- What the one list of all calls of a run has for each caller (Lamport's sequential consistency:
+-- its own calls in its own order): worker 0's calls, and just the calls of each worker, numbered
+-- from 1 in the order of their making.
 use Rattle.std.specs.Prelude.{ℕ, suc, ◌≡◌, List, [], ◌∷◌, ◌++◌}
 use Rattle.canvas_task.specs.Apply.{Behaviour}
 use Rattle.canvas_history.specs.Answers.{entries_by, joins_of, splits_of}
@@ -25,7 +25,7 @@ module _ (behaviour : Behaviour) (plan : Roster) where
       (made_by k log ≡ entries_by k (backend_calls m.followed.run))
       × HasTableCalls (suc k) ms log
 
-  -- of the broker: what worker 0 called before and after it took in the workers
+  -- for the broker: what worker 0 called before and after it joined the workers
   pub record QueueAccounts (mates : List (Mate behaviour plan))
       (first last : List (QueueAnswered Envelope)) (log : List (queue.QueueEntry Envelope)) :
       Type 0 where
@@ -37,7 +37,7 @@ module _ (behaviour : Behaviour) (plan : Roster) where
     pub names : split_off log ≡ numbers_along 1 mates
     pub sole : Sole log 0
 
-  -- of the backend, where worker 0 calls after it took in the workers
+  -- for the backend, which worker 0 calls only after it joined the workers
   pub record TableAccounts (mates : List (Mate behaviour plan)) (last : List TableAnswered)
       (log : table.Log) : Type 0 where
     pub legal : table.IsLegal plan log

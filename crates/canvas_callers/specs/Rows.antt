@@ -1,4 +1,4 @@
--- What a run on threads can say of its rows: worker 0 read each task once at the end.
+-- The rows of a run on threads: worker 0 read each task once at the end.
 use Rattle.std.specs.Prelude.{ℕ, suc, ◌≡◌, List, [], ◌∷◌, length, map}
 use Rattle.canvas_semantics.specs.Evaluation.{State}
 use Rattle.canvas_task.specs.Apply.{Behaviour}
@@ -20,7 +20,7 @@ abbrev pub reads_from : ℕ → List State → List TableAnswered
 reads_from k [] = []
 reads_from k (s ∷ ss) = (read k, found s) ∷ reads_from (suc k) ss
 
--- all workers were taken in, and these rows were read at the end
+-- all workers were joined, and these rows were read at the end
 pub record RanTo (behaviour : Behaviour) (l : Line) (pass : Pass) (seat : Seat) (rows : List State)
     : Type 0 where
   pub ran : Ran behaviour l pass seat
@@ -39,13 +39,14 @@ RowsOfWell =
     (behaviour : Behaviour) (l : Line) → IsPlan l → (pass : Pass) (seat : Seat) (rows : List State)
     → RanWell behaviour l pass seat rows → rows ≡ states behaviour (tree_of l)
 
--- those of any run are these, or pending
+-- the rows of any run are these, or pending
 abbrev pub RowsOfAny : Type 0
 RowsOfAny =
     (behaviour : Behaviour) (l : Line) → IsPlan l → (pass : Pass) (seat : Seat) (rows : List State)
     → RanTo behaviour l pass seat rows → EachMay rows (states behaviour (tree_of l))
 
--- the counts of worker 0 and of the others, in number order, are those of their entries
+-- the counts of worker 0 and of the others, in the order of their numbers, are those of their
+-- entries
 abbrev pub TalliesCount : Type 0
 TalliesCount =
     (behaviour : Behaviour) (l : Line) → IsPlan l

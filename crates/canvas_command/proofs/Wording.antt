@@ -65,7 +65,7 @@ module _ (before after : Option Text) where
 
 -- ---- what words ask for
 
--- what is answered before it is told in JSON
+-- the answer before it is put into JSON
 abbrev pub IsAskedDone : Behaviour → (input : Option Text) → Request → AskedStubs → Answer → Type 0
 IsAskedDone behaviour input request stubs a = (x : Answers) × AreAnswersOf stubs x × IsAnswerWith behaviour input request x a
 

@@ -1,5 +1,5 @@
--- What the program answers to what is asked of a canvas, by the bytes of its text and by what
--- answers its calls.
+-- The program's answer to a request about one canvas, given the bytes of its text and the tasks
+-- that answer its calls.
 use Rattle.std.specs.Prelude.{[], None}
 use Rattle.canvas_task.specs.Apply.{Behaviour}
 use Rattle.canvas_task.specs.Text.{Text}
@@ -21,14 +21,14 @@ use Rattle.canvas_command.specs.Messages.{ArePublished}
 use Rattle.canvas_command.specs.Runs.{IsByTurns, IsPictureOf, IsRunOf}
 
 module _ (behaviour : Behaviour) (its : Asking) (bytes : Text) where
-  -- a picture of what Celery's workers stored is told nothing of
+  -- no clause is about a picture of results that Celery's workers stored
   abbrev pub IsPictureAsked : States → Answer → Type 0
   IsPictureAsked states.None a =
       (shown : Line) × (run : Line) × ArePlansOf its bytes shown run × IsPictured [] None shown a
   IsPictureAsked (states.Run workers) a = IsPictureOf behaviour its bytes a
   IsPictureAsked (states.Stored stored) a = Unit {0}
 
-  -- figures and warnings are told nothing of
+  -- no clause is about statistics and warnings
   abbrev pub IsAnswerTo : Verb → Answer → Type 0
   IsAnswerTo (verb.Run workers manner) a =
       IsRunOf behaviour its bytes (IsThreadFault workers) manner.form manner.fails None a

@@ -1,4 +1,4 @@
-//! `canvas check`: the figures of a canvas and what may surprise of it, or where it is refused.
+//! `canvas check`: the statistics and warnings of a canvas, or where it is refused.
 
 use crate::messages::messages_of;
 use canvas_answer::answer::Answer;
@@ -15,7 +15,7 @@ use canvas_sig::Canvas;
 use canvas_task::Tasks;
 use std::alloc::Global;
 
-/// The figures of a canvas, of which each name that the words say is that of a task.
+/// Returns the statistics of a canvas. Each name in the words must be that of a task.
 fn figures_of<T: Tasks>(
     alloc: Global,
     source: &Source<'_, T>,
@@ -28,7 +28,7 @@ fn figures_of<T: Tasks>(
     Ok(Figures::of(alloc, &plan, depths, &messages)?)
 }
 
-/// What is said of a canvas that is accepted and has these signatures.
+/// Answers for a canvas that is accepted and has these signatures.
 fn checked<T: Tasks>(
     alloc: Global,
     manner: Manner,
@@ -41,7 +41,7 @@ fn checked<T: Tasks>(
     figures.answer(alloc, manner, &warnings)
 }
 
-/// What is said of the canvas that a text spells, or where it is refused.
+/// Answers for the canvas that a text spells, or says where it is refused.
 fn answer_spelled<T: Tasks>(
     alloc: Global,
     manner: Manner,
@@ -55,8 +55,8 @@ fn answer_spelled<T: Tasks>(
     }
 }
 
-/// What is said of a canvas. Where it is adapted first, that is of the adapted text, since it tells
-/// places in that.
+/// Answers for a canvas. If it is adapted first, the answer is about the adapted text, since it
+/// names places in that.
 pub(crate) fn answer_check<T: Tasks>(
     alloc: Global,
     manner: Manner,

@@ -12,7 +12,7 @@ use canvas_answer::source::Source;
 use canvas_engine::{Cause, Report, RunFault};
 use std::alloc::Global;
 
-/// Why a run has no whole report, as the program says it.
+/// Returns the refusal for a run that has no whole report.
 pub fn refused(fault: &RunFault) -> Refusal
     ensures { result ≡ refusal_of fault.now }
 {
@@ -26,7 +26,7 @@ pub fn refused(fault: &RunFault) -> Refusal
     }
 }
 
-/// What a run stored that ended early.
+/// Returns the outcomes that a run stored which ended early.
 fn stored(fault: &RunFault) -> Option<&Report>
     ensures { option_map (λ r. r.now) result ≡ rows_in fault.now }
 {
@@ -39,7 +39,7 @@ fn stored(fault: &RunFault) -> Option<&Report>
     }
 }
 
-/// The answer to what is asked of a run that ended early.
+/// Answers for a run that ended early.
 pub(crate) fn early<T>(
     alloc: Global,
     manner: Manner,

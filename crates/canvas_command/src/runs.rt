@@ -27,7 +27,7 @@ use std::random::RandomSource;
 use std::sync::Wait;
 use std::thread::Threads;
 
-/// The report of a plan's run on threads.
+/// Returns the report of a plan's run on threads.
 fn report_of<S, T>(rt: &S, plan: &Plan, tasks: &T, workers: u32) -> Result<Report, RunFault>
 where
     S: Threads + Wait + RandomSource + AllocGlobal + Sync,
@@ -44,7 +44,7 @@ where
     }
 }
 
-/// The same, or why there is none.
+/// Returns the report of a plan's run on threads, or the refusal if there is none.
 pub(crate) fn whole_report<S, T>(
     rt: &S,
     plan: &Plan,
@@ -63,7 +63,7 @@ where
     }
 }
 
-/// The report of a run on threads.
+/// Answers with the report of a run on threads.
 pub(crate) fn answer_run<S, T>(
     rt: &S,
     workers: u32,
@@ -84,16 +84,16 @@ where
     }
 }
 
-/// A run by turns, as it is asked for.
+/// A request for a run by turns.
 #[derive(Clone, Copy)]
 struct ByTurns<'a> {
     workers: u32,
     turns: &'a [u32],
-    /// What is delivered again.
+    /// The redeliveries.
     again: &'a [(TaskNo, When)],
-    /// Whether it is told how many stores answered Again.
+    /// Whether the report says how many stores answered Again.
     counts: bool,
-    /// Whether its steps are shown, and not the report.
+    /// Whether the steps are shown instead of the report.
     steps: bool,
     manner: Manner,
 }
@@ -106,7 +106,7 @@ impl ByTurns<'_> {
         answer.with_remark(self.counts.then_some(Remark::Repeats(repeats)))
     }
 
-    /// The steps.
+    /// Answers with the steps.
     fn stepped<T: Tasks>(
         &self,
         alloc: Global,
@@ -131,7 +131,7 @@ impl ByTurns<'_> {
         }
     }
 
-    /// The report.
+    /// Answers with the report.
     fn shown<T: Tasks>(
         &self,
         alloc: Global,
@@ -156,7 +156,7 @@ impl ByTurns<'_> {
         }
     }
 
-    /// The one, or if they are asked for the other.
+    /// Answers with the report, or with the steps if they are asked for.
     fn told<T: Tasks>(
         &self,
         alloc: Global,
@@ -175,7 +175,7 @@ impl ByTurns<'_> {
         }
     }
 
-    /// The same, with what is delivered again by names where there is a list of these.
+    /// Like `told`, with what is redelivered by names if there is a list of these.
     fn told_named<T: Tasks>(
         &self,
         alloc: Global,
@@ -219,8 +219,8 @@ impl ByTurns<'_> {
     }
 }
 
-/// The steps of a run by some workers that take turns from 1, where all is delivered again if that
-/// is asked for.
+/// Answers with the steps of a run by some workers that take turns from 1, in which all is
+/// redelivered if that is asked for.
 pub(crate) fn answer_steps<T: Tasks>(
     alloc: Global,
     workers: u32,
@@ -247,7 +247,7 @@ pub(crate) fn answer_steps<T: Tasks>(
     by.told_named(alloc, again.then_some("all"), plans, source)
 }
 
-/// The report of a run by turns, with what is delivered again, where that is asked for; or its
+/// Answers with the report of a run by turns, with redeliveries if these are asked for; or with its
 /// steps.
 pub(crate) fn answer_turns<T: Tasks>(
     alloc: Global,

@@ -31,7 +31,7 @@ const OUT_OF_STOCK: &str = concat!(
     "result -\n"
 );
 
-/// The rows of a run of which the first task alone has ended.
+/// The rows of a run of which only the first task has ended.
 fn first_alone(alloc: Global, outcome: Outcome) -> Result<Report, AllocError> {
     let mut rows = Vec::new(alloc);
     rows.push(Some(outcome))?;

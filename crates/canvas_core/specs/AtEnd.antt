@@ -11,7 +11,7 @@ use Rattle.canvas_core.specs.CorePast.{Leads}
 use Rattle.canvas_core.specs.CoreState.{Standing, asked, next, failing, held_out, handed}
 use Rattle.canvas_core.specs.declared.ask.Reply.{Reply}
 
--- From its end nothing leads on: no reply suits it, and no envelope is handed out.
+-- A core at its end stays there: no reply suits it, and it hands out no envelope.
 abbrev pub EndStays : Type 0
 EndStays =
     (s : Standing) → asked s.left ≡ end
@@ -29,8 +29,8 @@ EndsACore rest (rested false) = Unit {0}
 EndsACore (to_queue (publish e)) refused = Unit {0}
 EndsACore a r = ⊥
 
--- But for memory, a core whose book has all members is at its end only behind a rest that was
--- answered with no more, or behind a publish that was refused.
+-- A core whose book has all members is at its end only after memory was refused, after a rest that
+-- was answered with no more, or after a publish that was refused.
 abbrev pub EndsBehind : Type 0
 EndsBehind =
     (behaviour : Behaviour) (book : Book) → HasMembers book → IsFromOne book
@@ -38,7 +38,7 @@ EndsBehind =
     → Leads behaviour book xs s → asked s.left ≡ end
     → (ys : List (Asked × Answer)) × (x : Asked × Answer) × (xs ≡ ys ++ x ∷ []) × EndsACore x.0 x.1
 
--- and it has failed only behind a publish that was refused
+-- and a publish that was refused is the only answer after which it has failed
 abbrev pub FailsBehind : Type 0
 FailsBehind =
     (behaviour : Behaviour) (book : Book) → HasMembers book → IsFromOne book

@@ -26,20 +26,20 @@ use Rattle.canvas_core.specs.declared.ask.Reply.TheVariants as R
 abbrev pub Left : Type 0
 Left = CoreState Applied PCarried
 
--- how far a worker is whose core keeps messages as their envelopes; and that from w on it followed
--- a core run of its plan, and was v then
+-- the progress of a worker whose core keeps messages as their envelopes; and that from w on it
+-- followed a core run of its plan, and was v then
 abbrev pub Progress : Type 0
 Progress = Working Applied PCarried
 
 abbrev pub HasFollowed : Behaviour → Roster → Progress → Progress → Type 0
 HasFollowed behaviour plan w v = Followed (enveloped behaviour plan) plan w v
 
--- What is left to do, where the task that is read is the one that a book has at the member's place.
+-- What is left to do, if the task that is read is the one that a book has at the member's place.
 abbrev pub located : Book → Left → Left
 located book (reading g c t fs) = reading g c (unwrap_or (book.member g (length fs)) 0) fs
 located book s = s
 
--- the same as a core has it, which knows the places alone
+-- the same as a core has it, which knows only the places
 abbrev pub placed : Left → Left
 placed = located no_book
 
@@ -53,7 +53,7 @@ pub record Standing : Type 0 where
   pub kept : Option Envelope
   pub task : Option ℕ
 
--- an ask is the same whatever the tasks and the book
+-- an ask is the same for any tasks and any book
 abbrev pub asked : Left → Asked
 asked = ask (enveloped_by no_tasks no_book)
 
@@ -62,8 +62,8 @@ next_job (store t o) = Store t o
 next_job (publish m) = Publish
 next_job (part g t c) = Part g t
 
--- what a core asks for that has this left to do: it names no envelope that it publishes, of a
--- member that it reads the place, and of the envelope that it acknowledges the task
+-- What a core asks for that has this left to do. It names no envelope that it publishes; for a
+-- member that it reads it names the place, and for the envelope that it acknowledges the task.
 abbrev pub next_in : Left → Option ℕ → Ask
 next_in taking x = Take
 next_in resting x = Rest
@@ -120,7 +120,7 @@ open_of s h = h
 abbrev pub held : Standing → Option Envelope
 held s = open_of s.left s.kept
 
--- The point to which the open script has come, with the task of its message: before the message's
+-- The point that the open script has reached, with the task of its message: before the message's
 -- first store, or before the acknowledgement. The script of an envelope that was dropped has none.
 abbrev pub point_in : Left → Option ℕ → Option (ℕ × When)
 point_in (owning m) x = option_map (λ k. (k, Early)) x
@@ -148,7 +148,7 @@ after_reply behaviour book s r =
       task = task_next book s.left s.task (replied r);
     }
 
--- where memory was refused
+-- memory was refused
 abbrev pub failing : Standing → Standing
 failing s =
     record { left = failed; is_out = false; dropped = s.dropped; kept = s.kept; task = s.task }
@@ -157,8 +157,7 @@ failing s =
 abbrev pub held_out : Standing → Option Envelope
 held_out s = if s.is_out then None else to_send (asked s.left)
 
--- the core no longer has the texts of an envelope that was handed out, and still waits for its
--- publish
+-- the core waits for its publish, but no longer has the texts of the envelope that was handed out
 abbrev pub unsent : Left → Left
 unsent (doing (publish e ∷ js) b) = doing (publish (unapplied blank) ∷ js) b
 unsent s = s

@@ -1,4 +1,4 @@
--- The rows, as they are written piece by piece, are the JSON that is told.
+-- The rows, as they are written piece by piece, are the defined JSON.
 use Rattle.std.proofs.Common.{◌≡◌, ◌∙◌, ◌+◌, ◌<◌, ℕ, Bool, true, false, List, [], ◌∷◌, ◌++◌, drop, get_or, length, map, Option, Some, None, String, Global, string_bytes, refl, sym, ap, subst, append_assoc, append-nil}
 use Rattle.std.specs.Prelude.{codes, decimal, option_map}
 use Rattle.json.specs.Print.{quoted}
@@ -69,7 +69,7 @@ shows_status (row.Blamed dep name) x h = ap (λ y. y.status) (sym h)
 
 -- ---- members, from the last
 
--- a member stands behind a comma, but for the first
+-- each member but the first comes after a comma
 abbrev IsFurther : Members → Type 0
 IsFurther ms = members_text true ms ≡ 44 ∷ members_text false ms
 

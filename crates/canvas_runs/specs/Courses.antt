@@ -1,5 +1,5 @@
 -- What one worker does, in its order: the messages that it publishes, and its calls of the table
--- with their answers. That is more than the two histories say, which nothing compares in time.
+-- with their answers. The two histories say less, since nothing compares them in time.
 use mathlib.Core.Logic.{inl, inr}
 use Rattle.std.specs.Prelude.{ℕ, eqb, cond, List, [], ◌∷◌, ◌++◌, ◌⊎◌, map}
 use Rattle.canvas_task.specs.Apply.{Behaviour}
@@ -15,7 +15,7 @@ use Rattle.canvas_runs.specs.Worker.{sealed}
 abbrev pub Course : Type 0
 Course = List (Envelope ⊎ TableAnswered)
 
--- of these the envelopes that it publishes
+-- the envelopes that it publishes
 abbrev pub sent_in : Course → List Envelope
 sent_in [] = []
 sent_in (inl e ∷ xs) = e ∷ sent_in xs
@@ -27,7 +27,7 @@ called_in [] = []
 called_in (inl e ∷ xs) = called_in xs
 called_in (inr c ∷ xs) = c ∷ called_in xs
 
--- The envelopes that a history publishes, each with its caller. One that is delivered again is not
+-- The envelopes that a history publishes, each with its caller. A redelivered envelope is not
 -- published again.
 abbrev pub published_in : List (QueueEntry Envelope) → List (ℕ × Envelope)
 published_in [] = []
@@ -44,8 +44,8 @@ abbrev pub steps : List (AskedAndAnswered Envelope) → Course
 steps [] = []
 steps (x ∷ xs) = step_of x.0 x.1 ++ steps xs
 
--- the course of each caller of a run: that of its core run. Worker 0 publishes the first messages
--- before, and reads the tasks after
+-- The course of each caller of a run is that of its core run. Worker 0 also publishes the first
+-- messages before it, and reads the tasks after it.
 abbrev pub course_of : {behaviour : Behaviour} {l : Line} → Run behaviour l → ℕ → Course
 course_of r p =
     map inl (cond (eqb p 0) (map sealed r.opening) [])

@@ -15,7 +15,7 @@ has_outcome old new t o r k none =
     let is : (held new).outcomes t ≡ kept_or x o = ap (λ (s : Results). s.outcomes t) k.after ∙ ap (λ b. cond b (kept_or x o) x) (eq-eqb t t refl) in
     some_kept x o (sym is ∙ none)
 
--- a store returns nothing, and a part one task alone
+-- a store returns nothing, and a part only one task
 pub store_keeps : (old new : Shelf) (t : ℕ) (o : Outcome) (r : TableReply) (u : ℕ) → IsPlainCall old new (store t o) r → (held old).returned u ≡ false
     → (held new).returned u ≡ false
 store_keeps old new t o r u k free = ap (λ (s : Results). s.returned u) k.after ∙ free

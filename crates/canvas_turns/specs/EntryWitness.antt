@@ -1,4 +1,4 @@
--- Runs by turns with entries: a sum and its product, whose first message is delivered again at both
+-- Runs by turns with entries: a sum and its product, whose first message is redelivered at both
 -- points, and a division by zero with a link, whose task isn't run, so that an entry for it does
 -- nothing.
 use Rattle.std.specs.Prelude.{false, List, [], ◌∷◌, Some, None, pos, codes}

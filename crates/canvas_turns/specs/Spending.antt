@@ -1,9 +1,9 @@
--- Runs by turns in which envelopes are delivered again where a list of entries says so. An entry
--- names a task and one of the two points of a script of the task's message: early, before its first
--- store, or late, before its envelope is acknowledged. A worker that comes to such a point spends
--- the first unspent entry for it, if there is one: within the same turn, before its ask is
--- answered, it has the envelope delivered again. So one entry at most is spent at each point.
--- Below, the behaviour and the plan are left out:
+-- Runs by turns in which envelopes are redelivered as a list of entries says. An entry names a task
+-- and one of the two points of a script of the task's message: early, before its first store, or
+-- late, before its envelope is acknowledged. A worker that comes to such a point spends the first
+-- unspent entry for it, if there is one: within the same turn, before its ask is answered, it
+-- redelivers the envelope. So at most one entry is spent at each point. Below, the behaviour and
+-- the plan are left out:
 --     TurnedAgain n before es us xs rest    after the steps before, with the entries es unspent,
 --                                           the turns us are taken, xs are the steps that they
 --                                           make, and the entries rest stay unspent
@@ -41,17 +41,17 @@ same_when v w = false
 abbrev pub is_for : ℕ → When → Entry → Bool
 is_for k w e = cond (same_when e.1 w) (eqb e.0 k) false
 
--- whether some entry is
+-- whether some entry is for this task and point
 abbrev pub has : ℕ → When → List Entry → Bool
 has k w [] = false
 has k w (e ∷ es) = is_for k w e || has k w es
 
--- the entries without the first that is
+-- the entries without the first for this task and point
 abbrev pub without : ℕ → When → List Entry → List Entry
 without k w [] = []
 without k w (e ∷ es) = cond (is_for k w e) es (e ∷ without k w es)
 
--- at a point, or at none: whether an entry is wanted there, and what is left of the entries
+-- at a point, or at none: whether an entry is wanted there, and the rest of the entries
 abbrev pub wanted : Option Entry → List Entry → Bool
 wanted None es = false
 wanted (Some x) es = has x.0 x.1 es
@@ -70,7 +70,7 @@ module _ (l : Line) where
   point_of w None = None
   point_of w (Some c) = Some (number_of c.own, w)
 
-  -- The point to which a script has come: the state is what is left to do of it. A dropped envelope
+  -- The point that a script has reached: the state is what is left to do of it. A dropped envelope
   -- reads as no message, so its script has none.
   abbrev pub point : CoreState Content PCarried → Option Envelope → Option Entry
   point (owning m) h = point_of Early (message_in h)
@@ -78,7 +78,7 @@ module _ (l : Line) where
   point s h = None
 
 module _ (behaviour : Behaviour) (l : Line) where
-  -- the point to which a worker has come
+  -- the point that a worker has reached
   abbrev pub comes_to : List Step → ℕ → Option Entry
   comes_to before p = point l (left behaviour l before p) (holds before p)
 
@@ -116,7 +116,7 @@ pub record ByEntries (behaviour : Behaviour) (l : Line) (n : ℕ) (es : List Ent
   pub workers : Each (IsWorker n) us
   pub turned : TurnedAgain behaviour l n [] es us xs rest
 
--- the turns of the list and then as many rounds as it takes until all have ended
+-- the turns of the list, and then as many rounds as it takes until all have ended
 pub record RanAgain (behaviour : Behaviour) (l : Line) (n : ℕ) (ts : List ℕ) (es : List Entry) :
     Type 0 where
   pub opens_back : FirstsRead l
@@ -142,7 +142,7 @@ module _ (behaviour : Behaviour) (l : Line) where
   abbrev pub IsRunTask : ℕ → Type 0
   IsRunTask k = (c : Content) × (number_of c.own ≡ k) × IsRunMessage behaviour l c
 
-  -- so many of the entries are of tasks that evaluation runs
+  -- m of the entries are of tasks that evaluation runs
   pub data RunEntries : List Entry → ℕ → Type 0 where
     no_entry : RunEntries [] 0
     one_run : {e : Entry} {es : List Entry} {m : ℕ} → IsRunTask e.0 → RunEntries es m
@@ -152,8 +152,7 @@ module _ (behaviour : Behaviour) (l : Line) where
 
 -- ---- the laws
 
--- it is a run by turns, so all that is said of these is said of it; its redeliveries are the
--- entries spent
+-- it is a run by turns, so the laws of these hold of it; its redeliveries are the entries spent
 abbrev pub EntriesAreTurns : Type 0
 EntriesAreTurns =
     (behaviour : Behaviour) (l : Line) (n : ℕ) (es : List Entry) (us : List ℕ) (xs : List Step)
@@ -167,8 +166,8 @@ EntriesFew =
     (rest : List Entry) → 1 ≤ n → ByEntries behaviour l n es us xs rest → Begins us ts n
     → length xs ≤ most_steps l n (length ts) (length es)
 
--- Where all have ended, the stores that answered Again are as many as the entries whose task
--- evaluation runs, and these are the entries that were spent.
+-- If all have ended, as many stores answered Again as there are entries whose task evaluation runs,
+-- and these are the entries that were spent.
 abbrev pub AgainsAreEntries : Type 0
 AgainsAreEntries =
     (behaviour : Behaviour) (l : Line) (n : ℕ) (es : List Entry) (us : List ℕ) (xs : List Step)
@@ -183,7 +182,7 @@ OwnPoints =
     → ByTurns behaviour l n us xs → (p : ℕ) (m : Content) → left behaviour l xs p ≡ owning m
     → comes_to behaviour l xs p ≡ Some (number_of m.own, Early)
 
--- At any time no more stores have answered Again than there were entries.
+-- At any time at most as many stores have answered Again as there were entries.
 abbrev pub AgainsFew : Type 0
 AgainsFew =
     (behaviour : Behaviour) (l : Line) (n : ℕ) (es : List Entry) (us : List ℕ) (xs : List Step)
@@ -195,7 +194,7 @@ NoEntries =
     (behaviour : Behaviour) (l : Line) (n : ℕ) (us : List ℕ) (xs : List Step)
     → ByTurns behaviour l n us xs → redeliveries_in xs ≡ 0 → ByEntries behaviour l n [] us xs []
 
--- the turns of a list with the rotation behind them are such turns
+-- the turns of a list with the rotation after them are such turns
 abbrev pub AgainTurns : Type 0
 AgainTurns =
     (behaviour : Behaviour) (l : Line) → IsPlan l → (n : ℕ) (ts : List ℕ) (es : List Entry)

@@ -1,5 +1,5 @@
--- What a new worker's record says, where its backend is one of a plan: in words of the worker that
--- the law of runs speaks of.
+-- What a new worker's record says if its backend is that of a plan, in terms of the worker that the
+-- law of runs speaks of.
 use Rattle.std.specs.Prelude.{◌≡◌, ℕ, Bool, true, None}
 use Rattle.canvas_task.specs.Apply.{Behaviour}
 use Rattle.canvas_history.specs.Passes.{QueueId, Empties}
@@ -15,9 +15,9 @@ use Rattle.canvas_runs.specs.Worker.{worker_of}
 use Rattle.canvas_worker.specs.Polls.{Ready, IsWanted, TellsOf, working_begun, tally_of}
 use Rattle.canvas_worker.specs.declared.record.Record.{Record}
 
--- The record's pass and seat have followed a core run from where they were given to the worker, and
--- each envelope that it delivered again was wanted of it; without a fault it ended with a rest that
--- was answered with no more, and the last take found nothing.
+-- The record's pass and seat have followed a core run from where the worker got them, and the gate
+-- may have wanted each redelivery. Without a fault the last ask was a rest answered with no more,
+-- and the last take found nothing.
 pub record Finished (behaviour : Behaviour) (may_want : ℕ → ℕ → Type 0) (plan : Roster) (number : ℕ)
     (pass : Pass) (seat : Seat) (r : Record) : Type 0 where
   pub same_number : r.number ≡ number
@@ -38,7 +38,7 @@ WorkersStart =
     → desk.plan ≡ roster_of l → pass.of ≡ broker → seat.of ≡ desk.id
     → Ready (working_begun broker desk number pass seat)
 
--- and its record says so, whatever was wanted of which worker for which task
+-- and its record says so, for any gate
 abbrev pub WorkersFinish : Type 0
 WorkersFinish =
     (behaviour : Behaviour) (wanted : ℕ → ℕ → Bool) (l : Line) → IsPlan l

@@ -1,4 +1,4 @@
--- Where a run on one thread stands, and what one ask of one of its workers changes.
+-- The state of a run on one thread, and what one ask of one of its workers changes.
 use Rattle.std.specs.Prelude.{◌≡◌, ◌≤◌, ◌<◌, ◌+◌, ◌⊎◌, min, ℕ, Bool, true, false, suc, IsTrue, All, List, [], ◌∷◌, ◌++◌, map, length, Some, None, Ok, IsSome, slice_get}
 use Rattle.canvas_runs.specs.Calls.{scripts_of, held_after}
 use Rattle.canvas_task.specs.Apply.{IsInRange, Behaviour}
@@ -38,13 +38,13 @@ use Rattle.canvas_by_turns.specs.steps.Noting.{Noted, kept}
 use Rattle.canvas_by_turns.specs.declared.notes.Keeps.{Keeps}
 use Rattle.canvas_by_turns.specs.declared.stage.Stage.{Stage}
 
--- the outcome of each of so many tasks, by number
+-- the outcome of each task from 1 to `tasks`
 abbrev pub rows_of : ℕ → Results → List State
 rows_of tasks results = map results.outcomes (numbers_from 1 tasks)
 
 -- ---- one ask
 
--- what a core asks, where a member that it reads has the task that the plan says
+-- what a core asks, if a member that it reads has the task that the plan says
 abbrev pub asks_of : Roster → Standing → Asked
 asks_of plan c = asked (located (book_on plan) c.left)
 
@@ -53,8 +53,8 @@ abbrev pub IsThere : Roster → Ask → Type 0
 IsThere plan (Read g i) = IsSome (slice_get (members plan g) i)
 IsThere plan a = Unit {0}
 
--- what the queue and the table answer where they hold this; a worker that rests is told whether
--- there is more
+-- the answers of the queue and the table if they hold this; the rest of a worker is answered with
+-- whether there is more
 abbrev pub AnswersNow : Roster → List Envelope → Results → Bool → Asked → Answer → Type 0
 AnswersNow plan queued results more (to_queue c) (from_queue x) = x ≡ queue.answer_of queued c
 AnswersNow plan queued results more (to_table c) (from_table r) = r ≡ reply_of plan results c
@@ -62,18 +62,18 @@ AnswersNow plan queued results more rest (rested m) = m ≡ more
 AnswersNow plan queued results more ack acked = Unit {0}
 AnswersNow plan queued results more a r = ⊥
 
--- the answer that it is
+-- the answer itself
 abbrev pub answer_now : Roster → List Envelope → Results → Bool → Asked → Answer
 answer_now plan queued results more (to_queue c) = from_queue (queue.answer_of queued c)
 answer_now plan queued results more (to_table c) = from_table (reply_of plan results c)
 answer_now plan queued results more rest = rested more
 answer_now plan queued results more a = acked
 
--- the step of worker p that asks this
+-- the step of worker p with this ask
 abbrev pub step_now : ℕ → Roster → List Envelope → Results → Bool → Asked → Step
 step_now p plan queued results more a = (p, (a, answer_now plan queued results more a))
 
--- the ask is one that the queue and the table take
+-- the queue and the table accept the ask
 abbrev pub MayAsk : Roster → Results → Asked → Type 0
 MayAsk plan results (to_table (store t o)) = t ≤ plan.tasks
 MayAsk plan results (to_table (part g t)) =
@@ -113,20 +113,20 @@ IsTried behaviour more c queue table table' =
     (table'.plan ≡ table.plan)
     × ((held table' ≡ held table) ⊎ Tried behaviour more c queue table table')
 
--- what the ask is answered where it is a store, First where it is none
+-- the answer to the ask if it is a store, and First if it is none
 abbrev pub store_answer : Results → Asked → Stored
 store_answer results (to_table (store t o)) = first_or (results.outcomes t)
 store_answer results a = First
 
--- a count with one more where a store answered Again, up to the greatest number that it holds
+-- a count with one more if a store answered Again, up to the greatest number that it holds
 abbrev pub counted_on : ℕ → Stored → ℕ
 counted_on m First = m
 counted_on m Again = min greatest_count (m + 1)
 
 -- ---- a redelivery
 
--- Before the ask of worker p's core is answered, the envelope that it holds is delivered again if
--- an entry for its point is unspent. That entry is spent, and the redelivery noted.
+-- Before the ask of worker p's core is answered, the envelope that it holds is redelivered if an
+-- entry for its point is unspent. That entry is spent, and the redelivery noted.
 pub record Redelivers (p : ℕ) (core : Standing) (s s' : Stage) : Type 0 where
   pub envelope :
       ((wanted (point_at core) s.again.items ≡ false) × (s'.queue ≡ s.queue)
@@ -140,18 +140,18 @@ pub record Redelivers (p : ℕ) (core : Standing) (s s' : Stage) : Type 0 where
 
 -- ---- a run
 
--- a core has asked this and was answered so
+-- the core has asked this and was answered so
 pub record IsCoreAt (behaviour : Behaviour) (l : Line) (ys : List (Asked × Answer)) (c : Standing) :
     Type 0 where
   pub left : located (book_of l) c.left
       ≡ left_after (enveloped behaviour (roster_of l)) taking (scripts_of ys)
   pub is_in : c.is_out ≡ false
-  -- inside a script it holds an envelope, and names the task of that one's message
+  -- inside a script it holds an envelope, and names the task of that envelope's message
   pub holds : standing.held c ≡ held_after None ys
   pub has_one : is_inside c.left ≡ true → IsSome (standing.held c)
   pub task : is_inside c.left ≡ true → c.task ≡ task_in (book_of l) (held_after None ys)
 
--- these turns and steps lead to the stage, whatever is delivered again
+-- these turns and steps lead to the stage, with any redeliveries
 pub record LeadsTo (behaviour : Behaviour) (l : Line) (n : ℕ) (us : List ℕ) (xs : List Step)
     (s : Stage) : Type 0 where
   pub by_turns : ByTurns behaviour l n us xs
@@ -163,13 +163,12 @@ pub record LeadsTo (behaviour : Behaviour) (l : Line) (n : ℕ) (us : List ℕ) 
   pub cores_are : (i : ℕ) (c : Standing) → slice_get s.cores.items i ≡ Some c
       → IsCoreAt behaviour l (by (suc i) xs) c
 
--- what a run is given: the entries that say what is delivered again, and which of its steps it
--- notes
+-- the input of a run: the entries that say what is redelivered, and which of its steps it notes
 abbrev pub Given : Type 0
 Given = List Entry × Keeps
 
--- the same between two turns, where these were the entries: of the answered asks there are at most
--- so many. They are noted behind those of the first messages
+-- like `LeadsTo`, between two turns of a run with these entries. There are at most `most` answered
+-- asks, and they are noted after those of the first messages
 pub record Reached (behaviour : Behaviour) (l : Line) (n most : ℕ) (given : Given) (us : List ℕ)
     (xs : List Step) (s : Stage) : Type 0 where
   pub leads : LeadsTo behaviour l n us xs s
@@ -187,8 +186,8 @@ HasReached behaviour l n most given us s =
 
 -- ---- a turn
 
--- A turn of worker p that answered an ask, before which it may have had an envelope delivered
--- again; or one that skipped.
+-- A turn of worker p that answered an ask, before which it may have redelivered an envelope; or one
+-- that skipped.
 abbrev pub IsTurn : (behaviour : Behaviour) → Bool → Line → ℕ → ℕ → Given → List ℕ → List Step
     → ℕ → Stage → Type 0
 IsTurn behaviour true l n most given us xs p s =
@@ -221,7 +220,7 @@ abbrev pub IsHalt : (behaviour : Behaviour) → Cause → Line → ℕ → ℕ �
 IsHalt behaviour Memory l n most given us s = IsHalfway behaviour l n s
 IsHalt behaviour Stopped l n most given us s = IsStopped behaviour l n most given us s
 
--- The first i turns of a round have been taken, after the turns us and the steps xs with so many
+-- The first i turns of a round have been taken, after the turns us and the steps xs with `steps`
 -- left: whether one answered an ask.
 abbrev pub IsPartOfRound : (behaviour : Behaviour) → Bool → Line → ℕ → ℕ → Given → List ℕ
     → List Step → ℕ → ℕ → Stage → Type 0

@@ -37,7 +37,7 @@ left_over e q = cc
 
 module _ (behaviour : Behaviour) (l : Line) (n : ℕ) (rows : List State) (r : Records) (did : ℕ → Course)
     (h : Headline behaviour l n rows r did) where
-  -- a run of a plan with a task that publishes nothing, whatever it stores
+  -- a run of a plan with a task that publishes nothing, with any stores
   pub none_idle : (k : ℕ) → In k (starts l) → published_in (told r.pass) ≡ [] → ⊥
   none_idle k i none = let one : total (weight k) [] ≡ 1 = subst (λ xs. total (weight k) xs ≡ 1) none (h.started k i) in absurd (omega (arith, one))
 

@@ -61,7 +61,7 @@ entry_of p e (calls q (redeliver x) a ∷ es) i = let r = entry_of p e es i in (
 entry_of p e (calls q (publish x) a ∷ es) (inl s) = (a, inl (λ j. calls (s j).0 (publish (s j).1) a))
 entry_of p e (calls q (publish x) a ∷ es) (inr i) = let r = entry_of p e es i in (r.0, inr r.1)
 
--- what stands in a course is sent in it
+-- each envelope in a course is sent in it
 sent_there : (before : Course) (e : Envelope) (after : Course) → In e (sent_in (before ++ inl e ∷ after))
 sent_there [] e after = inl refl
 sent_there (inl x ∷ before) e after = inr (sent_there before e after)

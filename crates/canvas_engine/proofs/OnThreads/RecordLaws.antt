@@ -1,4 +1,4 @@
--- The histories of a run have few calls, and behind a gate that wants nothing no call is made again.
+-- The histories of a run have few calls, and with a gate that wants nothing no call is made again.
 use Rattle.std.proofs.Common.{◌≡◌, ◌∙◌, ◌≤◌, ℕ, suc, ◌+◌, Bool, true, false, cond, eqb, List, [], ◌∷◌, ◌++◌, map, length, Option, Some, None, inl, inr, refl, ap, subst, arith}
 use Rattle.std.proofs.lemmas.List.{length-append}
 use Rattle.canvas_task.specs.Apply.{Behaviour}

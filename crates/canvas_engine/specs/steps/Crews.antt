@@ -1,5 +1,5 @@
--- A run on threads before its first publish, and once its workers have ended and worker 0 has taken
--- in what they left.
+-- A run on threads before its first publish, and once its workers have ended and worker 0 has
+-- joined what they left.
 use Rattle.std.specs.Prelude.{ℕ, suc, ◌≡◌, ◌≤◌, ◌+◌, List, [], ◌∷◌, length, map, min, All, Option, Some, None, IfNone, set}
 use Rattle.std.specs.Vec.{vec_capacity}
 use Rattle.canvas_task.specs.Apply.{Behaviour}
@@ -66,7 +66,7 @@ pub record Crew (behaviour : Behaviour) (l : Line) (n : ℕ) (queue : QueueId) (
   pub seat_joins : JoinSeats (roster_of l) seat_parted
       (map (λ (m : Mate behaviour (roster_of l)). m.ended.seat) mates) seat
 
--- counts with the number of their worker
+-- counts, with the number of their worker
 abbrev pub numbered_counts : ℕ → Counts → Tally
 numbered_counts k t =
     record {
@@ -78,14 +78,14 @@ numbered_counts k t =
       dropped = t.dropped;
     }
 
--- those of workers numbered from k on
+-- the tallies of workers numbered from k on
 abbrev pub tallies_from : (behaviour : Behaviour) → {plan : Roster} → ℕ → List (Mate behaviour plan)
     → List Tally
 tallies_from behaviour k [] = []
 tallies_from behaviour k (m ∷ ms) =
     numbered_counts k m.ended.tally ∷ tallies_from behaviour (suc k) ms
 
--- where none of them ended with a fault
+-- none of the workers ended with a fault
 pub record IsWellGathered (behaviour : Behaviour) (l : Line)
     (mates : List (Mate behaviour (roster_of l))) (counted : List Tally) : Type 0 where
   pub done : Each (λ (m : Mate behaviour (roster_of l)). IsOver m.ended) mates
@@ -101,7 +101,7 @@ pub record AreGathered (behaviour : Behaviour) (l : Line) (n : ℕ) (fault : Opt
   pub rows : length g.rows.items ≡ count_line l
   pub well : IfNone fault (IsWellGathered behaviour l crew.mates g.tallies.items)
 
--- what each of the workers, numbered from k on, delivered again was wanted of it
+-- the gate may have wanted each redelivery of each worker; they are numbered from k on
 abbrev pub AreWanted : (behaviour : Behaviour) (plan : Roster) → (ℕ → ℕ → Type 0) → ℕ
     → List (Mate behaviour plan) → Type 0
 AreWanted behaviour plan may_want k [] = Unit {0}
@@ -115,13 +115,13 @@ HaveWorked behaviour may_want l n fault g =
     (h : AreGathered behaviour l n fault g)
     × AreWanted behaviour (roster_of l) may_want 1 h.crew.mates
 
--- rows, one for each task, that this seat has read, with which it is then the other
+-- the rows, one for each task, that seat s has read, which is then seat t
 abbrev pub AreRead : Line → Seat → List State → Seat → Type 0
 AreRead l s rows t =
     (length rows ≡ count_line l) × Serves (roster_of l) s (reads_from 1 rows) t
 
--- what a run leaves whose worker 0 left this, with this seat: that one's tally has the first
--- messages too
+-- What a run leaves, if worker 0 left this record and this seat. Its tally counts the first
+-- messages too.
 abbrev pub leaves : Site → Record → Seat → ℕ → List Tally → Records
 leaves site r seat first tallies =
     record {
@@ -140,7 +140,7 @@ leaves site r seat first tallies =
           });
     }
 
--- the fault of a run that ended early for this cause, with rows
+-- the run ended early for this cause, and its fault has rows
 abbrev pub IsHaltedFor : Cause → RunFault → Type 0
 IsHaltedFor cause (Halted c (Some rows)) = c ≡ cause
 IsHaltedFor cause (Halted c None) = ⊥

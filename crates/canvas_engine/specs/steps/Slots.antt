@@ -1,9 +1,9 @@
 -- Workers' places in a run on threads: what each begins with, and what it leaves.
---     IsSplitOff plan k p s slot p' s'     a place of number k, whose pass and seat were split off
---     SplitsOff plan k p s slots p' s'     places made one after the other, numbered from k on
---     RanSlot may_want plan before after   the worker of this place has run to its end, or was
---                                          lost; what it delivered again was wanted of it
---     TakesIn plan p s slots p' s'       what the workers left, taken in one after the other
+--     IsSplitOff plan k p s slot p' s'     a slot of number k, whose pass and seat were split off
+--     SplitsOff plan k p s slots p' s'     slots made one after the other, numbered from k on
+--     RanSlot may_want plan before after   the worker of this slot has run to its end, or was lost;
+--                                          its gate may have wanted each redelivery
+--     TakesIn plan p s slots p' s'       what the workers left, joined one after the other
 use Rattle.std.specs.Prelude.{ℕ, suc, ◌≡◌, ◌<◌, List, [], ◌∷◌, length, slice_index_or, All, Any, Option, Some, None}
 use Rattle.canvas_history.specs.Passes.{QueueId}
 use Rattle.canvas_history.specs.Seats.{TableId}
@@ -28,7 +28,7 @@ use Rattle.canvas_engine.specs.declared.threads.slot.Slot.{Slot}
 abbrev pub AreOfSite : Site → Hands → Type 0
 AreOfSite site hands = (hands.pass.of ≡ site.broker) × (hands.seat.of ≡ site.backend.id)
 
--- a pass of this broker and a seat of this backend, with which nothing was done
+-- a pass of this broker and a seat of this backend, neither used yet
 abbrev pub HasHands : QueueId → TableId → Post → Type 0
 HasHands b d (Ready q t) = (q.of ≡ b) × (t.of ≡ d)
 HasHands b d p = ⊥
@@ -48,7 +48,7 @@ SplitsOff plan k p s (slot ∷ slots) p' s' =
     (q : Pass) × (t : Seat) × IsSplitOff plan k p s slot q t
     × SplitsOff plan (suc k) q t slots p' s'
 
--- a worker's pass and seat are lost only with its record
+-- a worker's pass and seat are lost only if its record is
 abbrev pub LeavesPost : (behaviour : Behaviour) → (ℕ → ℕ → Type 0) → Roster → ℕ → Post → Post
     → Type 0
 LeavesPost behaviour may_want plan n (Ready q t) (Done r) = Finished behaviour may_want plan n q t r
@@ -82,14 +82,14 @@ LacksMemory (Done r) = r.fault ≡ Some Memory
 LacksMemory Lost = Unit {0}
 LacksMemory (Ready q t) = ⊥
 
--- why workers ended early, if any did: for memory exactly where it was refused to one of them
+-- why workers ended early, if any did: for memory exactly if one of them was refused memory
 abbrev pub IsWhy : List Slot → Option Cause → Type 0
 IsWhy slots None = All (λ s. IsWell s.post) slots
 IsWhy slots (Some Memory) = Any (λ s. LacksMemory s.post) slots
 IsWhy slots (Some Stopped) =
     (All (λ s. IsWell s.post) slots → ⊥) × (Any (λ s. LacksMemory s.post) slots → ⊥)
 
--- what was left is of this broker and this backend
+-- what the worker left is of this broker and this backend
 abbrev pub IsPostOf : QueueId → TableId → Post → Type 0
 IsPostOf b d (Done r) = (r.pass.of ≡ b) × (r.seat.of ≡ d)
 IsPostOf b d p = ⊥

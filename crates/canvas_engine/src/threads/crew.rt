@@ -49,7 +49,7 @@ fn split_one<R: Wait>(rt: &R, site: &Site, hands: &mut Hands, number: u32) -> Re
     }
 }
 
-/// A place for each worker, from worker 1 on, with a pass and a seat of its own.
+/// Returns a slot for each worker, from worker 1 on, with a pass and a seat of its own.
 pub(crate) fn split_all<R: Wait>(
     rt: &R,
     alloc: Global,
@@ -73,7 +73,7 @@ pub(crate) fn split_all<R: Wait>(
     Ok(slots)
 }
 
-/// Whether each worker has left a record.
+/// Returns whether each worker has left a record.
 pub(crate) fn are_done(slots: &[Slot]) -> bool
     ensures { MatchBool result (All (λ s. LeftARecord s.post) slots.now)
         (All (λ s. LeftARecord s.post) slots.now → ⊥) }
@@ -95,7 +95,7 @@ fn lack_memory(slots: &[Slot]) -> bool
     slots.iter().any(|slot| slot.lacks_memory())
 }
 
-/// Why the workers ended early, if any did: for memory, where that was refused to one of them.
+/// Returns why the workers ended early, if any did: for memory if one of them was refused memory.
 pub(crate) fn fault_of(slots: &[Slot]) -> Option<Cause>
     ensures { IsWhy slots.now result }
 {
@@ -109,7 +109,7 @@ pub(crate) fn fault_of(slots: &[Slot]) -> Option<Cause>
     }
 }
 
-/// Puts what the workers counted behind what is there, for which there is room.
+/// Appends what the workers counted to the tallies, which have room for it.
 pub(crate) fn tally_all(slots: &[Slot], tallies: &mut Vec<Tally>)
     requires { vec_len tallies.old + length slots.now ≤ vec_capacity tallies.old }
     ensures { tallies.new.items ≡ tallies.old.items ++ map tally_in slots.now }
@@ -134,7 +134,7 @@ fn join_one<R: Wait>(rt: &R, site: &Site, hands: &mut Hands, left: Record)
     site.backend.join(&mut hands.seat, left.seat);
 }
 
-/// Takes in what the workers left, in the order of their numbers.
+/// Joins what the workers left, in the order of their numbers.
 pub(crate) fn join_all<R: Wait>(rt: &R, site: &Site, hands: &mut Hands, slots: Vec<Slot>)
     requires own { AreOfSite site.now hands.old }
     requires others { AreOf site.now.broker site.now.backend.id slots.items }

@@ -1,4 +1,4 @@
-//! The end of a run on threads: worker 0 works on by itself, and reads the rows.
+//! The end of a run on threads: worker 0 works until it finds nothing, and reads the rows.
 ghost use Rattle.std.specs.Prelude.{◌≡◌, ◌<◌, List, length, Option, Some, None, IfSome, IfOk, IfErr};
 ghost use Rattle.canvas_core.specs.declared.cause.Cause.{Cause};
 ghost use Rattle.canvas_semantics.specs.Line.{Line, count_line, tree_of};
@@ -31,12 +31,12 @@ use std::sync::Wait;
 #[derive(Drop)]
 pub(crate) struct Run {
     pub site: Site,
-    /// Worker 0's, with what it has taken in.
+    /// Worker 0's pass and seat, with those that were joined.
     pub hands: Hands,
-    /// How many messages are published before the workers begin.
+    /// The number of messages published before the workers begin.
     pub first: usize,
     pub rows: Vec<Option<Outcome>>,
-    /// Worker 0's, still to be counted, and the others', once they have ended.
+    /// Worker 0's tally, still to be counted, and the others', once they have ended.
     pub tallies: Vec<Tally>,
 }
 
@@ -53,8 +53,12 @@ fn read_rows(backend: &Backend, seat: &mut BackendSeat, plan: &Plan, rows: &mut 
     }
 }
 
-/// Worker 0's own work, once it has taken in all others: it goes on by itself until it finds
-/// nothing. None where its executor failed.
+/// Runs worker 0 on this thread, once it has joined all others, until it finds nothing. Returns
+/// None if its executor failed.
+///
+/// Worker 0 is a `Worker` too: without a fault its record says that its last take found nothing,
+/// which for the only live caller makes the history end in the empty queue. A loop over takes would
+/// need a measure, which nothing that a caller sees gives.
 fn work_alone<R: Wait + RandomSource + AllocGlobal, T: Tasks>(
     rt: &R,
     alloc: Global,
@@ -80,7 +84,7 @@ fn work_alone<R: Wait + RandomSource + AllocGlobal, T: Tasks>(
     work_to_end(rt, alloc, &shared, 0, pass, seat)
 }
 
-/// What a run leaves whose worker 0 left this, with what that has counted.
+/// Returns what a run leaves, if worker 0 left this record and the others counted this.
 fn records_of(site: Site, left: Record, first: usize, tallies: Vec<Tally>) -> Records
     requires { 0 < length tallies.items }
     ensures { result ≡ leaves site left left.seat first tallies.items }
@@ -96,7 +100,7 @@ fn records_of(site: Site, left: Record, first: usize, tallies: Vec<Tally>) -> Re
     }
 }
 
-/// Reads each task once, and hands out what the run leaves.
+/// Reads each task once, and returns what the run leaves.
 fn finish(
     plan: &Plan,
     site: Site,
@@ -129,7 +133,7 @@ fn finish(
 }
 
 impl Run {
-    /// The fault of a run that ended early, with the rows that it has.
+    /// Returns the fault of a run that ended early, with the rows that it has.
     pub(crate) fn halt<T: Tasks>(
         self,
         plan: &Plan,
@@ -144,7 +148,7 @@ impl Run {
             result }
         ensures why { IsHaltedFor cause result }
     {
-        // For the clauses alone.
+        // Only the clauses need it.
         let _tasks = tasks;
         let Run {
             site,
@@ -152,11 +156,12 @@ impl Run {
             mut rows,
             ..
         } = self;
+        // Worker 0 reads these rows as those of any run, so each is pending or the evaluation's.
         read_rows(&site.backend, &mut hands.seat, plan, &mut rows);
         RunFault::halted_with(cause, rows)
     }
 
-    /// Worker 0 works until it finds nothing, and reads each task once.
+    /// Has worker 0 work until it finds nothing, and reads each task once.
     pub(crate) fn conclude<R: Wait + RandomSource + AllocGlobal, T: Tasks, G: Gate>(
         self,
         rt: &R,
@@ -176,7 +181,7 @@ impl Run {
         ensures err { IfErr result
             (IsThreadFault workers (states (T.behaviour tasks.now) (tree_of plan.now))) }
     {
-        // For the clauses alone.
+        // Only the clauses need it.
         let _gate = gate;
         let Run {
             site,

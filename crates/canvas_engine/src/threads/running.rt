@@ -40,7 +40,7 @@ pub(crate) struct Start {
     envelopes: Vec<Letter>,
 }
 
-/// The queue and the table of a run, with worker 0's pass and seat.
+/// Makes the queue and the table of a run, with worker 0's pass and seat.
 fn open(alloc: Global, plan: &Plan) -> Result<(Site, Hands), Memory>
     ensures plan { IfOk result (λ r. r.0.backend.plan ≡ roster_of plan.now) }
     ensures pass { IfOk result (λ r. r.1.pass ≡ first_pass r.0.broker) }
@@ -51,7 +51,7 @@ fn open(alloc: Global, plan: &Plan) -> Result<(Site, Hands), Memory>
     Ok((Site { broker, backend }, Hands { pass, seat }))
 }
 
-/// Worker 0's tally, with room for those of so many more.
+/// Returns worker 0's tally, with room for those of `workers` others.
 fn first_tally(alloc: Global, workers: u32) -> Result<Vec<Tally>, Memory>
     ensures first { IfOk result (λ tallies. tallies.items ≡ nothing_counted 0 ∷ []) }
     ensures room { IfOk result (λ tallies. suc workers ≤ vec_capacity tallies) }
@@ -61,12 +61,16 @@ fn first_tally(alloc: Global, workers: u32) -> Result<Vec<Tally>, Memory>
     Ok(tallies)
 }
 
-/// All that a run reserves: its rows and tallies, its first envelopes, its queue and its table with
-/// a pass and a seat for each worker.
+/// Reserves all that a run needs: its rows and tallies, its first envelopes, its queue and its
+/// table with a pass and a seat for each worker.
+///
+/// All of it comes before the first publish, so a refusal here gives no rows. A refused publish
+/// gives rows that are all pending, since no worker has begun; a later refusal, or a stop, gives
+/// what is stored.
 fn reserve<R: Wait>(rt: &R, alloc: Global, plan: &Plan, workers: u32) -> Result<Start, Memory>
     ensures { IfOk result (IsStart plan.now workers) }
 {
-    // For the proof alone, as in `new_rows`.
+    // Only the proof needs it, as in `new_rows`.
     let _none: Option<Fault> = None;
     let rows = new_rows(alloc, plan)?;
     let tallies = first_tally(alloc, workers)?;
@@ -87,8 +91,8 @@ fn reserve<R: Wait>(rt: &R, alloc: Global, plan: &Plan, workers: u32) -> Result<
     })
 }
 
-/// Publishes the first messages, has the workers work, and takes in what they left. Why they ended
-/// early, if any did, stands beside.
+/// Publishes the first messages, runs the workers, and joins what they left. Also returns why they
+/// ended early, if any did.
 fn gather<R, T, G>(
     rt: &R,
     alloc: Global,
@@ -161,14 +165,14 @@ where
     }
 }
 
-/// Runs a plan with 1 to 16 workers, each on a thread of its own where one can be made and else on
-/// this one. The workers, numbered from 1, work until no message is in flight; then this thread, as
+/// Runs a plan with 1 to 16 workers, each on a thread of its own, or on this one if no thread can
+/// be made. The workers, numbered from 1, work until no message is in flight; then this thread, as
 /// worker 0, joins what they have seen, works until it finds nothing and reads each task once.
 ///
-/// `gate` is asked between a worker's take and its first store. One that never opens keeps the run
-/// from ending, unless `stop` is asked; a worker that it holds back doesn't sleep.
+/// `gate` is asked between a worker's take and its first store. A gate that never opens keeps the
+/// run from ending, unless `stop` is asked; a worker that it holds back doesn't sleep.
 ///
-/// Where memory is refused to a worker, or its executor fails, `stop` is asked, which ends all
+/// If memory is refused to a worker, or its executor fails, the run asks `stop`, which ends all
 /// others early. It is the caller's own and stays asked: another run with it ends as stopped at
 /// once.
 pub fn run<R, T, G>(
@@ -189,7 +193,7 @@ where
         (λ r. (ran : IsRun (T.behaviour tasks.now) plan.now workers r.0.rows r.1)
         × Headline (T.behaviour tasks.now) plan.now workers r.0.rows r.1 (course_of ran.run)) }
     ensures workers { IfOk result (λ _. AreWorkers workers) }
-    // what is delivered again, the gate may have wanted
+    // the gate may have wanted each redelivery
     ensures wanted { IfOk result (λ r. OnlyWanted (G.may_want gate.now) (told r.1.pass)) }
     ensures err { IfErr result
         (IsThreadFault workers (states (T.behaviour tasks.now) (tree_of plan.now))) }

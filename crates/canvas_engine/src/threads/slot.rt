@@ -1,4 +1,9 @@
-//! A worker's place in a run.
+//! The slot of a worker in a run.
+//!
+//! A worker's record replaces its pass and seat in its slot. So starting threads takes no memory, a
+//! thread that can't be made costs only its concurrency, and an executor that fails loses only one
+//! worker. The run is then halted for memory, without rows: the lost pass stays a live caller, of
+//! which nothing closed can be proved.
 ghost use Rattle.std.specs.Prelude.{◌≡◌, MatchBool};
 ghost use Rattle.canvas_engine.specs.steps.Slots.{LeftARecord, IsWell, LacksMemory, tally_in};
 
@@ -8,18 +13,18 @@ use canvas_broker::BrokerPass;
 use canvas_envelope::Letter;
 use canvas_worker::Record;
 
-/// What stands at a worker's place.
+/// The content of a worker's slot.
 #[derive(Drop)]
 pub(crate) enum Post {
-    /// What the worker begins with.
+    /// The pass and seat that the worker begins with.
     Ready(BrokerPass<Letter>, BackendSeat),
-    /// What it left.
+    /// The record that it left.
     Done(Record),
-    /// Its executor failed; its pass and its seat are lost.
+    /// Nothing, since its executor failed; its pass and its seat are lost.
     Lost,
 }
 
-/// The place of one worker.
+/// A worker's number and what it has.
 #[derive(Drop)]
 pub(crate) struct Slot {
     pub number: u32,
@@ -37,7 +42,7 @@ impl Slot {
         }
     }
 
-    /// Whether the worker ended without a fault.
+    /// Returns whether the worker ended without a fault.
     pub(crate) fn is_well(&self) -> bool
         ensures { MatchBool result (IsWell self.now.post) (IsWell self.now.post → ⊥) }
     {
@@ -48,7 +53,7 @@ impl Slot {
         }
     }
 
-    /// Whether a growth was refused to the worker.
+    /// Returns whether memory was refused to the worker, or its executor failed.
     pub(crate) fn lacks_memory(&self) -> bool
         ensures { MatchBool result (LacksMemory self.now.post) (LacksMemory self.now.post → ⊥) }
     {

@@ -38,8 +38,11 @@ where
     }
 }
 
-/// Runs each worker on a thread of its own, or on this one where none can be made: there they work
-/// one after the other, each until no message is in flight. So many were published before.
+/// Runs each worker on a thread of its own, or on this one if none can be made: there they work one
+/// after the other, each until no message is in flight. `first` messages were published before.
+///
+/// Two workers or more have threads even if their tasks are light, since a task may wait for
+/// another of its run. No contract depends on the number of threads.
 pub(crate) fn work_on_threads<R, T, G>(
     rt: &R,
     alloc: Global,

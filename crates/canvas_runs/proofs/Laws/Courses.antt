@@ -1,4 +1,4 @@
--- A worker publishes the messages that a body starts with behind its return of the part that completes the header.
+-- A worker publishes the messages that a body starts with after its return of the part that completes the header.
 use Rattle.std.proofs.Common.{◌≡◌, ℕ, suc, ◌≤◌, Bool, true, false, cond, eqb, List, [], ◌∷◌, ◌++◌, map, length, append-nil, Option, Some, None, refl, sym, ap, ap₂, subst, ◌∙◌, ◌⊎◌, inl, inr, ⊎_elim, arith}
 use Rattle.std.proofs.lemmas.Bool.{eqb-true, eq-eqb}
 use Rattle.canvas_task.specs.Apply.{Behaviour}
@@ -150,7 +150,7 @@ listed_by p (calls q (publish e) a ∷ es) = go (eqb q p) (listed_by p es)
     go true h = ap (λ xs. e ∷ xs) h
     go false h = h
 
--- ---- where a publish stands in a course
+-- ---- where a publish is in a course
 
 heads : {A : Type 0} {x y : A} {xs ys : List A} → ◌≡◌ {A = List A} (x ∷ xs) (y ∷ ys) → x ≡ y
 heads e = cc

@@ -56,7 +56,7 @@ Counts w u a r =
     (u.taken ≡ risen w.taken (of_queue takes_one a r)) × (u.published ≡ risen w.published (of_queue publishing a r))
     × (u.first ≡ risen w.first (of_table storing a r)) × (u.parts ≡ risen w.parts (of_table returning a r))
 
--- Where from w on its broker or its backend was asked a, and r is what the core is told of the answer; u is the worker before that.
+-- From w on, a was asked of its broker or its backend, and the core is answered r; u is the worker before that.
 pub record Asks (behaviour : Behaviour) (w u : Work) (a : Asked) (r : Reply) : Type 0 where
   pub asked_is : asked (left_at w) ≡ a
   pub suits : Suits a (replied r)
@@ -149,7 +149,7 @@ module _ (behaviour : Behaviour) (w u : Work) (a : Asked) (r : Reply) (ready : R
   told : located book (left_told behaviour book w.core.left r) ≡ answered (enveloped behaviour plan) (left_at w) answer
   told = told_located behaviour book (members_in plan) w.core.left w.core.task r sound x.found
 
-  -- where the worker is once its core is told
+  -- the worker's progress once its core is answered
   abbrev after : Progress
   after = record {
     pass = u.pass;
@@ -323,7 +323,7 @@ pub asked_badly : (behaviour : Behaviour) (w u v : Work) (a : Asked) (r : Reply)
     → Asks behaviour w u a r → EndsWith behaviour w e.fault v
 asked_badly behaviour w u v a r e is ready x = subst (λ f. EndsWith behaviour w f v) (sym is.1) (lost_is behaviour w u a r ready x v is.0)
 
--- a worker that is told that no more will come
+-- a worker that learns that no more will come
 pub rests_well : (behaviour : Behaviour) (w u v : Work) → v ≡ with_answer behaviour u (R.Rested false) → Ready w → Asks behaviour w u C.rest (R.Rested false)
     → EndsWith behaviour w None v
 rests_well behaviour w u v is ready x s leaves =
