@@ -8,7 +8,7 @@ use Rattle.canvas_semantics.specs.Line.{Line}
 use Rattle.canvas_values.specs.CanvasText.{most_bytes}
 use Rattle.canvas_answer.specs.Asking.{Asking}
 use Rattle.canvas_answer.specs.Told.{IsTold}
-use Rattle.canvas_answer.specs.declared.reporting.Form.TheVariants.{Json}
+use Rattle.canvas_answer.specs.declared.reporting.Format.TheVariants.{Json}
 
 -- the most bytes of an item that are kept: as many as the longest list of tasks' answers, an empty
 -- line after it, and one byte more than the longest canvas

@@ -33,8 +33,8 @@ use Rattle.canvas_answer.specs.declared.answer.Answer.{Answer}
 use Rattle.canvas_answer.specs.declared.celery.Collecting.{Collecting}
 use Rattle.canvas_answer.specs.declared.celery.OnCelery.{OnCelery}
 use Rattle.canvas_answer.specs.declared.celery.OnCelery.TheVariants.{Export, Keys, Collect}
-use Rattle.canvas_answer.specs.declared.reporting.Form.{Form}
-use Rattle.canvas_answer.specs.declared.reporting.Form.TheVariants.{Plain, Json, Explained}
+use Rattle.canvas_answer.specs.declared.reporting.Format.{Format}
+use Rattle.canvas_answer.specs.declared.reporting.Format.TheVariants.{Plain, Json, Explained}
 
 -- the commands that start a plan's line
 abbrev pub commands_of : (run : Text) → Target → Line → Text
@@ -62,7 +62,7 @@ AreReported run completes results l rows =
     × AreCompleted completes l stored rows
 
 -- the text of rows in each form; the rows of the engine's own tasks have the report of a run
-abbrev pub IsStoredText : Form → Line → List Row → Text → Type 0
+abbrev pub IsStoredText : Format → Line → List Row → Text → Type 0
 IsStoredText Plain l rows text =
     (text ≡ stored_said rows (tree_of l))
     × ((ss : List State) → rows ≡ map (λ s. Known s) ss
@@ -73,7 +73,7 @@ IsStoredText Explained l rows text = text ≡ explained_said [] rows (tree_of l)
 abbrev pub IsCollected : (run : Text) → Collecting → (results : Text) → Line → Answer → Type 0
 IsCollected run collecting results l a =
     (rows : List Row) × AreReported run collecting.completes results l rows
-    × ((text : Text) × IsStoredText collecting.manner.form l rows text × AnswersAll text 0 a)
+    × ((text : Text) × IsStoredText collecting.output.form l rows text × AnswersAll text 0 a)
 
 abbrev pub IsStoredPicture : (run : Text) → (completes : Bool) → (results : Text) → Line → Answer
     → Type 0

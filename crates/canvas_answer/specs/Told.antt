@@ -22,8 +22,8 @@ use Rattle.canvas_answer.specs.Asking.{Asking}
 use Rattle.canvas_answer.specs.Blamed.{AreBlames, Blames, blames}
 use Rattle.canvas_answer.specs.Raised.{AreShown, class_of, own_class}
 use Rattle.canvas_answer.specs.declared.answer.Answer.{Answer}
-use Rattle.canvas_answer.specs.declared.reporting.Form.{Form}
-use Rattle.canvas_answer.specs.declared.reporting.Form.TheVariants.{Plain, Json, Explained}
+use Rattle.canvas_answer.specs.declared.reporting.Format.{Format}
+use Rattle.canvas_answer.specs.declared.reporting.Format.TheVariants.{Plain, Json, Explained}
 
 -- the states of a run as rows
 abbrev pub known_states : List State → List Row
@@ -40,7 +40,7 @@ IsJsonOf fates blamed again rows t text =
     × (text ≡ json_lines (rows_wire (fate_at fates) (parameter_of blamed) again at t))
 
 -- the text if these parameters are at fault
-abbrev pub IsToldText : Form → Fates → Blames → (again : Option ℕ) → List Row → Tree → Text
+abbrev pub IsToldText : Format → Fates → Blames → (again : Option ℕ) → List Row → Tree → Text
     → Type 0
 IsToldText Plain fates blames again rows t text = text ≡ stored_said rows t
 IsToldText Json fates blames again rows t text =
@@ -49,7 +49,7 @@ IsToldText Json fates blames again rows t text =
 IsToldText Explained fates blames again rows t text = text ≡ explained_said fates rows t
 
 -- the text if it isn't known which tasks were called
-abbrev pub IsUntoldText : Form → List Row → Tree → Text → Type 0
+abbrev pub IsUntoldText : Format → List Row → Tree → Text → Type 0
 IsUntoldText Plain rows t text = text ≡ stored_said rows t
 IsUntoldText Json rows t text = IsJsonOf [] [] None rows t text
 IsUntoldText Explained rows t text = text ≡ explained_said [] rows t
@@ -63,14 +63,14 @@ report_status counts failed = if counts && failed then 3 else 0
 module _ (its : Asking) (run shown : Line) where
   -- The report of a run that ended early, if it has one; or nothing, since memory was refused. The
   -- fates of its tasks are seen from its rows.
-  abbrev pub IsReportText : Form → List State → Text → Type 0
+  abbrev pub IsReportText : Format → List State → Text → Type 0
   IsReportText form ss text =
       (rows : List Row)
       × AreShown (class_of (seen_fates (rows_from 1 ss) run)
       (own_class its.stubs its.errors run)) ss rows
       × IsUntoldText form rows (tree_of shown) text
 
-  abbrev pub IsEarlyText : Form → Option Report → Text → Type 0
+  abbrev pub IsEarlyText : Format → Option Report → Text → Type 0
   IsEarlyText form None text = text ≡ []
   IsEarlyText form (Some r) text = (text ≡ []) ⊎ IsReportText form r.rows text
 
@@ -83,14 +83,14 @@ module _ (its : Asking) (run shown : Line) where
     AreRows rows =
         AreShown (class_of (fates behaviour run) (own_class its.stubs its.errors run)) ss rows
 
-    abbrev pub IsTold : Form → (again : Option ℕ) → Text → Type 0
+    abbrev pub IsTold : Format → (again : Option ℕ) → Text → Type 0
     IsTold form again text =
         (rows : List Row) × AreRows rows
         × IsToldText form (fates behaviour run) (blames its.stubs (fates behaviour run) ss run)
         again rows (tree_of shown) text
 
     -- that is all that was asked for, in this form; if failures count, the status says of one
-    abbrev pub IsReport : Form → (counts : Bool) → (again : Option ℕ) → Answer → Type 0
+    abbrev pub IsReport : Format → (counts : Bool) → (again : Option ℕ) → Answer → Type 0
     IsReport form counts again a =
         (text : Text) × IsTold form again text
         × AnswersAll text

@@ -8,9 +8,9 @@ use Rattle.canvas_words.specs.declared.subcommand.Subcommand.{Subcommand}
 use Rattle.canvas_answer.specs.Given.{texts_of}
 use Rattle.canvas_answer.specs.Requests.{IsRequest}
 use Rattle.canvas_answer.specs.Stubbing.{AreSaid, added_by, standing}
-use Rattle.canvas_answer.specs.declared.asked.Asked.{Asked}
-use Rattle.canvas_answer.specs.declared.asked.Unasked.{Unasked}
-use Rattle.canvas_answer.specs.declared.asked.Unasked.TheVariants.{Words, Refused}
+use Rattle.canvas_answer.specs.declared.command_line.CommandLine.{CommandLine}
+use Rattle.canvas_answer.specs.declared.command_line.Unasked.{Unasked}
+use Rattle.canvas_answer.specs.declared.command_line.Unasked.TheVariants.{Words, Refused}
 use Rattle.canvas_answer.specs.declared.stubs.Answers.{Answers}
 use Rattle.canvas_answer.specs.declared.stubs.AskedStubs.{AskedStubs}
 
@@ -20,11 +20,12 @@ pub record AreAsked (given : List Row) (command : Subcommand) (stubs : AskedStub
   pub file : option_map (λ f. f.now) stubs.file ≡ first_of (codes "tasks") given
   pub stands : stubs.stands.now ≡ standing command
 
-pub record IsAskedWith (given : List Row) (command : Subcommand) (asked : Asked) : Type 0 where
+pub record IsAskedWith (given : List Row) (command : Subcommand) (asked : CommandLine) :
+    Type 0 where
   pub request : IsRequest given command asked.request
   pub stubs : AreAsked given command asked.stubs
 
-abbrev pub IsAskedBy : (words : List Text) → Asked → Type 0
+abbrev pub IsAskedBy : (words : List Text) → CommandLine → Type 0
 IsAskedBy words asked =
     (command : Subcommand) × (given : List Row) × IsAsked words command given
     × IsAskedWith given command asked

@@ -16,7 +16,7 @@ use crate::ignored::export_remark;
 use crate::input::results_of;
 use crate::plan::{lasting, plan_of, signed_plan};
 use crate::refusal::Refusal;
-use crate::reporting::{Form, Manner};
+use crate::reporting::{Format, OutputOptions};
 use canvas_celery::{Run, keys};
 use canvas_collect::{collect, complete};
 use canvas_export::{Start, Target};
@@ -53,7 +53,7 @@ pub struct Collecting {
     /// Whether the report also has the tasks that a failure reaches.
     pub completes: bool,
     /// The form. A report of what workers stored has no status of its own.
-    pub manner: Manner,
+    pub output: OutputOptions,
 }
 
 /// Answers a request about a canvas's run, whose results the input gives. `texts` arguments of the
@@ -147,7 +147,7 @@ fn answer_results(
 {
     let rows = stored_rows(alloc, plan, run, &results, collecting.completes)?;
     drop(results);
-    let text = text_of_rows(alloc, plan, &rows, collecting.manner.form)?;
+    let text = text_of_rows(alloc, plan, &rows, collecting.output.form)?;
     Ok(Answer::whole(text.into_bytes()))
 }
 
@@ -156,13 +156,13 @@ pub(crate) fn text_of_rows(
     alloc: Global,
     plan: &Plan,
     rows: &[Row],
-    form: Form,
+    form: Format,
 ) -> Result<String, Memory>
     ensures { IfOk result (λ text. IsStoredText form plan.now rows.now (string_bytes text)) }
 {
     match form {
-        Form::Plain => stored_text(alloc, plan, rows),
-        Form::Json => {
+        Format::Plain => stored_text(alloc, plan, rows),
+        Format::Json => {
             let told = Told {
                 fates: &[],
                 blamed: &[],
@@ -170,7 +170,7 @@ pub(crate) fn text_of_rows(
             };
             stored_rows_text(alloc, plan, rows, told)
         }
-        Form::Explained => explained_text(alloc, plan, rows, &[]),
+        Format::Explained => explained_text(alloc, plan, rows, &[]),
     }
 }
 

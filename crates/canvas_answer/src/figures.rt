@@ -2,7 +2,7 @@
 
 use crate::answer::Answer;
 use crate::refusal::Refusal;
-use crate::reporting::{FAILED, Form, Manner};
+use crate::reporting::{FAILED, Format, OutputOptions};
 use crate::warnings::Warnings;
 use canvas_envelope::Letter;
 use canvas_rewrite::Plan;
@@ -93,11 +93,11 @@ impl Figures {
     pub fn answer(
         self,
         alloc: Global,
-        manner: Manner,
+        output: OutputOptions,
         warnings: &Warnings,
     ) -> Result<Answer, Refusal> {
-        let out = check_text(alloc, self, warnings, manner.form)?;
-        let status = if manner.fails && !warnings.is_empty() {
+        let out = check_text(alloc, self, warnings, output.form)?;
+        let status = if output.fails && !warnings.is_empty() {
             FAILED
         } else {
             0
@@ -111,9 +111,9 @@ fn check_text(
     alloc: Global,
     figures: Figures,
     warnings: &Warnings,
-    form: Form,
+    form: Format,
 ) -> Result<String, AllocError> {
-    if form == Form::Json {
+    if form == Format::Json {
         let mut out = figures.json_line(alloc)?;
         warnings.push_objects(&mut out)?;
         return Ok(out);

@@ -4,9 +4,9 @@
 pub mod adapt;
 pub mod again;
 pub mod answer;
-pub mod asked;
 mod blamed;
 pub mod celery;
+pub mod command_line;
 pub mod each;
 pub mod errors;
 mod escaping;

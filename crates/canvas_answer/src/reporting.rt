@@ -10,7 +10,7 @@ ghost use Rattle.canvas_answer.specs.Answers.{AnswersAll, AnswersPart, bytes_of}
 ghost use Rattle.canvas_answer.specs.Asking.{asking};
 ghost use Rattle.canvas_answer.specs.Plans.{run_line};
 ghost use Rattle.canvas_answer.specs.Told.{IsEarlyText, IsReport, IsReportText, IsTold, report_status};
-ghost use Rattle.canvas_answer.specs.declared.reporting.Form.TheVariants.{Explained, Plain};
+ghost use Rattle.canvas_answer.specs.declared.reporting.Format.TheVariants.{Explained, Plain};
 
 use crate::answer::Answer;
 use crate::celery::text_of_rows;
@@ -25,7 +25,7 @@ use std::alloc::Global;
 
 /// How a report is printed.
 #[derive(Clone, Copy, PartialEq, Eq)]
-pub enum Form {
+pub enum Format {
     Plain,
     /// Each task is a JSON object in a line.
     Json,
@@ -35,8 +35,8 @@ pub enum Form {
 
 /// How a report is printed, and whether its result has a status.
 #[derive(Clone, Copy)]
-pub struct Manner {
-    pub form: Form,
+pub struct OutputOptions {
+    pub form: Format,
     /// Whether a failure of the canvas, or a warning, has a status of its own.
     pub fails: bool,
 }
@@ -44,7 +44,7 @@ pub struct Manner {
 /// The status of a canvas whose result is a failure, or that has a warning, if that is asked for.
 pub const FAILED: u8 = 3;
 
-impl Manner {
+impl OutputOptions {
     /// Returns the report of a whole run.
     fn whole_text<T: Tasks>(
         &self,
@@ -61,9 +61,9 @@ impl Manner {
             (string_bytes text)) }
     {
         match self.form {
-            Form::Plain => plain_text(alloc, plans, report, source),
-            Form::Json => source.json_of(alloc, plans, report, again),
-            Form::Explained => explained(alloc, plans, report, source),
+            Format::Plain => plain_text(alloc, plans, report, source),
+            Format::Json => source.json_of(alloc, plans, report, again),
+            Format::Explained => explained(alloc, plans, report, source),
         }
     }
 

@@ -9,7 +9,7 @@ ghost use Rattle.canvas_answer.specs.Names.{IsUnknownName, first_unknown};
 ghost use Rattle.canvas_answer.specs.Plans.{ArePlansOf, IsPlanRefusal, run_line};
 ghost use Rattle.canvas_answer.specs.Raised.{AreShown, class_of, own_class};
 ghost use Rattle.canvas_answer.specs.Told.{AreRows, IsJsonOf, IsTold, known_states};
-ghost use Rattle.canvas_answer.specs.declared.reporting.Form.TheVariants.{Json};
+ghost use Rattle.canvas_answer.specs.declared.reporting.Format.TheVariants.{Json};
 
 use crate::blamed::{blamed_in_run, builtin_of};
 use crate::named_rows::named_rows;

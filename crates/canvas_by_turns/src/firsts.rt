@@ -2,7 +2,7 @@
 ghost use Rattle.std.specs.Prelude.{◌≡◌, ◌++◌, map, IfOk, OnOk};
 ghost use Rattle.canvas_history.specs.Lists.{Each};
 ghost use Rattle.canvas_runs.specs.Worker.{sealed};
-ghost use Rattle.canvas_by_turns.specs.steps.Stages.{ReadsAs};
+ghost use Rattle.canvas_by_turns.specs.steps.TurnRuns.{ReadsAs};
 ghost use Rattle.canvas_effects.specs.Effects.{first_messages};
 ghost use Rattle.canvas_turns.specs.Turns.{FirstsRead};
 

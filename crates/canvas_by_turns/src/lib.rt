@@ -10,8 +10,8 @@ mod fault;
 mod firsts;
 mod notes;
 mod running;
-mod stage;
 mod turn_list;
+mod turn_run;
 
 pub use fault::RunFault;
 pub use firsts::first_envelopes;

@@ -6,17 +6,17 @@ ghost use Rattle.canvas_semantics.specs.States.{states};
 ghost use Rattle.canvas_history.specs.Table.{no_results};
 ghost use Rattle.canvas_backend.specs.Plain.{held};
 ghost use Rattle.canvas_history.specs.Roster.{roster_of};
-ghost use Rattle.canvas_turns.specs.Going.{most_steps};
+ghost use Rattle.canvas_turns.specs.Termination.{most_steps};
 ghost use Rattle.canvas_turns.specs.Turns.{Step, IsWorker};
 ghost use Rattle.canvas_by_turns.specs.Correct.{AreWorkers, AreTurns, IsAsked, IsWholeRun, IsWholeWithin, IsWholeAgain, IsRunFault, IsFaultWithin};
 ghost use Rattle.canvas_by_turns.specs.Noted.{IsStepped, step_seen};
 ghost use Rattle.canvas_by_turns.specs.Traced.{IsTraced};
 ghost use Rattle.canvas_by_turns.specs.steps.AgainRuns.{IsNotedWithin, IsAgainFault};
-ghost use Rattle.canvas_by_turns.specs.steps.Stages.{rows_of, Given, Reached, HasReached, IsNew, IsPartOfRound, IsHaltInRound, IsRunThrough, IsEarlyEnd};
+ghost use Rattle.canvas_by_turns.specs.steps.TurnRuns.{rows_of, Given, Reached, HasReached, IsNew, IsPartOfRound, IsHaltInRound, IsRunThrough, IsEarlyEnd};
 
 use crate::RunFault;
 use crate::notes::{Keeps, Step as NotedStep, letters_of};
-use crate::stage::Stage;
+use crate::turn_run::TurnRun;
 use canvas_core::Cause;
 use canvas_envelope::Letter;
 use canvas_report::Report;
@@ -29,24 +29,24 @@ use std::alloc::Global;
 /// Takes a turn of each worker, from the first to the last. Returns whether an ask was answered.
 fn run_round<T: Tasks>(
     alloc: Global,
-    stage: &mut Stage,
+    turn_run: &mut TurnRun,
     plan: &Plan,
     tasks: &T,
     workers: u32,
 ) -> Result<bool, Cause>
     requires { (most : ℕ) × (given : Given) × (us : List ℕ)
-        × HasReached (T.behaviour tasks.now) plan.now workers most given us stage.old }
+        × HasReached (T.behaviour tasks.now) plan.now workers most given us turn_run.old }
     ensures ok { IfOk result (λ b. (most : ℕ) (given : Given) (us : List ℕ) (xs : List Step)
-        → Reached (T.behaviour tasks.now) plan.now workers most given us xs stage.old
+        → Reached (T.behaviour tasks.now) plan.now workers most given us xs turn_run.old
         → IsPartOfRound (T.behaviour tasks.now) b plan.now workers most given us xs workers
-        stage.old.steps stage.new) }
+        turn_run.old.steps turn_run.new) }
     ensures err { IfErr result (λ cause. (most : ℕ) (given : Given) (us : List ℕ) (xs : List Step)
-        → Reached (T.behaviour tasks.now) plan.now workers most given us xs stage.old
-        → IsHaltInRound (T.behaviour tasks.now) cause plan.now workers most given us stage.new) }
+        → Reached (T.behaviour tasks.now) plan.now workers most given us xs turn_run.old
+        → IsHaltInRound (T.behaviour tasks.now) cause plan.now workers most given us turn_run.new) }
 {
     let mut answered = false;
     for index in 0..workers {
-        match stage.turn(alloc, plan, tasks, index + 1) {
+        match turn_run.turn(alloc, plan, tasks, index + 1) {
             Ok(is_answered) => answered |= is_answered,
             Err(cause) => return Err(cause),
         }
@@ -57,25 +57,25 @@ fn run_round<T: Tasks>(
 /// Takes the turns of a list.
 fn run_list<T: Tasks>(
     alloc: Global,
-    stage: &mut Stage,
+    turn_run: &mut TurnRun,
     plan: &Plan,
     tasks: &T,
     workers: u32,
     turns: &[u32],
 ) -> Result<(), Cause>
     requires reached { (most : ℕ) × (given : Given)
-        × Reached (T.behaviour tasks.now) plan.now workers most given [] [] stage.old }
+        × Reached (T.behaviour tasks.now) plan.now workers most given [] [] turn_run.old }
     requires turns { AreTurns workers turns.now }
     ensures ok { OnOk result ((most : ℕ) (given : Given)
-        → Reached (T.behaviour tasks.now) plan.now workers most given [] [] stage.old
-        → HasReached (T.behaviour tasks.now) plan.now workers most given turns.now stage.new) }
+        → Reached (T.behaviour tasks.now) plan.now workers most given [] [] turn_run.old
+        → HasReached (T.behaviour tasks.now) plan.now workers most given turns.now turn_run.new) }
     ensures err { IfErr result (λ cause. (most : ℕ) (given : Given)
-        → Reached (T.behaviour tasks.now) plan.now workers most given [] [] stage.old
+        → Reached (T.behaviour tasks.now) plan.now workers most given [] [] turn_run.old
         → IsEarlyEnd (T.behaviour tasks.now) cause plan.now workers most given turns.now
-        stage.new) }
+        turn_run.new) }
 {
     for worker in turns {
-        match stage.turn(alloc, plan, tasks, *worker) {
+        match turn_run.turn(alloc, plan, tasks, *worker) {
             Ok(_answered) => (),
             Err(cause) => return Err(cause),
         }
@@ -86,24 +86,24 @@ fn run_list<T: Tasks>(
 /// Takes turns in rotation, until all workers are at their ends.
 fn run_rounds<T: Tasks>(
     alloc: Global,
-    stage: &mut Stage,
+    turn_run: &mut TurnRun,
     plan: &Plan,
     tasks: &T,
     workers: u32,
     turns: &[u32],
 ) -> Result<(), Cause>
     requires { (most : ℕ) × (given : Given)
-        × HasReached (T.behaviour tasks.now) plan.now workers most given turns.now stage.old }
+        × HasReached (T.behaviour tasks.now) plan.now workers most given turns.now turn_run.old }
     ensures ok { OnOk result ((most : ℕ) (given : Given)
-        → HasReached (T.behaviour tasks.now) plan.now workers most given turns.now stage.old
-        → IsRunThrough (T.behaviour tasks.now) plan.now workers most given turns.now stage.new) }
+        → HasReached (T.behaviour tasks.now) plan.now workers most given turns.now turn_run.old
+        → IsRunThrough (T.behaviour tasks.now) plan.now workers most given turns.now turn_run.new) }
     ensures err { IfErr result (λ cause. (most : ℕ) (given : Given)
-        → HasReached (T.behaviour tasks.now) plan.now workers most given turns.now stage.old
+        → HasReached (T.behaviour tasks.now) plan.now workers most given turns.now turn_run.old
         → IsEarlyEnd (T.behaviour tasks.now) cause plan.now workers most given turns.now
-        stage.new) }
+        turn_run.new) }
 {
     loop {
-        match run_round(alloc, stage, plan, tasks, workers) {
+        match run_round(alloc, turn_run, plan, tasks, workers) {
             Ok(true) => (),
             Ok(false) => return Ok(()),
             Err(cause) => return Err(cause),
@@ -112,25 +112,27 @@ fn run_rounds<T: Tasks>(
 }
 
 /// Publishes the first messages, and runs.
-fn run_stage<T: Tasks>(
+fn run_through<T: Tasks>(
     alloc: Global,
-    stage: &mut Stage,
+    turn_run: &mut TurnRun,
     plan: &Plan,
     tasks: &T,
     workers: u32,
     turns: &[u32],
 ) -> Result<(), Cause>
     requires planned { IsPlan plan.now }
-    requires new { IsNew plan.now workers stage.old }
+    requires new { IsNew plan.now workers turn_run.old }
     requires turns { AreTurns workers turns.now }
-    ensures ok { OnOk result (IsRunThrough (T.behaviour tasks.now) plan.now workers stage.old.steps
-        (stage.old.again.items, stage.old.notes.keeps) turns.now stage.new) }
+    ensures ok { OnOk result (IsRunThrough (T.behaviour tasks.now) plan.now workers
+        turn_run.old.steps (turn_run.old.again.items, turn_run.old.notes.keeps) turns.now
+        turn_run.new) }
     ensures err { IfErr result (λ cause. IsEarlyEnd (T.behaviour tasks.now) cause plan.now workers
-        stage.old.steps (stage.old.again.items, stage.old.notes.keeps) turns.now stage.new) }
+        turn_run.old.steps (turn_run.old.again.items, turn_run.old.notes.keeps) turns.now
+        turn_run.new) }
 {
-    match stage.open(alloc, plan) {
-        Ok(()) => match run_list(alloc, stage, plan, tasks, workers, turns) {
-            Ok(()) => run_rounds(alloc, stage, plan, tasks, workers, turns),
+    match turn_run.open(alloc, plan) {
+        Ok(()) => match run_list(alloc, turn_run, plan, tasks, workers, turns) {
+            Ok(()) => run_rounds(alloc, turn_run, plan, tasks, workers, turns),
             Err(cause) => Err(cause),
         },
         Err(Memory) => Err(Cause::Memory),
@@ -149,13 +151,13 @@ pub fn new_rows(alloc: Global, plan: &Plan) -> Result<Vec<Option<Outcome>>, Memo
 }
 
 /// Returns the report of a stage, whose rows were reserved.
-fn report_of(stage: &Stage, plan: &Plan, rows: Vec<Option<Outcome>>) -> Report
-    requires plan { stage.now.table.plan ≡ roster_of plan.now }
+fn report_of(turn_run: &TurnRun, plan: &Plan, rows: Vec<Option<Outcome>>) -> Report
+    requires plan { turn_run.now.table.plan ≡ roster_of plan.now }
     requires rows { length rows.items ≡ count_line plan.now }
-    ensures { result.rows ≡ rows_of (count_line plan.now) (held stage.now.table) }
+    ensures { result.rows ≡ rows_of (count_line plan.now) (held turn_run.now.table) }
 {
     let mut rows = rows;
-    stage.read_rows(plan, &mut rows);
+    turn_run.read_rows(plan, &mut rows);
     Report {
         rows: ListOf::of(rows),
     }
@@ -190,18 +192,18 @@ fn run_steps<T: Tasks>(
     let Ok(rows) = new_rows(alloc, plan) else {
         return Err(RunFault::halted(Cause::Memory));
     };
-    let Ok(mut stage) = Stage::new(alloc, plan, workers, again, steps, keeps) else {
+    let Ok(mut turn_run) = TurnRun::new(alloc, plan, workers, again, steps, keeps) else {
         return Err(RunFault::halted(Cause::Memory));
     };
-    match run_stage(alloc, &mut stage, plan, tasks, workers, turns) {
+    match run_through(alloc, &mut turn_run, plan, tasks, workers, turns) {
         Ok(()) => Ok(Ran {
-            report: report_of(&stage, plan, rows),
-            repeats: stage.repeats(),
-            steps: stage.into_steps(),
+            report: report_of(&turn_run, plan, rows),
+            repeats: turn_run.repeats(),
+            steps: turn_run.into_steps(),
         }),
         Err(cause) => Err(RunFault::Halted {
             cause,
-            rows: Some(report_of(&stage, plan, rows)),
+            rows: Some(report_of(&turn_run, plan, rows)),
         }),
     }
 }

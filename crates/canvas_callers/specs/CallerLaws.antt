@@ -19,8 +19,8 @@ use Rattle.canvas_runs.specs.Law.{its_state, publications}
 use Rattle.canvas_history.specs.Lists.{Each}
 use Rattle.canvas_runs.specs.Run.{Run, Closed, published_all}
 use Rattle.canvas_runs.specs.Worker.{sealed}
-use Rattle.canvas_callers.specs.Accounts.{QueueAccounts, TableAccounts}
-use Rattle.canvas_callers.specs.Crew.{Ran, EndedWell, ReadsWhatIsHeld}
+use Rattle.canvas_callers.specs.PerCaller.{QueuePerCaller, TablePerCaller}
+use Rattle.canvas_callers.specs.CallerRuns.{Ran, EndedWell, ReadsWhatIsHeld}
 
 -- what a pass has seen, with the joins that it owes
 abbrev pub broker_calls_seen : Pass → List (Entries Envelope)
@@ -34,13 +34,13 @@ held_state l seat t = (results (roster_of l) seat.seen).outcomes t
 abbrev pub OneQueue : Type 0
 OneQueue =
     (behaviour : Behaviour) (l : Line) (pass : Pass) (seat : Seat) (r : Ran behaviour l pass seat)
-    → QueueAccounts behaviour (roster_of l) r.mates (published_all (map sealed r.opening))
+    → QueuePerCaller behaviour (roster_of l) r.callers (published_all (map sealed r.opening))
     r.works.made (broker_calls_seen pass)
 
 abbrev pub OneTable : Type 0
 OneTable =
     (behaviour : Behaviour) (l : Line) (pass : Pass) (seat : Seat) (r : Ran behaviour l pass seat)
-    → TableAccounts behaviour (roster_of l) r.mates (backend_calls r.works.run ++ r.closing)
+    → TablePerCaller behaviour (roster_of l) r.callers (backend_calls r.works.run ++ r.closing)
     seat.seen
 
 -- they are those of a run, which is closed if all ended well

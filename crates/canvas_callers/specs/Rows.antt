@@ -13,7 +13,7 @@ use Rattle.canvas_runs.specs.Following.{Pass, Seat}
 use Rattle.canvas_runs.specs.Calls.{TableAnswered}
 use Rattle.canvas_runs.specs.Tally.{Tally, EachCounts}
 use Rattle.canvas_callers.specs.CallerLaws.{broker_calls_seen}
-use Rattle.canvas_callers.specs.Crew.{Mate, Ran, EndedWell, OwnTally}
+use Rattle.canvas_callers.specs.CallerRuns.{CallerRun, Ran, EndedWell, OwnTally}
 
 -- a read of each task, the first being task k
 abbrev pub reads_from : ℕ → List State → List TableAnswered
@@ -53,7 +53,7 @@ TalliesCount =
     → (pass : Pass) (seat : Seat) (r : Ran behaviour l pass seat)
     → EndedWell behaviour l pass seat r → (own : Tally) → OwnTally behaviour l pass seat r own
     → EachCounts (broker_calls_seen pass) seat.seen 0
-    (own ∷ map (λ (m : Mate behaviour (roster_of l)). m.ended.tally) r.mates)
+    (own ∷ map (λ (m : CallerRun behaviour (roster_of l)). m.ended.tally) r.callers)
 
 -- there is such a run: of an empty group's plan, by one worker
 abbrev pub empty_group : Line

@@ -6,7 +6,7 @@
 
 ghost use Rattle.canvas_callers.specs.CallerLaws.{OneQueue, OneTable, IsARun, ReadsHeld, RowsMay, RowsAre, CanvasRowsMay, CanvasRowsAre, PublishesByCause, PublishesByItsCause, PublishesOnce, CompletesOnce};
 ghost use Rattle.canvas_callers.specs.Rows.{RowsOfWell, RowsOfAny, TalliesCount, ARunStands};
-ghost use Rattle.canvas_callers.specs.Crew.{AreMates, AreRan};
+ghost use Rattle.canvas_callers.specs.CallerRuns.{AreCallerRuns, AreRan};
 
 /// States that what each caller saw makes a run. If worker 0 has made the passes and the seats of
 /// the workers, has joined all again, and each has followed a core run, then the one legal list of
@@ -17,7 +17,7 @@ pub fn runs_of_callers()
     ensures seats { OneTable }
     ensures run { IsARun }
     ensures reads { ReadsHeld }
-    ensures mates { AreMates }
+    ensures callers { AreCallerRuns }
     ensures sides { AreRan }
 {}
 

@@ -13,8 +13,8 @@ use Rattle.canvas_answer.specs.OnCelery.{IsOnCelery}
 use Rattle.canvas_answer.specs.Pictured.{IsPictured}
 use Rattle.canvas_answer.specs.Plans.{ArePlansOf, IsAdaptedText, IsCanvasOf, IsSpelled, IsTextPlan}
 use Rattle.canvas_answer.specs.declared.answer.Answer.{Answer}
-use Rattle.canvas_answer.specs.declared.asked.Verb.{Verb}
-use Rattle.canvas_answer.specs.declared.asked.Verb.TheVariants as verb
+use Rattle.canvas_answer.specs.declared.command_line.Verb.{Verb}
+use Rattle.canvas_answer.specs.declared.command_line.Verb.TheVariants as verb
 use Rattle.canvas_answer.specs.declared.graph.States.{States}
 use Rattle.canvas_answer.specs.declared.graph.States.TheVariants as states
 use Rattle.canvas_command.specs.Messages.{ArePublished}
@@ -30,13 +30,13 @@ module _ (behaviour : Behaviour) (its : Asking) (bytes : Text) where
 
   -- no clause is about statistics and warnings
   abbrev pub IsAnswerTo : Verb → Answer → Type 0
-  IsAnswerTo (verb.Run workers manner) a =
-      IsRunOf behaviour its bytes (IsThreadFault workers) manner.form manner.fails None a
-  IsAnswerTo (verb.Turns workers turns again steps manner) a =
-      IsByTurns behaviour its bytes workers turns.items steps manner.form manner.fails a
+  IsAnswerTo (verb.Run workers output) a =
+      IsRunOf behaviour its bytes (IsThreadFault workers) output.form output.fails None a
+  IsAnswerTo (verb.Turns workers turns again steps output) a =
+      IsByTurns behaviour its bytes workers turns.items steps output.form output.fails a
   IsAnswerTo (verb.Normal numbers) a =
       (c : Tree) × IsCanvasOf its.adapts bytes c × IsLineOf numbers c a
-  IsAnswerTo (verb.Check manner) a = Unit {0}
+  IsAnswerTo (verb.Check output) a = Unit {0}
   IsAnswerTo (verb.Adapt renames) a =
       (made : Text) × IsAdaptedText bytes renames.items made × AnswersAll made 0 a
   IsAnswerTo (verb.Graph states) a = IsPictureAsked states a

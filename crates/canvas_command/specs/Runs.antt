@@ -14,14 +14,14 @@ use Rattle.canvas_answer.specs.Told.{AreRows, IsEarlyText, IsReport, report_stat
 use Rattle.canvas_answer.specs.declared.answer.Answer.{Answer}
 use Rattle.canvas_answer.specs.declared.refusal.Refusal.{Refusal}
 use Rattle.canvas_answer.specs.declared.refusal.Refusal.TheVariants as refusal
-use Rattle.canvas_answer.specs.declared.reporting.Form.{Form}
+use Rattle.canvas_answer.specs.declared.reporting.Format.{Format}
 use Rattle.canvas_core.specs.declared.cause.Cause.TheVariants.{Memory, Stopped}
 use Rattle.canvas_by_turns.specs.declared.fault.RunFault.{RunFault}
 use Rattle.canvas_by_turns.specs.declared.fault.RunFault.TheVariants.{BadWorkers, BadTurn, Halted}
 use Rattle.canvas_by_turns.specs.Correct.{IsRunFault}
 use Rattle.canvas_by_turns.specs.Noted.{IsStepped, step_seen}
 use Rattle.canvas_by_turns.specs.declared.notes.Step.{Step}
-use Rattle.canvas_turns.specs.Spending.{Entry}
+use Rattle.canvas_turns.specs.Redeliveries.{Entry}
 use Rattle.canvas_steps.specs.Lines.{none_held, steps_text}
 use Rattle.canvas_report.specs.Failing.{any_failed}
 use Rattle.canvas_report.specs.declared.report.Report.{Report}
@@ -41,7 +41,7 @@ rows_in (Halted cause rows) = rows
 
 -- the part of the report that there is for a run that ended early, with the refusal that says why
 -- that isn't all
-abbrev pub IsEarlyReport : Asking → (run shown : Line) → Form → RunFault → Answer → Type 0
+abbrev pub IsEarlyReport : Asking → (run shown : Line) → Format → RunFault → Answer → Type 0
 IsEarlyReport its run shown form fault a =
     (text : Text) × AnswersPart text (refusal_of fault) a
     × IsEarlyText its run shown form (rows_in fault) text
@@ -49,7 +49,7 @@ IsEarlyReport its run shown form fault a =
 -- The whole report of evaluating the canvas of the text, if tasks have stubs, some by their
 -- numbers, and these raise exceptions of any class; or the part that there is, if `Says` is what a
 -- fault of a run with these states says.
-abbrev pub IsRunOf : Behaviour → Asking → Text → (List State → RunFault → Type 0) → Form
+abbrev pub IsRunOf : Behaviour → Asking → Text → (List State → RunFault → Type 0) → Format
     → (counts : Bool) → (again : Option ℕ) → Answer → Type 0
 IsRunOf behaviour its bytes Says form counts again a =
     (shown : Line) × (run : Line) × ArePlansOf its bytes shown run
@@ -72,7 +72,7 @@ IsSteppedOf behaviour its bytes workers turns counts a =
 
 -- the answer of a run by turns: its report, or its steps if these are asked for
 abbrev pub IsByTurns : Behaviour → Asking → Text → (workers : ℕ) → (turns : List ℕ)
-    → (steps : Bool) → Form → (counts : Bool) → Answer → Type 0
+    → (steps : Bool) → Format → (counts : Bool) → Answer → Type 0
 IsByTurns behaviour its bytes workers turns false form counts a =
     (again : Option ℕ)
     × IsRunOf behaviour its bytes (IsRunFault workers turns) form counts again a

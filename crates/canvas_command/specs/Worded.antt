@@ -14,9 +14,9 @@ use Rattle.canvas_answer.specs.Plans.{IsCanvasOf}
 use Rattle.canvas_answer.specs.Requests.{IsRequest}
 use Rattle.canvas_answer.specs.Stubbing.{AreAnswers}
 use Rattle.canvas_answer.specs.declared.answer.Answer.{Answer}
-use Rattle.canvas_answer.specs.declared.asked.Request.{Request}
-use Rattle.canvas_answer.specs.declared.asked.Work.{Work}
-use Rattle.canvas_answer.specs.declared.asked.Work.TheVariants.{One, Each, Failures, Page}
+use Rattle.canvas_answer.specs.declared.command_line.Request.{Request}
+use Rattle.canvas_answer.specs.declared.command_line.Action.{Action}
+use Rattle.canvas_answer.specs.declared.command_line.Action.TheVariants.{One, Each, Failures, Page}
 use Rattle.canvas_answer.specs.declared.refusal.Refusal.{Refusal}
 use Rattle.canvas_answer.specs.declared.stubs.Answers.{Answers}
 use Rattle.canvas_command.specs.Asked.{IsAnswerTo}
@@ -38,16 +38,16 @@ IsToldAs true before after =
 -- Tasks that have no stub behave so; the input has these bytes, if they are known.
 module _ (behaviour : Behaviour) (input : Option Text) where
   -- the work on the bytes of one text, which is the input if the file is `-`; or of many texts
-  abbrev pub IsWorkDone : Asking → (file : Text) → Work → Answer → Type 0
-  IsWorkDone its file (One verb) a =
+  abbrev pub IsActionDone : Asking → (file : Text) → Action → Answer → Type 0
+  IsActionDone its file (One verb) a =
       (bytes : Text) × IsCanvasRead file input bytes
       × IsAnswerTo (stubs_behaviour its.stubs behaviour) its bytes verb a
-  IsWorkDone its file (Each each) a = IsEachDone each.fails a
-  IsWorkDone its file (Failures failures) a =
+  IsActionDone its file (Each each) a = IsEachDone each.fails a
+  IsActionDone its file (Failures failures) a =
       (bytes : Text) × IsCanvasRead file input bytes
       × ((c : Tree) × IsCanvasOf its.adapts bytes c
       × IsFailuresDone (stubs_behaviour its.stubs behaviour) its c failures.fails a)
-  IsWorkDone its file (Page failures) a =
+  IsActionDone its file (Page failures) a =
       (bytes : Text) × IsCanvasRead file input bytes
       × IsPaged behaviour its failures.word.now bytes a
 
@@ -55,8 +55,8 @@ module _ (behaviour : Behaviour) (input : Option Text) where
   -- the answer if some tasks answer so
   abbrev pub IsAnswerWith : Request → Answers → Answer → Type 0
   IsAnswerWith request answers a =
-      IsWorkDone behaviour input (asked_of request.adapts answers) request.file.now
-      request.work a
+      IsActionDone behaviour input (asked_of request.adapts answers) request.file.now
+      request.action a
 
   -- the request of the words is done
   abbrev pub IsDoneFor : (words : List Text) → Answer → Type 0

@@ -6,7 +6,7 @@ use canvas_answer::figures::Figures;
 use canvas_answer::plan::lasting;
 use canvas_answer::prepared::Spelled;
 use canvas_answer::refusal::Refusal;
-use canvas_answer::reporting::Manner;
+use canvas_answer::reporting::OutputOptions;
 use canvas_answer::source::Source;
 use canvas_answer::warnings::warnings_of;
 use canvas_finding::{Reading, Signature, read};
@@ -31,25 +31,25 @@ fn figures_of<T: Tasks>(
 /// Answers for a canvas that is accepted and has these signatures.
 fn checked<T: Tasks>(
     alloc: Global,
-    manner: Manner,
+    output: OutputOptions,
     source: &Source<'_, T>,
     canvas: Canvas,
     signatures: &[Signature],
 ) -> Result<Answer, Refusal> {
     let warnings = warnings_of(alloc, source, &canvas, signatures)?;
     let figures = figures_of(alloc, source, canvas)?;
-    figures.answer(alloc, manner, &warnings)
+    figures.answer(alloc, output, &warnings)
 }
 
 /// Answers for the canvas that a text spells, or says where it is refused.
 fn answer_spelled<T: Tasks>(
     alloc: Global,
-    manner: Manner,
+    output: OutputOptions,
     source: &Source<'_, T>,
 ) -> Result<Answer, Refusal> {
     match read(alloc, source.text)? {
         Reading::Canvas { canvas, signatures } => {
-            checked(alloc, manner, source, canvas, &signatures)
+            checked(alloc, output, source, canvas, &signatures)
         }
         Reading::Refused(finding) => Err(Refusal::Found(finding)),
     }
@@ -59,7 +59,7 @@ fn answer_spelled<T: Tasks>(
 /// names places in that.
 pub(crate) fn answer_check<T: Tasks>(
     alloc: Global,
-    manner: Manner,
+    output: OutputOptions,
     source: &Source<'_, T>,
 ) -> Result<Answer, Refusal> {
     let spelled = Spelled::of(alloc, source.text, source.setting.adapts)?;
@@ -68,5 +68,5 @@ pub(crate) fn answer_check<T: Tasks>(
         setting: source.setting,
         tasks: source.tasks,
     };
-    answer_spelled(alloc, manner, &source)
+    answer_spelled(alloc, output, &source)
 }

@@ -7,7 +7,7 @@ ghost use Rattle.canvas_command.specs.Runs.{IsEarlyReport, refusal_of, rows_in};
 use canvas_answer::answer::Answer;
 use canvas_answer::prepared::Plans;
 use canvas_answer::refusal::Refusal;
-use canvas_answer::reporting::Manner;
+use canvas_answer::reporting::OutputOptions;
 use canvas_answer::source::Source;
 use canvas_engine::{Cause, Report, RunFault};
 use std::alloc::Global;
@@ -42,13 +42,13 @@ fn stored(fault: &RunFault) -> Option<&Report>
 /// Answers for a run that ended early.
 pub(crate) fn early<T>(
     alloc: Global,
-    manner: Manner,
+    output: OutputOptions,
     plans: &Plans,
     source: &Source<'_, T>,
     fault: &RunFault,
 ) -> Answer
     ensures { IsEarlyReport (asking source.now.setting) (run_line plans.now) plans.now.shown
-        manner.form fault.now result }
+        output.form fault.now result }
 {
-    manner.early(alloc, plans, source, stored(fault), refused(fault))
+    output.early(alloc, plans, source, stored(fault), refused(fault))
 }

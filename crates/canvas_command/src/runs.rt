@@ -14,7 +14,7 @@ use canvas_answer::answer::{Answer, Remark};
 use canvas_answer::plan::lasting;
 use canvas_answer::prepared::Plans;
 use canvas_answer::refusal::Refusal;
-use canvas_answer::reporting::{Form, Manner};
+use canvas_answer::reporting::{Format, OutputOptions};
 use canvas_answer::source::Source;
 use canvas_engine::{
     OpenGate, Report, RunFault, Stop, When, run, run_turns_again, run_turns_stepped,
@@ -67,20 +67,20 @@ where
 pub(crate) fn answer_run<S, T>(
     rt: &S,
     workers: u32,
-    manner: Manner,
+    output: OutputOptions,
     source: &Source<'_, T>,
 ) -> Result<Answer, Refusal>
 where
     S: Threads + Wait + RandomSource + AllocGlobal + Sync,
     T: Tasks + Sync,
     ensures { IfOk result (IsRunOf (T.behaviour source.now.tasks.now)
-        (asking source.now.setting) source.now.text.now (IsThreadFault workers) manner.form
-        manner.fails None) }
+        (asking source.now.setting) source.now.text.now (IsThreadFault workers) output.form
+        output.fails None) }
 {
     let plans = lasting(source.checked_plans(rt.alloc())?);
     match report_of(rt, plans.run(), source.tasks, workers) {
-        Ok(report) => manner.whole(rt.alloc(), &plans, &report, source, None),
-        Err(fault) => Ok(early(rt.alloc(), manner, &plans, source, &fault)),
+        Ok(report) => output.whole(rt.alloc(), &plans, &report, source, None),
+        Err(fault) => Ok(early(rt.alloc(), output, &plans, source, &fault)),
     }
 }
 
@@ -95,7 +95,7 @@ struct ByTurns<'a> {
     counts: bool,
     /// Whether the steps are shown instead of the report.
     steps: bool,
-    manner: Manner,
+    output: OutputOptions,
 }
 
 impl ByTurns<'_> {
@@ -117,14 +117,14 @@ impl ByTurns<'_> {
             (run_line plans.now)
             → IfOk result (IsSteppedOf (T.behaviour source.now.tasks.now)
             (asking source.now.setting) source.now.text.now self.now.workers self.now.turns.now
-            self.now.manner.fails) }
+            self.now.output.fails) }
     {
         let (plan, tasks) = (plans.run(), source.tasks);
         match run_turns_stepped(alloc, plan, tasks, self.workers, self.turns, self.again) {
             Ok((report, repeats, steps)) => {
                 let rows = source.whole_rows(alloc, plans, &report)?;
                 let lines = steps_text(alloc, plan, &rows, &steps)?;
-                let answer = self.manner.answer(lines, &plans.shown, &report);
+                let answer = self.output.answer(lines, &plans.shown, &report);
                 Ok(self.counted(answer, repeats))
             }
             Err(fault) => Err(refused(&fault)),
@@ -143,16 +143,16 @@ impl ByTurns<'_> {
             → IfOk result (λ a. (again : Option ℕ)
             × IsRunOf (T.behaviour source.now.tasks.now) (asking source.now.setting)
             source.now.text.now (IsRunFault self.now.workers self.now.turns.now)
-            self.now.manner.form self.now.manner.fails again a) }
+            self.now.output.form self.now.output.fails again a) }
     {
         let (plan, tasks) = (plans.run(), source.tasks);
         match run_turns_again(alloc, plan, tasks, self.workers, self.turns, self.again) {
             Ok((report, repeats)) => {
                 let again = self.counts.then_some(repeats);
-                let answer = self.manner.whole(alloc, plans, &report, source, again)?;
+                let answer = self.output.whole(alloc, plans, &report, source, again)?;
                 Ok(self.counted(answer, repeats))
             }
-            Err(fault) => Ok(early(alloc, self.manner, plans, source, &fault)),
+            Err(fault) => Ok(early(alloc, self.output, plans, source, &fault)),
         }
     }
 
@@ -167,7 +167,7 @@ impl ByTurns<'_> {
             (run_line plans.now)
             → IfOk result (IsByTurns (T.behaviour source.now.tasks.now)
             (asking source.now.setting) source.now.text.now self.now.workers self.now.turns.now
-            self.now.steps self.now.manner.form self.now.manner.fails) }
+            self.now.steps self.now.output.form self.now.output.fails) }
     {
         match self.steps {
             true => self.stepped(alloc, plans, source),
@@ -187,7 +187,7 @@ impl ByTurns<'_> {
             (run_line plans.now)
             → IfOk result (IsByTurns (T.behaviour source.now.tasks.now)
             (asking source.now.setting) source.now.text.now self.now.workers self.now.turns.now
-            self.now.steps self.now.manner.form self.now.manner.fails) }
+            self.now.steps self.now.output.form self.now.output.fails) }
     {
         let Some(list) = names else {
             return self.told(alloc, plans, source);
@@ -199,7 +199,7 @@ impl ByTurns<'_> {
             again: &again,
             counts: true,
             steps: self.steps,
-            manner: self.manner,
+            output: self.output,
         };
         by.told(alloc, plans, source)
     }
@@ -212,7 +212,7 @@ impl ByTurns<'_> {
     ) -> Result<Answer, Refusal>
         ensures { IfOk result (IsByTurns (T.behaviour source.now.tasks.now)
             (asking source.now.setting) source.now.text.now self.now.workers self.now.turns.now
-            self.now.steps self.now.manner.form self.now.manner.fails) }
+            self.now.steps self.now.output.form self.now.output.fails) }
     {
         let plans = lasting(source.checked_plans(alloc)?);
         self.told_named(alloc, names, &plans, source)
@@ -239,8 +239,8 @@ pub(crate) fn answer_steps<T: Tasks>(
         again: &[],
         counts: false,
         steps: true,
-        manner: Manner {
-            form: Form::Json,
+        output: OutputOptions {
+            form: Format::Json,
             fails: false,
         },
     };
@@ -255,12 +255,12 @@ pub(crate) fn answer_turns<T: Tasks>(
     turns: &[u32],
     again: &Again<'_>,
     steps: bool,
-    manner: Manner,
+    output: OutputOptions,
     source: &Source<'_, T>,
 ) -> Result<Answer, Refusal>
     ensures { IfOk result (IsByTurns (T.behaviour source.now.tasks.now)
-        (asking source.now.setting) source.now.text.now workers turns.now steps manner.form
-        manner.fails) }
+        (asking source.now.setting) source.now.text.now workers turns.now steps output.form
+        output.fails) }
 {
     let once = ByTurns {
         workers,
@@ -268,7 +268,7 @@ pub(crate) fn answer_turns<T: Tasks>(
         again: &[],
         counts: false,
         steps,
-        manner,
+        output,
     };
     match again {
         Again::Nothing => once.answer(alloc, None, source),

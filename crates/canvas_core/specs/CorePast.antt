@@ -11,7 +11,7 @@ use Rattle.canvas_core.specs.Asks.{Asked, Answer, suits, to_send, replied, Found
 use Rattle.canvas_core.specs.Books.{HasMembers, IsFromOne}
 use Rattle.canvas_core.specs.EnvelopeWorker.{enveloped_by}
 use Rattle.canvas_runs.specs.Tally.{greatest_count}
-use Rattle.canvas_core.specs.CoreState.{Left, Standing, placed, held, asked, next, drops, unsent, begun, after_reply, held_out, handed, task_of}
+use Rattle.canvas_core.specs.CoreState.{Left, CoreView, placed, held, asked, next, drops, unsent, begun, after_reply, held_out, handed, task_of}
 use Rattle.canvas_core.specs.declared.ask.Reply.{Reply}
 
 -- what is left to do after asks and answers
@@ -31,7 +31,7 @@ task_in book (Some e) = task_of (opened book e)
 
 -- These asks and answers lead to the core. An envelope that was handed out isn't there any more,
 -- and what is left names no member's task.
-pub record Leads (behaviour : Behaviour) (book : Book) (xs : List (Asked × Answer)) (s : Standing) :
+pub record Leads (behaviour : Behaviour) (book : Book) (xs : List (Asked × Answer)) (s : CoreView) :
     Type 0 where
   pub run : IsCoreRun (enveloped_by behaviour book) taking xs
   pub left : s.left
@@ -52,7 +52,7 @@ NoneLead = (behaviour : Behaviour) (book : Book) → Leads behaviour book [] beg
 abbrev pub OneMoreLeads : Type 0
 OneMoreLeads =
     (behaviour : Behaviour) (book : Book) → HasMembers book → IsFromOne book
-    → (xs : List (Asked × Answer)) (s : Standing) (r : Reply) → Leads behaviour book xs s
+    → (xs : List (Asked × Answer)) (s : CoreView) (r : Reply) → Leads behaviour book xs s
     → ReadsBack (enveloped_by behaviour book) (left_by behaviour book xs)
     → suits (next s) r ≡ true → FoundOf book r (next s)
     → Leads behaviour book (xs ++ (asked (left_by behaviour book xs), replied r) ∷ [])
@@ -61,11 +61,11 @@ OneMoreLeads =
 -- They also lead to a core that has handed out the envelope of its next publish.
 abbrev pub HandedLeads : Type 0
 HandedLeads =
-    (behaviour : Behaviour) (book : Book) (xs : List (Asked × Answer)) (s : Standing)
+    (behaviour : Behaviour) (book : Book) (xs : List (Asked × Answer)) (s : CoreView)
     → Leads behaviour book xs s → Leads behaviour book xs (handed s)
 
 abbrev pub HandsOut : Type 0
 HandsOut =
-    (behaviour : Behaviour) (book : Book) (xs : List (Asked × Answer)) (s : Standing)
+    (behaviour : Behaviour) (book : Book) (xs : List (Asked × Answer)) (s : CoreView)
     → Leads behaviour book xs s → s.is_out ≡ false
     → held_out s ≡ to_send (asked (left_by behaviour book xs))

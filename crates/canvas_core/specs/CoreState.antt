@@ -46,7 +46,7 @@ placed = located no_book
 -- what is left to do, whether the envelope that is to be published was handed out, how many
 -- envelopes were dropped, the envelope of the open script once its message's outcome is stored, and
 -- the task of that message
-pub record Standing : Type 0 where
+pub record CoreView : Type 0 where
   pub left : Left
   pub is_out : Bool
   pub dropped : ℕ
@@ -75,7 +75,7 @@ next_in (doing (j ∷ js) b) x = next_job j
 next_in (reading g c t fs) x = Read g (length fs)
 next_in acking x = Ack x
 
-abbrev pub next : Standing → Ask
+abbrev pub next : CoreView → Ask
 next s = next_in s.left s.task
 
 abbrev pub unread : Option Content → ℕ
@@ -91,7 +91,7 @@ abbrev pub drops : Book → Left → Answer → ℕ
 drops book taking r = drops_taken book r
 drops book s r = 0
 
-abbrev pub begun : Standing
+abbrev pub begun : CoreView
 begun = record { left = taking; is_out = false; dropped = 0; kept = None; task = None }
 
 abbrev pub kept_taken : Option Content → Envelope → Option Envelope → Option Envelope
@@ -117,7 +117,7 @@ abbrev pub open_of : Left → Option Envelope → Option Envelope
 open_of (owning m) h = Some m.envelope
 open_of s h = h
 
-abbrev pub held : Standing → Option Envelope
+abbrev pub held : CoreView → Option Envelope
 held s = open_of s.left s.kept
 
 -- The point that the open script has reached, with the task of its message: before the message's
@@ -127,7 +127,7 @@ point_in (owning m) x = option_map (λ k. (k, Early)) x
 point_in acking x = option_map (λ k. (k, Late)) x
 point_in s x = None
 
-abbrev pub point_at : Standing → Option (ℕ × When)
+abbrev pub point_at : CoreView → Option (ℕ × When)
 point_at s = point_in s.left s.task
 
 -- the member that was read is of this task
@@ -138,7 +138,7 @@ taught s r = s
 abbrev pub left_told : Behaviour → Book → Left → Reply → Left
 left_told behaviour book s r = answered (by_place behaviour book) (taught s r) (replied r)
 
-abbrev pub after_reply : Behaviour → Book → Standing → Reply → Standing
+abbrev pub after_reply : Behaviour → Book → CoreView → Reply → CoreView
 after_reply behaviour book s r =
     record {
       left = left_told behaviour book s.left r;
@@ -149,12 +149,12 @@ after_reply behaviour book s r =
     }
 
 -- memory was refused
-abbrev pub failing : Standing → Standing
+abbrev pub failing : CoreView → CoreView
 failing s =
     record { left = failed; is_out = false; dropped = s.dropped; kept = s.kept; task = s.task }
 
 -- the envelope that can be handed out
-abbrev pub held_out : Standing → Option Envelope
+abbrev pub held_out : CoreView → Option Envelope
 held_out s = if s.is_out then None else to_send (asked s.left)
 
 -- the core waits for its publish, but no longer has the texts of the envelope that was handed out
@@ -162,7 +162,7 @@ abbrev pub unsent : Left → Left
 unsent (doing (publish e ∷ js) b) = doing (publish (unapplied blank) ∷ js) b
 unsent s = s
 
-abbrev pub handed : Standing → Standing
+abbrev pub handed : CoreView → CoreView
 handed s =
     record {
       left = unsent s.left;
@@ -173,5 +173,5 @@ handed s =
     }
 
 -- a core that waits for an envelope
-abbrev pub waiting : ℕ → Option Envelope → Option ℕ → Standing
+abbrev pub waiting : ℕ → Option Envelope → Option ℕ → CoreView
 waiting n h x = record { left = taking; is_out = false; dropped = n; kept = h; task = x }

@@ -47,12 +47,12 @@ pub struct Core {
 
 impl Model for Core {
     ghost use Rattle.canvas_core.specs.Phases.{left_of, is_out};
-    ghost use Rattle.canvas_core.specs.CoreState.{Standing};
+    ghost use Rattle.canvas_core.specs.CoreState.{CoreView};
     ghost use Rattle.std.specs.Coded.{codes};
     ghost use Rattle.canvas_envelope.specs.codes.ContentCode.{content_code};
     ghost use Rattle.canvas_core.specs.codes.CoreCode.{carried_code};
 
-    ghost Value = { Standing };
+    ghost Value = { CoreView };
 
     ghost coded = { Prim.hlevel (codes, content_code, carried_code) };
 

@@ -18,7 +18,7 @@ use Rattle.canvas_runs.specs.Law.{publications}
 use Rattle.canvas_runs.specs.Run.{Run, Closed, published_all}
 use Rattle.canvas_runs.specs.Tally.{Tally as Counts, CountsOf}
 use Rattle.canvas_runs.specs.Worker.{sealed}
-use Rattle.canvas_callers.specs.Accounts.{QueueAccounts, TableAccounts}
+use Rattle.canvas_callers.specs.PerCaller.{QueuePerCaller, TablePerCaller}
 use Rattle.canvas_callers.specs.CallerLaws.{broker_calls_seen}
 use Rattle.canvas_callers.specs.Rows.{RanWell}
 use Rattle.canvas_core.specs.declared.cause.Cause.TheVariants.{Memory, Stopped}
@@ -52,13 +52,13 @@ pub record IsRun (behaviour : Behaviour) (l : Line) (n : ℕ) (rows : List State
   -- Each of the n workers, and worker 0, has followed a core run. Worker 0 first published all
   -- first messages, and at the end read each task: these are the rows.
   pub ran : RanWell behaviour l r.pass r.seat rows
-  pub workers : length ran.to.ran.mates ≡ n
+  pub workers : length ran.to.ran.callers ≡ n
   -- The broker has one legal history, and the backend one. Each has just the calls of each worker,
   -- once and in its order; worker i is the i-th that is named in each.
-  pub of_broker : QueueAccounts behaviour (roster_of l) ran.to.ran.mates
+  pub of_broker : QueuePerCaller behaviour (roster_of l) ran.to.ran.callers
       (published_all (map sealed ran.to.ran.opening)) ran.to.ran.works.made
       (broker_calls_seen r.pass)
-  pub of_backend : TableAccounts behaviour (roster_of l) ran.to.ran.mates
+  pub of_backend : TablePerCaller behaviour (roster_of l) ran.to.ran.callers
       (backend_calls ran.to.ran.works.run ++ ran.to.ran.closing) r.seat.seen
   -- both histories are those of a closed run of the plan
   pub run : Run behaviour l

@@ -22,7 +22,7 @@ use Rattle.canvas_history.specs.Table as table
 use Rattle.canvas_history.specs.TableLaws.{IsCompleting}
 use Rattle.canvas_history.specs.Roster.{roster_of}
 use Rattle.canvas_history.specs.Queue as queue
-use Rattle.canvas_runs.specs.Courses.{Course, sent_in, called_in, published_in}
+use Rattle.canvas_runs.specs.ProgramOrder.{ProgramOrder, sent_in, called_in, published_in}
 use Rattle.canvas_engine.specs.declared.threads.records.Records.{Records}
 
 -- the callers that were split off are 1 to n, and all have been joined again
@@ -50,13 +50,13 @@ OnlyWanted may_want log =
     → (k : ℕ) × (task_in e ≡ Some k) × may_want p k
 
 -- the part that completes the chord's header was returned
-abbrev pub Completed : Line → ℕ → Course → Type 0
+abbrev pub Completed : Line → ℕ → ProgramOrder → Type 0
 Completed l g before =
     (t n : ℕ) × In (inr (table.part g t, table.count n)) before × IsCompleting (roster_of l) g n
 
 -- `did` gives what each worker of the run did, in its order.
 pub record Headline (behaviour : Behaviour) (l : Line) (n : ℕ) (rows : List State) (r : Records)
-    (did : ℕ → Course) : Type 0 where
+    (did : ℕ → ProgramOrder) : Type 0 where
   -- The states: each task has the one that evaluating the plan's tree gives.
   pub are : rows ≡ states behaviour (tree_of l)
   -- The histories: worker 0 has a pass of this queue and a seat of this table, which is the plan's.
@@ -80,5 +80,5 @@ pub record Headline (behaviour : Behaviour) (l : Line) (n : ℕ) (rows : List St
   pub named : (x : ℕ × Envelope) → In x (published_in (told r.pass)) → is_some (task_in x.1) ≡ true
   pub once : (k : ℕ) → publications k (told r.pass) ≤ 1
   pub started : (k : ℕ) → In k (starts l) → publications k (told r.pass) ≡ 1
-  pub body : (g k p : ℕ) (e : Envelope) (before after : Course) → In (g, k) (bodies l)
+  pub body : (g k p : ℕ) (e : Envelope) (before after : ProgramOrder) → In (g, k) (bodies l)
       → did p ≡ before ++ inl e ∷ after → task_in e ≡ Some k → Completed l g before

@@ -12,10 +12,10 @@ use Rattle.canvas_semantics.specs.Line.{Line, tree_of}
 use Rattle.canvas_semantics.specs.Report.{report}
 use Rattle.canvas_semantics.specs.SameMeaning.{IsSame}
 use Rattle.canvas_semantics.specs.States.{states}
-use Rattle.canvas_turns.specs.Spending.{Entry}
+use Rattle.canvas_turns.specs.Redeliveries.{Entry}
 use Rattle.canvas_by_turns.specs.Correct.{AreWorkers, IsAsked, IsWholeAgain}
 use Rattle.canvas_rewrite.specs.Planned.{IsPlan}
-use Rattle.canvas_runs.specs.Courses.{course_of}
+use Rattle.canvas_runs.specs.ProgramOrder.{program_order}
 use Rattle.canvas_engine.specs.Evidence.{IsRun}
 use Rattle.canvas_engine.specs.Headline.{Headline, OnlyWanted}
 use Rattle.canvas_by_turns.specs.declared.fault.RunFault.{RunFault}
@@ -49,7 +49,8 @@ pub record IsTextRun (behaviour : Behaviour) (may_want : ℕ → ℕ → Type 0)
   pub reported : text ≡ report behaviour canvas
   pub plan : IsPlan line
   pub ran : IsRun behaviour line n (states behaviour (tree_of line)) r
-  pub headline : Headline behaviour line n (states behaviour (tree_of line)) r (course_of ran.run)
+  pub headline : Headline behaviour line n (states behaviour (tree_of line)) r
+      (program_order ran.run)
   pub wanted : OnlyWanted may_want (told r.pass)
 
 -- The text is the report of the canvas that the bytes read as. In a run of its plan's line by these

@@ -11,7 +11,7 @@ ghost use Rattle.canvas_by_turns.specs.Correct.{AreWorkers, IsAsked, IsWholeAgai
 ghost use Rattle.canvas_engine.specs.Headline.{Headline, OnlyWanted};
 ghost use Rattle.canvas_engine.specs.Evidence.{IsRun, IsThreadFault};
 ghost use Rattle.canvas_rewrite.specs.Planned.{IsPlan};
-ghost use Rattle.canvas_runs.specs.Courses.{course_of};
+ghost use Rattle.canvas_runs.specs.ProgramOrder.{program_order};
 ghost use Rattle.canvas_engine.specs.Texts.{IsPlanOfText, IsTextAgain, IsTextFault, IsTextRun};
 ghost use Rattle.canvas_engine.specs.declared.threads.records.Records.{Records};
 ghost use Rattle.canvas_engine.specs.steps.PlanTexts.{IsPlanFault, IsReadFault};
@@ -149,7 +149,7 @@ where
         × ((ran : IsRun (T.behaviour tasks.now) plan.now workers
         (states (T.behaviour tasks.now) (tree_of plan.now)) r.1)
         × Headline (T.behaviour tasks.now) plan.now workers
-        (states (T.behaviour tasks.now) (tree_of plan.now)) r.1 (course_of ran.run))
+        (states (T.behaviour tasks.now) (tree_of plan.now)) r.1 (program_order ran.run))
         × OnlyWanted (G.may_want gate.now) (told r.1.pass)) }
     ensures err { IfErr result (IsPlanFault
         (IsThreadFault workers (states (T.behaviour tasks.now) (tree_of plan.now)))) }

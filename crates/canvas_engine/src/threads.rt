@@ -5,8 +5,8 @@
 //! take finds nothing, and reads each task once. From only the clauses of these calls
 //! `canvas_callers` makes one history of all broker calls and one of all backend calls
 //! (`runs_of_callers`), and proves what follows (`law_of_callers`, `rows_of_runs`).
-mod crew;
 mod ending;
+mod handles;
 mod publishing;
 mod records;
 mod running;

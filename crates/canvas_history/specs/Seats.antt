@@ -1,7 +1,7 @@
 -- What contracts see of a backend and of a seat, and what its calls tell: the clauses of Callers,
 -- for the table of results (Lamport's sequential consistency).
 --     TableId             which backend it is
---     Desk, Seat          a backend, and a seat
+--     BackendView, Seat          a backend, and a seat
 --     as_caller s         the seat as a caller
 --     Stands, Parted, Joined, Adds, LeavesOne    as in Callers, for the table
 use Rattle.std.specs.Prelude.{ℕ, List}
@@ -16,7 +16,7 @@ abbrev pub TableId : Type 0
 TableId = List ℕ
 
 -- a backend: which one it is, and the index of its plan
-pub record Desk : Type 0 where
+pub record BackendView : Type 0 where
   pub id : TableId
   pub plan : Roster
 

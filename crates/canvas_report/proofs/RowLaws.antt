@@ -328,7 +328,8 @@ report_written fates blamed again c ss rows same =
     (λ k. subst (λ r. Shows r (shown (state_of k (rows_from 1 ss)))) (sym (ap (λ rs. row_of rs k) same ∙ row_state ss k)) refl)
 
 -- the lines, and then the result
-pub whole : (l : Line) (rows : List Row) (again : Option ℕ) (several : Bool) (ks : List ℕ) (t0 t1 t2 ls : Text) → t0 ≡ [] → t1 ≡ t0 ++ ls → ks ≡ ends_of l → several ≡ in_group l
+pub whole : (l : Line) (rows : List Row) (again : Option ℕ) (several : Bool) (ks : List ℕ) (t0 t1 t2 ls : Text) → t0 ≡ [] → t1 ≡ t0 ++ ls → ks ≡ ends_of l
+    → several ≡ in_group l
     → t2 ≡ t1 ++ end_text again several rows ks
     → t2 ≡ ls ++ end_text again (ends_in_group (tree_of l)) rows (ends (tree_of l))
 whole l rows again several ks t0 t1 t2 ls e0 e1 are is e2 =

@@ -19,7 +19,7 @@ use Rattle.canvas_task.specs.Apply.{Behaviour}
 use Rattle.canvas_runs.proofs.Lists.Sums.{total-append}
 use Rattle.canvas_runs.proofs.Runs.MoreAsks.{asks_of_scripts}
 use Rattle.canvas_runs.proofs.Lists.Words.{each_append, each_left, each_weaker}
-use Rattle.canvas_turns.specs.Going.{IsFair, one_after_another}
+use Rattle.canvas_turns.specs.Termination.{IsFair, one_after_another}
 use Rattle.canvas_turns.proofs.TurnLaw.{round_workers}
 use Rattle.canvas_turns.proofs.TurnLogs.{round_has}
 use Rattle.canvas_turns.proofs.TurnStates.{Ready}

@@ -18,7 +18,7 @@ use Rattle.canvas_runs.specs.Core.{rest, ack, rested, acked}
 use Rattle.canvas_runs.specs.declared.when.When.TheVariants.{Early, Late}
 use Rattle.canvas_runs.specs.Witness.{call, asks_queue, asks_table}
 use Rattle.canvas_runs.specs.Worker.{sealed}
-use Rattle.canvas_turns.specs.Spending.{Entry}
+use Rattle.canvas_turns.specs.Redeliveries.{Entry}
 use Rattle.canvas_turns.specs.Turns.{Step, redelivery}
 
 -- ---- 4 + 4, then 8 times that

@@ -7,10 +7,10 @@ ghost use Rattle.std.specs.Prelude.{◌≡◌, ℕ, List, []};
 ghost use Rattle.canvas_task.specs.Builtin.{builtin_tasks};
 ghost use Rattle.canvas_runs.specs.Witness.{small};
 ghost use Rattle.canvas_turns.specs.TurnLaws.{TurnsAreRuns, TurnRowsMay, TurnRowsAre, TurnsEmpty, TurnStatesMay, TurnStatesAre, WholeTurns, UntilTurns, NextAnswerable, HeldInRange};
-ghost use Rattle.canvas_turns.specs.Going.{FewSteps, StopsSoon, StepsFit, RoundsGo, FairTurnsEnd};
+ghost use Rattle.canvas_turns.specs.Termination.{FewSteps, StopsSoon, StepsFit, RoundsGo, FairTurnsEnd};
 ghost use Rattle.canvas_turns.specs.TurnWays.{TurnsUnderWay};
 ghost use Rattle.canvas_turns.specs.Turns.{Turned, RanWhole};
-ghost use Rattle.canvas_turns.specs.Spending.{EntriesAreTurns, EntriesFew, OwnPoints, AgainsAreEntries, AgainsFew, NoEntries, AgainTurns, TurnedAgain, RanAgain, Entry, agains_in};
+ghost use Rattle.canvas_turns.specs.Redeliveries.{EntriesAreTurns, EntriesFew, OwnPoints, AgainsAreEntries, AgainsFew, NoEntries, AgainTurns, TurnedAgain, RanAgain, Entry, agains_in};
 ghost use Rattle.canvas_turns.specs.TurnWitness.{listed_turns, witness_steps, hasty};
 ghost use Rattle.canvas_turns.specs.EntryWitness.{product, both_points, product_steps, quotient, link_entry, quotient_steps, unspent};
 

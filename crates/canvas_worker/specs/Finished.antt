@@ -7,7 +7,7 @@ use Rattle.canvas_semantics.specs.Line.{Line}
 use Rattle.canvas_rewrite.specs.FrozenView.{PCarried}
 use Rattle.canvas_rewrite.specs.Planned.{IsPlan}
 use Rattle.canvas_envelope.specs.Content.{Content}
-use Rattle.canvas_history.specs.Seats.{Desk}
+use Rattle.canvas_history.specs.Seats.{BackendView}
 use Rattle.canvas_history.specs.Roster.{Roster, roster_of}
 use Rattle.canvas_runs.specs.Following.{Pass, Seat, Working, Followed, starting, IsOver}
 use Rattle.canvas_history.specs.Lists.{Each}
@@ -34,15 +34,15 @@ pub record Finished (behaviour : Behaviour) (may_want : ℕ → ℕ → Type 0) 
 abbrev pub WorkersStart : Type 0
 WorkersStart =
     (l : Line) → IsPlan l
-    → (broker : QueueId) (desk : Desk) (number : ℕ) (pass : Pass) (seat : Seat)
-    → desk.plan ≡ roster_of l → pass.of ≡ broker → seat.of ≡ desk.id
-    → Ready (working_begun broker desk number pass seat)
+    → (broker : QueueId) (backend : BackendView) (number : ℕ) (pass : Pass) (seat : Seat)
+    → backend.plan ≡ roster_of l → pass.of ≡ broker → seat.of ≡ backend.id
+    → Ready (working_begun broker backend number pass seat)
 
 -- and its record says so, for any gate
 abbrev pub WorkersFinish : Type 0
 WorkersFinish =
     (behaviour : Behaviour) (wanted : ℕ → ℕ → Bool) (l : Line) → IsPlan l
-    → (broker : QueueId) (desk : Desk) (number : ℕ) (pass : Pass) (seat : Seat)
-    → desk.plan ≡ roster_of l → (r : Record)
-    → TellsOf behaviour (λ p k. wanted p k ≡ true) (working_begun broker desk number pass seat) r
+    → (broker : QueueId) (backend : BackendView) (number : ℕ) (pass : Pass) (seat : Seat)
+    → backend.plan ≡ roster_of l → (r : Record)
+    → TellsOf behaviour (λ p k. wanted p k ≡ true) (working_begun broker backend number pass seat) r
     → Finished behaviour (λ p k. wanted p k ≡ true) (roster_of l) number pass seat r

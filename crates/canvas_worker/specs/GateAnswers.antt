@@ -5,13 +5,13 @@ use Rattle.canvas_task.specs.Apply.{Behaviour}
 use Rattle.canvas_runs.specs.Core.{is_inside}
 use Rattle.canvas_runs.specs.declared.when.When.{When}
 use Rattle.canvas_runs.specs.declared.when.When.TheVariants.{Early, Late}
-use Rattle.canvas_core.specs.CoreState.{Standing, next, point_at}
-use Rattle.canvas_worker.specs.Polls.{Work, Acted, Ends, EndsFor, Leaves, Redelivered}
+use Rattle.canvas_core.specs.CoreState.{CoreView, next, point_at}
+use Rattle.canvas_worker.specs.Polls.{WorkerView, Acted, Ends, EndsFor, Leaves, Redelivered}
 use Rattle.canvas_core.specs.declared.cause.Cause.{Cause}
 use Rattle.canvas_core.specs.declared.cause.Cause.TheVariants.{Memory, Stopped}
 use Rattle.canvas_worker.specs.declared.record.Record.{Record}
-use Rattle.canvas_worker.specs.declared.working.Said.{Said}
-use Rattle.canvas_worker.specs.declared.working.Said.TheVariants.{Wait, Again, On}
+use Rattle.canvas_worker.specs.declared.working.GateAnswer.{GateAnswer}
+use Rattle.canvas_worker.specs.declared.working.GateAnswer.TheVariants.{Wait, Again, On}
 
 abbrev pub unless_passed : Option (ℕ × When) → Option When → Option (ℕ × When)
 unless_passed (Some (k, Early)) (Some Early) = None
@@ -20,7 +20,7 @@ unless_passed x p = x
 
 -- where the gate is asked, with the task that it is asked for: the point that the open script has
 -- reached, unless that is the latest one that the worker has passed
-abbrev pub asks_at : Standing → Option When → Option (ℕ × When)
+abbrev pub asks_at : CoreView → Option When → Option (ℕ × When)
 asks_at s p = unless_passed (point_at s) p
 
 abbrev pub passed_from : Option (ℕ × When) → Bool → Option When → Option When
@@ -29,10 +29,10 @@ passed_from None true p = p
 passed_from None false p = None
 
 -- the latest point that the worker has passed, once it goes on from here; none between scripts
-abbrev pub passed_at : Standing → Option When → Option When
+abbrev pub passed_at : CoreView → Option When → Option When
 passed_at s p = passed_from (point_at s) (is_inside s.left) p
 
-abbrev pub passed_after : Standing → Option When → Said → Option When
+abbrev pub passed_after : CoreView → Option When → GateAnswer → Option When
 passed_after s p Wait = p
 passed_after s p said = passed_at s p
 
@@ -52,15 +52,15 @@ module _ (go : ℕ → Bool → Type 0) (again : ℕ → Type 0) where
   Wants (Some x) = again x.0
   Wants None = ⊥
 
-  abbrev pub Heard : Option (ℕ × When) → Said → Type 0
+  abbrev pub Heard : Option (ℕ × When) → GateAnswer → Type 0
   Heard x Wait = HoldsBack x
   Heard x Again = LetsOn x × Wants x
   Heard x On = LetsOn x
 
-  module _ (behaviour : Behaviour) (w : Work) (p : Option When) where
+  module _ (behaviour : Behaviour) (w : WorkerView) (p : Option When) where
     -- What a pending poll leaves of a worker and of the latest point that it has passed. If the
     -- gate holds the worker back, it is as it was.
-    pub data Heeds (v : Work) (q : Option When) : Type 0 where
+    pub data Heeds (v : WorkerView) (q : Option When) : Type 0 where
       waits : HoldsBack (asks_at w.core p) → v ≡ w → q ≡ p → Heeds v q
       delivers : LetsOn (asks_at w.core p) → Wants (asks_at w.core p) → Redelivered w v
           → q ≡ passed_at w.core p → Heeds v q
@@ -76,10 +76,10 @@ module _ (go : ℕ → Bool → Type 0) (again : ℕ → Type 0) where
           → EndsFor (next w.core) r.fault → LeavesHeeding r
 
     -- if the gate can only hold the worker back, nothing was done
-    abbrev pub HeldBack : Work → Option When → Type 0
+    abbrev pub HeldBack : WorkerView → Option When → Type 0
     HeldBack v q =
         (k : ℕ) → asks_at w.core p ≡ Some (k, Early) → (go k true → ⊥) → (v ≡ w) × (q ≡ p)
 
     -- like `LeavesHeeding`, for each record that a worker may leave that has ended
-    abbrev pub EndsHeeding : Option Cause → Work → Type 0
+    abbrev pub EndsHeeding : Option Cause → WorkerView → Type 0
     EndsHeeding fault v = (r : Record) → Leaves v fault r → LeavesHeeding r

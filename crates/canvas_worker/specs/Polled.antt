@@ -5,7 +5,7 @@ use Rattle.futures.specs.declared.task.Poll.{Poll}
 use Rattle.canvas_task.specs.Apply.{Behaviour}
 use Rattle.canvas_runs.specs.declared.when.When.{When}
 use Rattle.canvas_worker.specs.GateAnswers.{Heeds, HeldBack, LeavesHeeding}
-use Rattle.canvas_worker.specs.Polls.{Work, Pends, Ends}
+use Rattle.canvas_worker.specs.Polls.{WorkerView, Pends, Ends}
 use Rattle.canvas_worker.specs.declared.record.Record.{Record}
 
 -- A poll of a worker, which was in state w and had last passed point p, gave this answer. If it is
@@ -13,8 +13,8 @@ use Rattle.canvas_worker.specs.declared.record.Record.{Record}
 -- answer to each worker for each task, and `may_want` whether it may want the redelivery of that
 -- task's envelope.
 pub record Polled (behaviour : Behaviour) (may_answer : ℕ → ℕ → Bool → Type 0)
-    (may_want : ℕ → ℕ → Type 0) (w : Work) (p : Option When) (answer : Poll Record)
-    (now : Option Work) (q : Option When) : Type 0 where
+    (may_want : ℕ → ℕ → Type 0) (w : WorkerView) (p : Option When) (answer : Poll Record)
+    (now : Option WorkerView) (q : Option When) : Type 0 where
   -- A pending poll answers one ask of the core, or redelivers the envelope of the open script. Or
   -- it does nothing: the gate holds the worker back, or the batch that was due was empty; then the
   -- next take is of one envelope.

@@ -10,7 +10,7 @@ use Rattle.canvas_task.specs.Apply.{Behaviour}
 use Rattle.canvas_semantics.specs.Evaluation.{State}
 use Rattle.canvas_semantics.specs.Line.{Line, tree_of}
 use Rattle.canvas_semantics.specs.States.{states, EachMay}
-use Rattle.canvas_turns.specs.Spending.{Entry, ByEntries}
+use Rattle.canvas_turns.specs.Redeliveries.{Entry, ByEntries}
 use Rattle.canvas_turns.specs.TurnLaws.{held_rows}
 use Rattle.canvas_turns.specs.Turns.{Step, IsWorker, HasEnded, Begins, redeliveries_in}
 use Rattle.canvas_core.specs.declared.cause.Cause.TheVariants.{Memory, Stopped}

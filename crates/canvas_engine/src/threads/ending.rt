@@ -14,10 +14,10 @@ ghost use Rattle.canvas_by_turns.specs.Correct.{AreWorkers};
 ghost use Rattle.canvas_by_turns.specs.declared.fault.RunFault.TheVariants as fault;
 ghost use Rattle.canvas_engine.specs.Evidence.{IsRun, IsThreadFault};
 ghost use Rattle.canvas_engine.specs.Headline.{OnlyWanted};
-ghost use Rattle.canvas_engine.specs.steps.Crews.{AreGathered, AreRead, HaveWorked, IsHaltedFor, leaves};
-ghost use Rattle.canvas_engine.specs.steps.Slots.{AreOfSite};
+ghost use Rattle.canvas_engine.specs.steps.Gathering.{AreGathered, AreRead, HaveWorked, IsHaltedFor, leaves};
+ghost use Rattle.canvas_engine.specs.steps.WorkerSlots.{AreOfObjects};
 
-use crate::threads::crew::{Hands, Site};
+use crate::threads::handles::{Handles, Objects};
 use crate::{Cause, Records, Report, RunFault, Tally};
 use canvas_backend::{Backend, BackendSeat};
 use canvas_rewrite::Plan;
@@ -30,9 +30,9 @@ use std::sync::Wait;
 /// What a run has besides its workers' places: before they begin, and once they have ended.
 #[derive(Drop)]
 pub(crate) struct Run {
-    pub site: Site,
+    pub objects: Objects,
     /// Worker 0's pass and seat, with those that were joined.
-    pub hands: Hands,
+    pub handles: Handles,
     /// The number of messages published before the workers begin.
     pub first: usize,
     pub rows: Vec<Option<Outcome>>,
@@ -62,20 +62,20 @@ fn read_rows(backend: &Backend, seat: &mut BackendSeat, plan: &Plan, rows: &mut 
 fn work_alone<R: Wait + RandomSource + AllocGlobal, T: Tasks>(
     rt: &R,
     alloc: Global,
-    site: &Site,
+    objects: &Objects,
     tasks: &T,
     stop: &Stop,
-    hands: Hands,
+    handles: Handles,
 ) -> Option<Record>
-    requires plan { (l : Line) × IsPlan l × (site.now.backend.plan ≡ roster_of l) }
-    requires own { AreOfSite site.now hands }
-    ensures { IfSome result (Finished (T.behaviour tasks.now) (λ _ _. ⊥) site.now.backend.plan 0
-        hands.pass hands.seat) }
+    requires plan { (l : Line) × IsPlan l × (objects.now.backend.plan ≡ roster_of l) }
+    requires own { AreOfObjects objects.now handles }
+    ensures { IfSome result (Finished (T.behaviour tasks.now) (λ _ _. ⊥) objects.now.backend.plan 0
+        handles.pass handles.seat) }
 {
-    let Hands { pass, seat } = hands;
+    let Handles { pass, seat } = handles;
     let shared = Shared {
-        broker: &site.broker,
-        backend: &site.backend,
+        broker: &objects.broker,
+        backend: &objects.backend,
         tasks,
         gate: &OpenGate,
         stop,
@@ -85,16 +85,16 @@ fn work_alone<R: Wait + RandomSource + AllocGlobal, T: Tasks>(
 }
 
 /// Returns what a run leaves, if worker 0 left this record and the others counted this.
-fn records_of(site: Site, left: Record, first: usize, tallies: Vec<Tally>) -> Records
+fn records_of(objects: Objects, left: Record, first: usize, tallies: Vec<Tally>) -> Records
     requires { 0 < length tallies.items }
-    ensures { result ≡ leaves site left left.seat first tallies.items }
+    ensures { result ≡ leaves objects left left.seat first tallies.items }
 {
     let mut workers = tallies;
     workers[0] = Tally::of(0, &left).with_published(first);
     Records {
-        broker: site.broker,
+        broker: objects.broker,
         pass: left.pass,
-        backend: site.backend,
+        backend: objects.backend,
         seat: left.seat,
         workers: ListOf::of(workers),
     }
@@ -103,31 +103,31 @@ fn records_of(site: Site, left: Record, first: usize, tallies: Vec<Tally>) -> Re
 /// Reads each task once, and returns what the run leaves.
 fn finish(
     plan: &Plan,
-    site: Site,
+    objects: Objects,
     mut left: Record,
     first: usize,
     mut rows: Vec<Option<Outcome>>,
     tallies: Vec<Tally>,
 ) -> Result<(Report, Records), RunFault>
-    requires own { left.seat.of ≡ site.backend.id }
-    requires plan { site.backend.plan ≡ roster_of plan.now }
+    requires own { left.seat.of ≡ objects.backend.id }
+    requires plan { objects.backend.plan ≡ roster_of plan.now }
     requires rows { length rows.items ≡ count_line plan.now }
     requires tallies { 0 < length tallies.items }
-    ensures ok { IfOk result (λ r. (left.fault ≡ None) × (t : Seat) × (t.of ≡ site.backend.id)
+    ensures ok { IfOk result (λ r. (left.fault ≡ None) × (t : Seat) × (t.of ≡ objects.backend.id)
         × AreRead plan.now left.seat r.0.rows t
-        × (r.1 ≡ leaves site left t first tallies.items)) }
+        × (r.1 ≡ leaves objects left t first tallies.items)) }
     ensures err { IfErr result (λ f. (cause : Cause) × (rows : List State) × (t : Seat)
         × (f ≡ fault.Halted cause (Some (record { rows = rows })))
         × AreRead plan.now left.seat rows t) }
 {
-    read_rows(&site.backend, &mut left.seat, plan, &mut rows);
+    read_rows(&objects.backend, &mut left.seat, plan, &mut rows);
     match left.fault {
         Some(cause) => Err(RunFault::halted_with(cause, rows)),
         None => {
             let report = Report {
                 rows: ListOf::of(rows),
             };
-            Ok((report, records_of(site, left, first, tallies)))
+            Ok((report, records_of(objects, left, first, tallies)))
         }
     }
 }
@@ -151,13 +151,13 @@ impl Run {
         // Only the clauses need it.
         let _tasks = tasks;
         let Run {
-            site,
-            mut hands,
+            objects,
+            mut handles,
             mut rows,
             ..
         } = self;
         // Worker 0 reads these rows as those of any run, so each is pending or the evaluation's.
-        read_rows(&site.backend, &mut hands.seat, plan, &mut rows);
+        read_rows(&objects.backend, &mut handles.seat, plan, &mut rows);
         RunFault::halted_with(cause, rows)
     }
 
@@ -184,14 +184,14 @@ impl Run {
         // Only the clauses need it.
         let _gate = gate;
         let Run {
-            site,
-            hands,
+            objects,
+            handles,
             first,
             rows,
             tallies,
         } = self;
-        match work_alone(rt, alloc, &site, tasks, stop, hands) {
-            Some(left) => finish(plan, site, left, first, rows, tallies),
+        match work_alone(rt, alloc, &objects, tasks, stop, handles) {
+            Some(left) => finish(plan, objects, left, first, rows, tallies),
             None => Err(RunFault::halted(Cause::Memory)),
         }
     }

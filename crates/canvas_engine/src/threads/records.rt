@@ -1,6 +1,6 @@
 //! The records of a run on threads.
 ghost use Rattle.std.specs.Prelude.{◌≡◌, ◌+◌, min};
-ghost use Rattle.canvas_engine.specs.steps.Slots.{counts, nothing_counted};
+ghost use Rattle.canvas_engine.specs.steps.WorkerSlots.{counts, nothing_counted};
 ghost use Rattle.canvas_runs.specs.Tally.{greatest_count};
 
 use canvas_backend::{Backend, BackendSeat};

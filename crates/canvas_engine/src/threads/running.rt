@@ -4,19 +4,21 @@ ghost use Rattle.std.specs.Vec.{vec_capacity};
 ghost use Rattle.canvas_semantics.specs.Line.{tree_of};
 ghost use Rattle.canvas_history.specs.Callers.{told};
 ghost use Rattle.canvas_history.specs.Roster.{roster_of};
-ghost use Rattle.canvas_callers.specs.Crew.{first_pass, first_seat};
-ghost use Rattle.canvas_runs.specs.Courses.{course_of};
+ghost use Rattle.canvas_callers.specs.CallerRuns.{first_pass, first_seat};
+ghost use Rattle.canvas_runs.specs.ProgramOrder.{program_order};
 ghost use Rattle.canvas_semantics.specs.States.{states};
 ghost use Rattle.canvas_by_turns.specs.Correct.{AreWorkers};
 ghost use Rattle.canvas_engine.specs.Evidence.{IsRun, IsThreadFault};
 ghost use Rattle.canvas_engine.specs.Headline.{Headline, OnlyWanted};
-ghost use Rattle.canvas_engine.specs.steps.Crews.{HaveWorked, IsStart};
-ghost use Rattle.canvas_engine.specs.steps.Slots.{nothing_counted};
+ghost use Rattle.canvas_engine.specs.steps.Gathering.{HaveWorked, IsStart};
+ghost use Rattle.canvas_engine.specs.steps.WorkerSlots.{nothing_counted};
 
-use crate::threads::crew::{Hands, Site, are_done, fault_of, join_all, split_all, tally_all};
 use crate::threads::ending::Run;
+use crate::threads::handles::{
+    Handles, Objects, are_done, fault_of, join_all, split_all, tally_all,
+};
 use crate::threads::publishing::publish_all;
-use crate::threads::slot::Slot;
+use crate::threads::slot::WorkerSlot;
 use crate::threads::workers::work_on_threads;
 use crate::{Cause, Records, Report, RunFault, Tally};
 use canvas_backend::Backend;
@@ -36,19 +38,19 @@ use std::thread::Threads;
 #[derive(Drop)]
 pub(crate) struct Start {
     run: Run,
-    slots: Vec<Slot>,
+    slots: Vec<WorkerSlot>,
     envelopes: Vec<Letter>,
 }
 
 /// Makes the queue and the table of a run, with worker 0's pass and seat.
-fn open(alloc: Global, plan: &Plan) -> Result<(Site, Hands), Memory>
+fn open(alloc: Global, plan: &Plan) -> Result<(Objects, Handles), Memory>
     ensures plan { IfOk result (λ r. r.0.backend.plan ≡ roster_of plan.now) }
     ensures pass { IfOk result (λ r. r.1.pass ≡ first_pass r.0.broker) }
     ensures seat { IfOk result (λ r. r.1.seat ≡ first_seat r.0.backend.id) }
 {
     let (broker, pass) = Broker::new(alloc)?;
     let (backend, seat) = Backend::new(alloc, plan)?;
-    Ok((Site { broker, backend }, Hands { pass, seat }))
+    Ok((Objects { broker, backend }, Handles { pass, seat }))
 }
 
 /// Returns worker 0's tally, with room for those of `workers` others.
@@ -75,11 +77,11 @@ fn reserve<R: Wait>(rt: &R, alloc: Global, plan: &Plan, workers: u32) -> Result<
     let rows = new_rows(alloc, plan)?;
     let tallies = first_tally(alloc, workers)?;
     let envelopes = first_envelopes(alloc, plan)?;
-    let (site, mut hands) = open(alloc, plan)?;
-    let slots = split_all(rt, alloc, &site, &mut hands, workers)?;
+    let (objects, mut handles) = open(alloc, plan)?;
+    let slots = split_all(rt, alloc, &objects, &mut handles, workers)?;
     let run = Run {
-        site,
-        hands,
+        objects,
+        handles,
         first: envelopes.len(),
         rows,
         tallies,
@@ -119,19 +121,26 @@ where
         mut slots,
         envelopes,
     } = start;
-    match publish_all(rt, &run.site.broker, &mut run.hands.pass, envelopes) {
+    match publish_all(rt, &run.objects.broker, &mut run.handles.pass, envelopes) {
         Ok(()) => (),
         Err(Memory) => return Err(RunFault::halted_with(Cause::Memory, run.rows)),
     }
     work_on_threads(
-        rt, alloc, &run.site, run.first, tasks, gate, stop, &mut slots,
+        rt,
+        alloc,
+        &run.objects,
+        run.first,
+        tasks,
+        gate,
+        stop,
+        &mut slots,
     );
     if !are_done(&slots) {
         return Err(RunFault::halted(Cause::Memory));
     }
     tally_all(&slots, &mut run.tallies);
     let fault = fault_of(&slots);
-    join_all(rt, &run.site, &mut run.hands, slots);
+    join_all(rt, &run.objects, &mut run.handles, slots);
     Ok((run, fault))
 }
 
@@ -191,7 +200,7 @@ where
     // the promise; what each worker did is the course of its core run
     ensures headline { IfOk result
         (λ r. (ran : IsRun (T.behaviour tasks.now) plan.now workers r.0.rows r.1)
-        × Headline (T.behaviour tasks.now) plan.now workers r.0.rows r.1 (course_of ran.run)) }
+        × Headline (T.behaviour tasks.now) plan.now workers r.0.rows r.1 (program_order ran.run)) }
     ensures workers { IfOk result (λ _. AreWorkers workers) }
     // the gate may have wanted each redelivery
     ensures wanted { IfOk result (λ r. OnlyWanted (G.may_want gate.now) (told r.1.pass)) }

@@ -5,7 +5,7 @@
 //! worker. The run is then halted for memory, without rows: the lost pass stays a live caller, of
 //! which nothing closed can be proved.
 ghost use Rattle.std.specs.Prelude.{◌≡◌, MatchBool};
-ghost use Rattle.canvas_engine.specs.steps.Slots.{LeftARecord, IsWell, LacksMemory, tally_in};
+ghost use Rattle.canvas_engine.specs.steps.WorkerSlots.{LeftARecord, IsWell, LacksMemory, tally_in};
 
 use crate::{Cause, Tally};
 use canvas_backend::BackendSeat;
@@ -15,7 +15,7 @@ use canvas_worker::Record;
 
 /// The content of a worker's slot.
 #[derive(Drop)]
-pub(crate) enum Post {
+pub(crate) enum SlotState {
     /// The pass and seat that the worker begins with.
     Ready(BrokerPass<Letter>, BackendSeat),
     /// The record that it left.
@@ -26,55 +26,55 @@ pub(crate) enum Post {
 
 /// A worker's number and what it has.
 #[derive(Drop)]
-pub(crate) struct Slot {
+pub(crate) struct WorkerSlot {
     pub number: u32,
-    pub post: Post,
+    pub state: SlotState,
 }
 
-impl Slot {
+impl WorkerSlot {
     pub(crate) fn is_done(&self) -> bool
-        ensures { MatchBool result (LeftARecord self.now.post) (LeftARecord self.now.post → ⊥) }
+        ensures { MatchBool result (LeftARecord self.now.state) (LeftARecord self.now.state → ⊥) }
     {
-        match &self.post {
-            Post::Done(_) => true,
-            Post::Ready(..) => false,
-            Post::Lost => false,
+        match &self.state {
+            SlotState::Done(_) => true,
+            SlotState::Ready(..) => false,
+            SlotState::Lost => false,
         }
     }
 
     /// Returns whether the worker ended without a fault.
     pub(crate) fn is_well(&self) -> bool
-        ensures { MatchBool result (IsWell self.now.post) (IsWell self.now.post → ⊥) }
+        ensures { MatchBool result (IsWell self.now.state) (IsWell self.now.state → ⊥) }
     {
-        match &self.post {
-            Post::Done(record) => record.fault.is_none(),
-            Post::Ready(..) => false,
-            Post::Lost => false,
+        match &self.state {
+            SlotState::Done(record) => record.fault.is_none(),
+            SlotState::Ready(..) => false,
+            SlotState::Lost => false,
         }
     }
 
     /// Returns whether memory was refused to the worker, or its executor failed.
     pub(crate) fn lacks_memory(&self) -> bool
-        ensures { MatchBool result (LacksMemory self.now.post) (LacksMemory self.now.post → ⊥) }
+        ensures { MatchBool result (LacksMemory self.now.state) (LacksMemory self.now.state → ⊥) }
     {
-        match &self.post {
-            Post::Done(record) => match &record.fault {
+        match &self.state {
+            SlotState::Done(record) => match &record.fault {
                 Some(Cause::Memory) => true,
                 Some(Cause::Stopped) => false,
                 None => false,
             },
-            Post::Ready(..) => false,
-            Post::Lost => true,
+            SlotState::Ready(..) => false,
+            SlotState::Lost => true,
         }
     }
 
     pub(crate) fn tally(&self) -> Tally
         ensures { result ≡ tally_in self.now }
     {
-        match &self.post {
-            Post::Done(record) => Tally::of(self.number, record),
-            Post::Ready(..) => Tally::none(self.number),
-            Post::Lost => Tally::none(self.number),
+        match &self.state {
+            SlotState::Done(record) => Tally::of(self.number, record),
+            SlotState::Ready(..) => Tally::none(self.number),
+            SlotState::Lost => Tally::none(self.number),
         }
     }
 }

@@ -206,7 +206,8 @@ module _ (behaviour : Behaviour) (plan : Roster) where
     unfolding rests nothing_done
     rests_wanted w t = tt
 
-    pub call_wanted : (w v x : Progress) (a : Ask Envelope) (r : Reply Envelope) (s : AnsweredByCall behaviour plan w v a r) (f : HasFollowed behaviour plan v x)
+    pub call_wanted : (w v x : Progress) (a : Ask Envelope) (r : Reply Envelope) (s : AnsweredByCall behaviour plan w v a r)
+        (f : HasFollowed behaviour plan v x)
         → Wanted f.made → Wanted (call_first w v x a r s f).made
     unfolding call_first
     call_wanted w v x a r s f h = each_append (IsWanted again plan) (broker_call a r) f.made (asks_wanted a r s.0.suits) h
