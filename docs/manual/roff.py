@@ -11,7 +11,7 @@ from typing import Iterator
 
 from program_help import ENTRY, Entry, entries_of
 
-WIDTH = 100
+WIDTH = 80
 #: The columns that an example may take, so that the page fits a terminal of 80.
 EXAMPLE = 68
 SIGNS = {"\\": "\\e", "-": "\\-", "'": "\\(aq", "`": "\\(ga", "^": "\\(ha", "~": "\\(ti"}
@@ -38,7 +38,7 @@ def marked(text: str) -> str:
 
 
 def guarded(line: str) -> str:
-    """A line that is no request, whatever it begins with. A quote is escaped anyhow."""
+    """Protects a line that begins like a request. A quote is escaped already."""
     return f"\\&{line}" if line.startswith(".") else line
 
 
