@@ -200,29 +200,29 @@ abbrev mutual
 -- ---- the callbacks of chains, groups and chords
 
 -- a callback as written and as adapted
-pub data Given : Type 0 where
-  nothing : Given
-  given : (written adapted : Sig) → Given → Given
+pub data Inherited : Type 0 where
+  nothing : Inherited
+  given : (written adapted : Sig) → Inherited → Inherited
 
-abbrev pub adapted_of : Given → Sigs
+abbrev pub adapted_of : Inherited → Sigs
 adapted_of nothing = none
 adapted_of (given s t gs) = also t (adapted_of gs)
 
-abbrev pub both_given : Given → Given → Given
+abbrev pub both_given : Inherited → Inherited → Inherited
 both_given nothing gs = gs
 both_given (given s t gs) hs = given s t (both_given gs hs)
 
 -- the callbacks that aren't written among others
-abbrev pub but : Sigs → Given → Given
+abbrev pub but : Sigs → Inherited → Inherited
 but others nothing = nothing
 but others (given s t gs) = if has others s then but others gs else given s t (but others gs)
 
 -- callbacks, each with its adapted form; the first of those that are written alike
-abbrev pub paired : Sigs → Sigs → Given
+abbrev pub paired : Sigs → Sigs → Inherited
 paired (also s ss) (also t ts) = given s t (paired ss ts)
 paired ss ts = nothing
 
-abbrev pub once : Sigs → Sigs → Sigs → Given
+abbrev pub once : Sigs → Sigs → Sigs → Inherited
 once known (also s ss) (also t ts) =
     if has known s then once known ss ts
     else given s t (once (and_then known (also s none)) ss ts)
@@ -231,8 +231,8 @@ once known ss ts = nothing
 -- The context of a signature. If something follows a group it is a header, and Celery freezes the
 -- signatures that it doesn't start itself.
 pub record Around : Type 0 where
-  pub links : Given
-  pub errbacks : Given
+  pub links : Inherited
+  pub errbacks : Inherited
   pub is_followed : Bool
   pub is_frozen : Bool
 

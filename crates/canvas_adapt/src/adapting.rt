@@ -12,9 +12,9 @@ ghost use Rattle.canvas_values.specs.declared.fault.SigFault.TheVariants.{Memory
 ghost use Rattle.canvas_adapt.specs.Adapting.{is_of_text, IsSettled};
 
 use crate::changes::Changes;
-use crate::given::Given;
+use crate::context::Context;
+use crate::inherited::Inherited;
 use crate::text::{is_surely_short, line_of};
-use crate::work::Work;
 use bumpalo::Bump;
 use canvas_sig::parts::{Datum, MOST_LEVELS, canvas_of, parse, read_node};
 use canvas_sig::{Canvas, MOST_BYTES, SigFault, read_canvas};
@@ -46,10 +46,10 @@ pub(crate) fn adapt_value<'a>(
     arena: &'a Bump,
     value: &mut Datum<'a>,
 ) -> Result<Changes, SigFault> {
-    let mut work = Work::new(alloc, arena);
+    let mut work = Context::new(alloc, arena);
     work.thaw(value, MOST_LEVELS)?;
     work.split_callbacks(value, MOST_LEVELS)?;
-    work.adapt_node(value, &Given::none(), MOST_LEVELS)?;
+    work.adapt_node(value, &Inherited::none(), MOST_LEVELS)?;
     Ok(work.changes)
 }
 

@@ -1,9 +1,9 @@
 //! Adapting the arguments of tasks.
 
 use crate::changes::Change;
+use crate::context::Context;
 use crate::member::Members;
 use crate::text::text_of;
-use crate::work::Work;
 use bumpalo::Bump;
 use canvas_sig::SigFault;
 use canvas_sig::parts::Datum;
@@ -46,7 +46,7 @@ fn shown<'a>(alloc: Global, arena: &'a Bump, value: &Datum<'_>) -> Result<&'a st
     arena.try_alloc_str(&text)
 }
 
-impl<'a> Work<'a> {
+impl<'a> Context<'a> {
     fn adapt_argument(&mut self, value: &mut Datum<'a>) -> Result<(), SigFault> {
         if is_fit(value) {
             return Ok(());

@@ -1,13 +1,13 @@
 //! Links and error callbacks.
 
+use crate::arena_vec::ArenaVec;
 use crate::changes::Change;
-use crate::given::{Callback, Given, callbacks_of};
-use crate::made::Made;
-use crate::work::Work;
+use crate::context::Context;
+use crate::inherited::{Callback, Inherited, callbacks_of};
 use canvas_sig::SigFault;
 use canvas_sig::parts::Datum;
 
-impl<'a> Work<'a> {
+impl<'a> Context<'a> {
     /// Returns callbacks, followed by the inherited ones.
     pub(crate) fn with_given(
         &mut self,
@@ -15,7 +15,7 @@ impl<'a> Work<'a> {
         given: &'a [Callback<'a>],
     ) -> Result<&'a [Datum<'a>], SigFault> {
         self.count_given(given.len())?;
-        let mut made = Made::new(self.arena);
+        let mut made = ArenaVec::new(self.arena);
         made.push_all(own)?;
         for callback in given {
             made.push(*callback.adapted)?;
@@ -30,8 +30,8 @@ impl<'a> Work<'a> {
         left: u32,
     ) -> Result<&'a [Callback<'a>], SigFault> {
         self.count(Change::Callback, written.len());
-        let adapted = self.adapted_tasks(written, &Given::none(), left)?;
-        let mut made = Made::new(self.arena);
+        let adapted = self.adapted_tasks(written, &Inherited::none(), left)?;
+        let mut made = ArenaVec::new(self.arena);
         for (index, value) in adapted.iter().enumerate() {
             if let Some(written) = written.get(index) {
                 made.push(Callback::new(written, value))?;
@@ -69,12 +69,12 @@ impl<'a> Work<'a> {
     pub(crate) fn with_own(
         &mut self,
         value: &Datum<'a>,
-        given: &Given<'a>,
+        given: &Inherited<'a>,
         left: u32,
-    ) -> Result<Given<'a>, SigFault> {
+    ) -> Result<Inherited<'a>, SigFault> {
         let links = self.with_own_links(value, given.links, left)?;
         let errbacks = self.with_own_errbacks(value, given.errbacks, left)?;
-        Ok(Given {
+        Ok(Inherited {
             links,
             errbacks,
             ..*given

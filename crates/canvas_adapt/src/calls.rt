@@ -1,9 +1,9 @@
 //! Celery's own tasks that call another task with each of some items: maps, starmaps and chunks.
 
 use crate::changes::Change;
-use crate::form::{called_task, takes_items};
-use crate::given::Given;
-use crate::work::Work;
+use crate::context::Context;
+use crate::inherited::Inherited;
+use crate::shape::{called_task, takes_items};
 use bumpalo::Bump;
 use canvas_semantics::MOST_TASKS;
 use canvas_sig::SigFault;
@@ -63,12 +63,12 @@ fn calls_of<'a>(arena: &'a Bump, value: &Datum<'a>) -> Result<&'a [Datum<'a>], S
     Ok(calls)
 }
 
-impl<'a> Work<'a> {
+impl<'a> Context<'a> {
     /// Makes it a group of the calls with all items.
     pub(crate) fn adapt_calls(
         &mut self,
         value: &mut Datum<'a>,
-        given: &Given<'a>,
+        given: &Inherited<'a>,
         left: u32,
     ) -> Result<(), SigFault> {
         let calls = calls_of(self.arena, value)?;

@@ -1,12 +1,12 @@
 //! Callbacks that are chains or groups, which are replaced by their tasks.
 
+use crate::arena_vec::ArenaVec;
 use crate::changes::Change;
-use crate::form::{Form, form_of, is_task};
-use crate::given::{callbacks_of, weight_of};
-use crate::made::Made;
+use crate::context::Context;
+use crate::inherited::{callbacks_of, weight_of};
 use crate::member::{drop_callbacks, set_inner};
 use crate::part::{Part, callback_parts, inner_parts, set_values, values_at};
-use crate::work::Work;
+use crate::shape::{Shape, form_of, is_task};
 use canvas_sig::parts::{Datum, MOST_LEVELS, is_true, kwarg_of, listed, own_fault, primitive_of};
 use canvas_sig::{MOST_BYTES, SigFault};
 
@@ -53,17 +53,17 @@ fn are_immutable(tasks: &[Datum<'_>]) -> bool {
 /// Returns whether Celery calls these tasks for a callback: a chain that is called for a failure
 /// gets three arguments, and passes them to those of its tasks that take input.
 fn are_called(callback: &Datum<'_>, name: &str, tasks: &[Datum<'_>]) -> bool {
-    name != "link_error" || !matches!(form_of(callback), Form::Chain) || are_immutable(tasks)
+    name != "link_error" || !matches!(form_of(callback), Shape::Chain) || are_immutable(tasks)
 }
 
-impl<'a> Work<'a> {
+impl<'a> Context<'a> {
     /// Returns callbacks, followed by others.
     fn chained(
         &mut self,
         own: &'a [Datum<'a>],
         others: &'a [Datum<'a>],
     ) -> Result<&'a [Datum<'a>], SigFault> {
-        let mut made = Made::new(self.arena);
+        let mut made = ArenaVec::new(self.arena);
         made.push_all(own)?;
         made.push_all(others)?;
         Ok(made.done())
@@ -75,7 +75,7 @@ impl<'a> Work<'a> {
         own: &'a [Datum<'a>],
         others: &'a [Datum<'a>],
     ) -> Result<&'a [Datum<'a>], SigFault> {
-        let mut made = Made::new(self.arena);
+        let mut made = ArenaVec::new(self.arena);
         made.push_all(own)?;
         for other in others {
             self.add_new(&mut made, other)?;
@@ -174,7 +174,7 @@ impl<'a> Work<'a> {
     #[cycle(start)]
     fn add_starts(
         &mut self,
-        made: &mut Made<'a, Datum<'a>>,
+        made: &mut ArenaVec<'a, Datum<'a>>,
         member: &'a Datum<'a>,
         next: Next<'a>,
         left: u32,
@@ -198,7 +198,7 @@ impl<'a> Work<'a> {
         if next.is_followed {
             return Ok(None);
         }
-        let mut made = Made::new(self.arena);
+        let mut made = ArenaVec::new(self.arena);
         let mut deepest = next.depth;
         for member in members {
             match self.add_starts(&mut made, member, next, left)? {
@@ -223,7 +223,7 @@ impl<'a> Work<'a> {
         left: u32,
     ) -> Result<Option<Next<'a>>, SigFault> {
         let form = form_of(value);
-        if matches!(form, Form::Task) {
+        if matches!(form, Shape::Task) {
             return self.task_before(value, next);
         }
         if left == 0 || self.is_faulty(value)? {
@@ -232,8 +232,8 @@ impl<'a> Work<'a> {
         let next = self.with_callbacks(value, next)?;
         let inner = listed(kwarg_of(value, "tasks"));
         match form {
-            Form::Chain => self.starts_of_elements(inner, next, left - 1),
-            Form::Group => self.starts_of_members(inner, next, left - 1),
+            Shape::Chain => self.starts_of_elements(inner, next, left - 1),
+            Shape::Group => self.starts_of_members(inner, next, left - 1),
             _ => Ok(None),
         }
     }
@@ -259,7 +259,7 @@ impl<'a> Work<'a> {
     /// Appends a callback, or the tasks that replace it.
     fn add_callback(
         &mut self,
-        made: &mut Made<'a, Datum<'a>>,
+        made: &mut ArenaVec<'a, Datum<'a>>,
         callback: &'a Datum<'a>,
         name: &str,
     ) -> Result<(), SigFault> {
@@ -275,7 +275,7 @@ impl<'a> Work<'a> {
         callbacks: &'a [Datum<'a>],
         name: &str,
     ) -> Result<&'a [Datum<'a>], SigFault> {
-        let mut made = Made::new(self.arena);
+        let mut made = ArenaVec::new(self.arena);
         for callback in callbacks {
             self.add_callback(&mut made, callback, name)?;
         }

@@ -2,15 +2,15 @@
 #![tactic(auto)]
 
 mod adapting;
+mod arena_vec;
 mod argument;
 mod callback;
 mod calls;
 mod changes;
 mod compound;
+mod context;
 mod counting;
-mod form;
-mod given;
-mod made;
+mod inherited;
 mod member;
 mod node;
 mod part;
@@ -18,11 +18,11 @@ mod printing;
 mod rename_fault;
 mod renames;
 mod renaming;
+mod shape;
 mod task;
 mod text;
 mod thaw;
 mod value_names;
-mod work;
 
 pub use adapting::{Adapted, adapt};
 pub use changes::{Change, Changes};

@@ -1,6 +1,6 @@
 //! Objects with a member added, removed or replaced.
 
-use crate::made::Made;
+use crate::arena_vec::ArenaVec;
 use bumpalo::Bump;
 use canvas_sig::SigFault;
 use canvas_sig::parts::Datum;
@@ -18,7 +18,7 @@ pub(crate) fn members_of<'a>(value: &Datum<'a>) -> Members<'a> {
 
 /// Appends the members whose names are less than a name.
 fn add_before<'a>(
-    made: &mut Made<'a, (&'a str, Datum<'a>)>,
+    made: &mut ArenaVec<'a, (&'a str, Datum<'a>)>,
     members: Members<'a>,
     name: &str,
 ) -> Result<(), SigFault> {
@@ -32,7 +32,7 @@ fn add_before<'a>(
 
 /// Appends the members whose names are greater than a name.
 fn add_behind<'a>(
-    made: &mut Made<'a, (&'a str, Datum<'a>)>,
+    made: &mut ArenaVec<'a, (&'a str, Datum<'a>)>,
     members: Members<'a>,
     name: &str,
 ) -> Result<(), SigFault> {
@@ -51,7 +51,7 @@ fn with<'a>(
     name: &str,
     own: &[(&'a str, Datum<'a>)],
 ) -> Result<Members<'a>, SigFault> {
-    let mut made = Made::new(arena);
+    let mut made = ArenaVec::new(arena);
     add_before(&mut made, members, name)?;
     made.push_all(own)?;
     add_behind(&mut made, members, name)?;

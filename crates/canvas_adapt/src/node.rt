@@ -1,11 +1,11 @@
 //! Adapting chains, groups and chords.
 
+use crate::arena_vec::ArenaVec;
 use crate::changes::Change;
-use crate::form::{Form, form_of};
-use crate::given::Given;
-use crate::made::Made;
+use crate::context::Context;
+use crate::inherited::Inherited;
 use crate::member::{drop_callbacks, set_inner};
-use crate::work::Work;
+use crate::shape::{Shape, form_of};
 use canvas_sig::SigFault;
 use canvas_sig::parts::{Datum, MOST_LEVELS, is_list, kwarg_of, listed, own_fault};
 use std::slice;
@@ -18,8 +18,8 @@ fn unrolled<'a>(value: &Datum<'a>, left: u32) -> Option<&'a [Datum<'a>]> {
         return None;
     }
     match form_of(value) {
-        Form::Group => Some(listed(kwarg_of(value, "tasks"))),
-        Form::Chain => unrolled_one(listed(kwarg_of(value, "tasks")), left - 1),
+        Shape::Group => Some(listed(kwarg_of(value, "tasks"))),
+        Shape::Chain => unrolled_one(listed(kwarg_of(value, "tasks")), left - 1),
         _ => None,
     }
 }
@@ -33,7 +33,10 @@ fn unrolled_one<'a>(elements: &'a [Datum<'a>], left: u32) -> Option<&'a [Datum<'
 }
 
 /// Appends values in reverse order.
-fn add_turned<'a>(made: &mut Made<'a, Datum<'a>>, values: &'a [Datum<'a>]) -> Result<(), SigFault> {
+fn add_turned<'a>(
+    made: &mut ArenaVec<'a, Datum<'a>>,
+    values: &'a [Datum<'a>],
+) -> Result<(), SigFault> {
     for value in values.iter().rev() {
         made.push(*value)?;
     }
@@ -89,7 +92,7 @@ fn made_of<'a>(place: Place, values: &'a [Datum<'a>]) -> Datum<'a> {
 }
 
 /// Returns the context of a signature at a place.
-fn given_at<'a>(given: &Given<'a>, place: Place, is_last: bool) -> Given<'a> {
+fn given_at<'a>(given: &Inherited<'a>, place: Place, is_last: bool) -> Inherited<'a> {
     match place {
         Place::Elements => given.of_element(is_last),
         _ => given.of_part(place.is_alone()),
@@ -104,12 +107,12 @@ fn place_of_header(value: &Datum<'_>) -> Place {
     Place::HeaderGroup
 }
 
-impl<'a> Work<'a> {
+impl<'a> Context<'a> {
     /// Appends a member to those of a group. A group in it is replaced by its members, in reverse
     /// order if Celery freezes the outer group.
     fn add_member(
         &mut self,
-        made: &mut Made<'a, Datum<'a>>,
+        made: &mut ArenaVec<'a, Datum<'a>>,
         written: &Datum<'a>,
         adapted: &Datum<'a>,
         is_frozen: bool,
@@ -118,8 +121,8 @@ impl<'a> Work<'a> {
             return made.push(*adapted);
         };
         match form_of(written) {
-            Form::Calls => made.push_all(values),
-            Form::Group if is_frozen => {
+            Shape::Calls => made.push_all(values),
+            Shape::Group if is_frozen => {
                 self.count(Change::Group, 1);
                 add_turned(made, values)
             }
@@ -133,7 +136,7 @@ impl<'a> Work<'a> {
     /// Appends the members of a group.
     fn add_members(
         &mut self,
-        made: &mut Made<'a, Datum<'a>>,
+        made: &mut ArenaVec<'a, Datum<'a>>,
         written: &[Datum<'a>],
         adapted: &[Datum<'a>],
         is_frozen: bool,
@@ -158,7 +161,7 @@ impl<'a> Work<'a> {
         if !matches!(place, Place::Members | Place::Header) {
             return Ok(adapted);
         }
-        let mut made = Made::new(self.arena);
+        let mut made = ArenaVec::new(self.arena);
         self.add_members(&mut made, values_at(value, place), adapted, is_frozen)?;
         Ok(made.done())
     }
@@ -188,7 +191,7 @@ impl<'a> Work<'a> {
         &mut self,
         value: &mut Datum<'a>,
         place: Place,
-        given: &Given<'a>,
+        given: &Inherited<'a>,
         left: u32,
     ) -> Result<(), SigFault> {
         let adapted = self.arena.try_alloc_slice_copy(values_at(value, place))?;
@@ -205,17 +208,17 @@ impl<'a> Work<'a> {
     fn adapt_parts(
         &mut self,
         value: &mut Datum<'a>,
-        form: Form,
-        given: &Given<'a>,
+        form: Shape,
+        given: &Inherited<'a>,
         left: u32,
     ) -> Result<(), SigFault> {
         let given = self.with_own(value, given, left)?;
         match form {
-            Form::Chain => self.adapt_inner(value, Place::Elements, &given, left),
-            Form::Group => self.adapt_inner(value, Place::Members, &given, left),
+            Shape::Chain => self.adapt_inner(value, Place::Elements, &given, left),
+            Shape::Group => self.adapt_inner(value, Place::Members, &given, left),
             _ => {
                 let place = place_of_header(value);
-                self.adapt_inner(value, place, &Given::none().of_part(true), left)?;
+                self.adapt_inner(value, place, &Inherited::none().of_part(true), left)?;
                 self.adapt_inner(value, Place::Body, &given, left)
             }
         }
@@ -226,17 +229,17 @@ impl<'a> Work<'a> {
     pub(crate) fn adapt_node(
         &mut self,
         value: &mut Datum<'a>,
-        given: &Given<'a>,
+        given: &Inherited<'a>,
         left: u32,
     ) -> Result<(), SigFault> {
         if left == 0 {
             return Ok(());
         }
         match form_of(value) {
-            Form::Task => self.adapt_task(value, given, left - 1),
-            Form::Calls => self.adapt_calls(value, given, left - 1),
-            Form::Group => self.adapt_parts(value, Form::Group, &given.of_group(), left - 1),
-            Form::Other => Ok(()),
+            Shape::Task => self.adapt_task(value, given, left - 1),
+            Shape::Calls => self.adapt_calls(value, given, left - 1),
+            Shape::Group => self.adapt_parts(value, Shape::Group, &given.of_group(), left - 1),
+            Shape::Other => Ok(()),
             form => self.adapt_parts(value, form, given, left - 1),
         }
     }

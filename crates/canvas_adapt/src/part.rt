@@ -1,6 +1,6 @@
 //! The parts of a signature that contain signatures.
 
-use crate::given::values_in;
+use crate::inherited::values_in;
 use crate::member::set_inner;
 use bumpalo::Bump;
 use canvas_sig::SigFault;

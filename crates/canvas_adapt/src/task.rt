@@ -1,13 +1,13 @@
 //! Adapting tasks.
 
-use crate::form::is_task;
-use crate::given::{Callback, Given, callbacks_of};
+use crate::context::Context;
+use crate::inherited::{Callback, Inherited, callbacks_of};
 use crate::member::{set_inner, set_member};
-use crate::work::Work;
+use crate::shape::is_task;
 use canvas_sig::SigFault;
 use canvas_sig::parts::Datum;
 
-impl<'a> Work<'a> {
+impl<'a> Context<'a> {
     /// Adapts the arguments in a member of a task.
     fn set_arguments(&mut self, task: &mut Datum<'a>, name: &'a str) -> Result<(), SigFault> {
         match task.get(name) {
@@ -41,7 +41,7 @@ impl<'a> Work<'a> {
         task: &mut Datum<'a>,
         links: &'a [Datum<'a>],
         errbacks: &'a [Datum<'a>],
-        given: &Given<'a>,
+        given: &Inherited<'a>,
     ) -> Result<(), SigFault> {
         let others = self.not_among(given.errbacks, callbacks_of(task, "link_error"))?;
         self.set_callbacks(task, "link", links, given.links)?;
@@ -53,7 +53,7 @@ impl<'a> Work<'a> {
     pub(crate) fn adapted_tasks(
         &mut self,
         values: &'a [Datum<'a>],
-        given: &Given<'a>,
+        given: &Inherited<'a>,
         left: u32,
     ) -> Result<&'a [Datum<'a>], SigFault> {
         if left == 0 {
@@ -71,7 +71,7 @@ impl<'a> Work<'a> {
     pub(crate) fn adapt_task(
         &mut self,
         task: &mut Datum<'a>,
-        given: &Given<'a>,
+        given: &Inherited<'a>,
         left: u32,
     ) -> Result<(), SigFault> {
         if !is_task(task) {
@@ -79,7 +79,7 @@ impl<'a> Work<'a> {
         }
         self.set_arguments(task, "args")?;
         self.set_arguments(task, "kwargs")?;
-        let none = Given::none();
+        let none = Inherited::none();
         let links = self.adapted_tasks(callbacks_of(task, "link"), &none, left)?;
         let errbacks = self.adapted_tasks(callbacks_of(task, "link_error"), &none, left)?;
         self.give(task, links, errbacks, given)

@@ -1,11 +1,11 @@
 //! Thawing frozen signatures: removing the identifiers and places that Celery wrote into them when
 //! it started them (`Signature.freeze`).
 
+use crate::arena_vec::ArenaVec;
 use crate::changes::Change;
-use crate::made::Made;
+use crate::context::Context;
 use crate::member::{Members, members_of, set_inner, set_member};
 use crate::part::{Part, callback_parts, inner_parts, set_values, values_at};
-use crate::work::Work;
 use bumpalo::Bump;
 use canvas_sig::SigFault;
 use canvas_sig::parts::{Datum, kwarg_of, listed, option_of, primitive_of};
@@ -47,7 +47,7 @@ fn is_frozen(value: &Datum<'_>) -> bool {
 
 /// Returns the options that Celery didn't write.
 fn own_options<'a>(arena: &'a Bump, value: &Datum<'a>) -> Result<Members<'a>, SigFault> {
-    let mut made = Made::new(arena);
+    let mut made = ArenaVec::new(arena);
     for option in options_of(value) {
         if !is_book(option.0) && option.0 != "task_id" {
             made.push(*option)?;
@@ -80,7 +80,7 @@ fn set_list<'a>(arena: &'a Bump, value: &mut Datum<'a>) -> Result<(), SigFault> 
     }
 }
 
-impl<'a> Work<'a> {
+impl<'a> Context<'a> {
     /// Removes the options that Celery wrote into a signature itself.
     fn thaw_own(&mut self, value: &mut Datum<'a>) -> Result<(), SigFault> {
         self.count(Change::Frozen, 1);

@@ -1,4 +1,4 @@
--- What is told of rows that show the states of a run and the classes of its exceptions.
+-- The rows that show the states of a run and the classes of its exceptions, and their texts.
 use Rattle.std.proofs.Common.{◌≡◌, ◌∙◌, ◌==◌, ℕ, true, List, [], length, Option, None, String, Global, sym, subst}
 use Rattle.std.proofs.lemmas.Bool.{eqb-true}
 use Rattle.std.proofs.lemmas.List.{nil_from_length}
@@ -21,8 +21,8 @@ use Rattle.canvas_answer.specs.OnCelery.{IsStoredText}
 use Rattle.canvas_answer.specs.Raised.{class_of, own_class, AreShown}
 use Rattle.canvas_answer.specs.Told.{IsJsonOf, IsReportText, IsTold, IsUntoldText, known_states}
 use Rattle.canvas_answer.specs.declared.errors.OtherError.{OtherError}
-use Rattle.canvas_answer.specs.declared.reporting.Form.{Form}
-use Rattle.canvas_answer.specs.declared.reporting.Form.TheVariants.{Plain, Json, Explained}
+use Rattle.canvas_answer.specs.declared.reporting.Format.{Format}
+use Rattle.canvas_answer.specs.declared.reporting.Format.TheVariants.{Plain, Json, Explained}
 use Rattle.canvas_answer.proofs.ShownRows.{all_show, known_said, plain_shown, seen_at}
 
 pub none_of : {X : Type 0} (xs : List X) → (length xs == 0) ≡ true → xs ≡ []
@@ -63,7 +63,7 @@ told_plain its run shown behaviour ss again text none s h = (
 
 -- ---- of a run that ended early
 
-untold : (form : Form) (l : Line) (f : ℕ → Option Text) (ss : List State) (rows : List Row) (text : Text) → AreShown f ss rows
+untold : (form : Format) (l : Line) (f : ℕ → Option Text) (ss : List State) (rows : List Row) (text : Text) → AreShown f ss rows
     → IsStoredText form l rows text → IsUntoldText form rows (tree_of l) text
 untold Plain l f ss rows text shows h = h.0
 untold Json l f ss rows text shows h =
@@ -71,7 +71,7 @@ untold Json l f ss rows text shows h =
     (seen_at rows, all, h ∙ rows_written [] (parameter_of []) None (tree_of l) rows (seen_at rows) all)
 untold Explained l f ss rows text shows h = h
 
-pub stored_told : (its : Asking) (run shown l : Line) (form : Form) (fs : Fates) (ss : List State) (rows : List Row) (text : Text)
+pub stored_told : (its : Asking) (run shown l : Line) (form : Format) (fs : Fates) (ss : List State) (rows : List Row) (text : Text)
     → fs ≡ seen_fates (rows_from 1 ss) l → l ≡ run → AreShown (class_of fs (own_class its.stubs its.errors run)) ss rows
     → IsStoredText form shown rows text → IsReportText its run shown form ss text
 stored_told its run shown l form fs ss rows text seen is shows h =

@@ -1,5 +1,5 @@
--- What the program answers to what it is asked: the bytes for standard output and a status; and
--- where these are not all that was asked for, why.
+-- The program's answer: the bytes for standard output and a status, and, if these are not all that
+-- was asked for, why.
 use Rattle.std.specs.Prelude.{◌≡◌, ◌⊎◌, ◌==◌, ◌||◌, ℕ, Bool, true, false, [], Option, None, Some}
 use Rattle.std.specs.Prelude.{String, string_bytes, if◌then◌else◌}
 use Rattle.std.specs.declared.alloc.Global.{Global}
@@ -14,25 +14,25 @@ use Rattle.canvas_answer.specs.declared.refusal.Refusal.TheVariants.{CannotWrite
 use Rattle.canvas_answer.specs.Letters.{message_lines}
 use Rattle.canvas_answer.specs.Printing.{printed}
 
--- what an output is of: bytes, a line for each message, or the bytes of a start
+-- the bytes of an output: those that it has, a line for each message, or the bytes of a start
 abbrev pub bytes_in : Output → Text
 bytes_in (Lines bytes) = bytes.items
 bytes_in (Bytes bytes) = bytes.items
 bytes_in (Letters letters) = message_lines letters.items
 bytes_in (Start bytes) = bytes
 
--- these bytes are all that was asked for, and this is the status
+-- these bytes are all that was asked for, and the answer has this status
 pub record AnswersAll (text : Text) (status : ℕ) (a : Answer) : Type 0 where
   pub out : bytes_in a.out ≡ text
   pub unrefused : a.refusal ≡ None
   pub ends : a.status ≡ status
 
--- these bytes are what there is
+-- these bytes are all that there is
 pub record AnswersPart (text : Text) (refusal : Refusal) (a : Answer) : Type 0 where
   pub out : bytes_in a.out ≡ text
   pub refused : a.refusal ≡ Some refusal
 
--- 2 where the program ended early, and 1 where it was refused
+-- 2 if the program ended early, and 1 if it was refused
 abbrev pub refusal_status : Refusal → ℕ
 refusal_status Memory = 2
 refusal_status Stopped = 2
@@ -43,8 +43,8 @@ abbrev pub output_refusal : ErrorKind → Refusal
 output_refusal OutOfMemory = Memory
 output_refusal kind = CannotWrite
 
--- Whether a status says that not all of an output was printed: 1 where it can't be written, and 2
--- where memory was refused for a text that is made as it is printed.
+-- Whether a status says that not all of an output was printed: 1 if it can't be written, and 2 if
+-- memory was refused for a text that is made as it is printed.
 abbrev pub is_cut : Output → (status : ℕ) → Bool
 is_cut (Lines bytes) n = n == 1
 is_cut (Bytes bytes) n = n == 1
@@ -60,7 +60,8 @@ ends_with None out status n = (n ≡ status) ⊎ (is_cut out n ≡ true)
 abbrev pub IsStatus : Answer → ℕ → Type 0
 IsStatus a n = ends_with a.refusal a.out a.status n
 
--- what reaches standard output: each byte, where a program reads it, else the text as it is printed
+-- the bytes that reach standard output: each byte as it is if a program reads it, else the text as
+-- it is printed
 abbrev pub is_raw : Output → Bool
 is_raw (Lines bytes) = false
 is_raw (Bytes bytes) = true
@@ -73,12 +74,12 @@ printed_of out = if is_raw out then bytes_in out else printed (bytes_in out)
 abbrev pub printed_out : Answer → Text
 printed_out a = printed_of a.out
 
--- of a text that there may not be
+-- the bytes of a text, or none if there is none
 abbrev pub bytes_of : Option (String Global) → Text
 bytes_of None = []
 bytes_of (Some text) = string_bytes text
 
--- a refusal that is told otherwise, unless memory for that is refused
+-- a refusal in another form, unless memory for that is refused
 abbrev pub IsKept : (refusal told : Option Refusal) → Type 0
 IsKept None told = told ≡ None
 IsKept (Some refusal) told = (told ≡ Some refusal) ⊎ (told ≡ Some Memory)

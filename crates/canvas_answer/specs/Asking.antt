@@ -1,4 +1,4 @@
--- What is asked of canvases besides what answers their calls.
+-- How canvases are run, besides the tasks that answer their calls.
 use Rattle.std.specs.Prelude.{Bool, List}
 use Rattle.canvas_adapt.specs.declared.renames.Rename.{Rename}
 use Rattle.canvas_stubs.specs.declared.stub.Stub.{Stub}
@@ -9,11 +9,11 @@ use Rattle.canvas_answer.specs.declared.stubs.Answers.{Answers}
 pub record Asking : Type 0 where
   -- whether a canvas is adapted first
   pub adapts : Bool
-  -- what tasks answer by their names
+  -- the answers of tasks by their names
   pub stubs : List Stub
   -- the classes of the exceptions for which NotRegistered is raised in a run
   pub errors : List OtherError
-  -- the names that tasks have in a run whose stubs have their numbers
+  -- the names that the tasks with a numbered stub have in a run
   pub renames : List Rename
 
 abbrev pub asking : Setting → Asking

@@ -1,5 +1,5 @@
 -- The parameters that make calls of a run TypeErrors. A built-in task answers a call if the call
--- has its name, or if a stub does as it; of no other task is it known what it takes. What comes
+-- has its name, or if a stub does as it; the parameters of any other task aren't known. What comes
 -- before a call's own arguments depends on its place (Celery user guide, Canvas: a callback gets
 -- the result of its task and an error callback its identifier, a chord's body gets a list).
 use Rattle.std.specs.Prelude.{◌≡◌, ◌&&◌, if◌then◌else◌, ℕ, Bool, true, false, List, [], ◌∷◌, ◌++◌, map, Option, None, Some, String, string_bytes, option_map}
@@ -45,7 +45,7 @@ abbrev pub builtin_of : List Stub → Text → Option Builtin
 builtin_of stubs name =
     builtin_after (stub_of name stubs) (builtin_or (builtin_named name) (stub_of any_name stubs))
 
--- The parameter at fault, if it is one, of a call that a built-in task answers.
+-- The parameter at fault, if there is one, of a call that a built-in task answers.
 abbrev pub blame : List Stub → Call → Input → Option (Option Text)
 blame stubs call i =
     option_map
@@ -99,11 +99,11 @@ module _ (stubs : List Stub) (is_bad : ℕ → Bool) where
     lines_blames no_lines i = []
     lines_blames (and_line m ms) i = line_blames m i ++ lines_blames ms i
 
--- of a run with these fates and states; nothing comes before the first call
+-- the blames of a run with these fates and states; nothing comes before the first call
 abbrev pub blames : List Stub → Fates → List State → Line → Blames
 blames stubs fates ss l = line_blames stubs (is_bad_call fates ss) l Nothing
 
--- what a report has of them
+-- how a report has a blame
 abbrev pub blame_said : ℕ × Option (String Global) → ℕ × Option Text
 blame_said b = (b.0, option_map (λ name. string_bytes name) b.1)
 

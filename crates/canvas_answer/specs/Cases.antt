@@ -1,6 +1,7 @@
--- `run --failures`: a JSON line for a canvas as it stands, and one for each task that fails alone.
--- A line has the result of the canvas (`canvas`), the task that fails (`fails`), and rows of tasks
--- as `run --json` shows them (`rows`): all of them, or of a case those that differ.
+-- `run --failures`: a JSON line for a canvas without a failure, and one for each task, in which
+-- only that task fails. A line has the result of the canvas (`canvas`), the task that fails
+-- (`fails`), and rows of tasks as `run --json` shows them (`rows`): all of them, or in a case those
+-- that differ.
 use Rattle.std.specs.Prelude.{◌≡◌, ◌==◌, ℕ, if◌then◌else◌, List, [], ◌∷◌, ◌++◌, map, Option, Some, None, codes, decimal, string_bytes}
 use Rattle.std.specs.List.{filter_map}
 use Rattle.std.specs.Str.{bytes_eq}
@@ -29,7 +30,7 @@ use Rattle.canvas_answer.specs.Told.{AreRows}
 use Rattle.canvas_answer.specs.declared.errors.OtherError.{OtherError}
 use Rattle.canvas_answer.specs.declared.evaluated.Evaluated.{Evaluated}
 
--- ---- what is told of a canvas that is evaluated
+-- ---- the results of a canvas that is evaluated
 
 pub record IsEvaluated (its : Asking) (behaviour : Behaviour) (run shown : Line) (e : Evaluated)
     : Type 0 where
@@ -53,11 +54,11 @@ without_end (b ∷ bs) = b ∷ without_end bs
 abbrev pub told_line : Evaluated → ℕ × Text → Text
 told_line e = row_line e.fates.items (parameter_of e.blamed.items) e.rows.items
 
--- the same without its line feed
+-- the line of a task without its line feed
 abbrev pub row_object : Evaluated → ℕ × Text → Text
 row_object e t = without_end (told_line e t)
 
--- of a task of which something else is told
+-- the row of a task that differs from the one before, if it does
 abbrev pub changed_object : (now before : Evaluated) → ℕ × Text → Option Text
 changed_object now before t =
     if bytes_eq (row_object before t) (row_object now t) then None else Some (row_object now t)
@@ -75,13 +76,13 @@ case_line e c fails rows =
     codes "{\"canvas\":" ++ result_object e c ++ fails_member fails ++ codes ",\"rows\":["
     ++ joined rows ++ codes "]}\n"
 
--- ---- the canvas as it stands
+-- ---- the canvas without a failure
 
--- all that is told of its tasks
+-- the rows of all its tasks
 abbrev pub AreAllRows : Evaluated → Line → List Text → Type 0
 AreAllRows e shown rows = rows ≡ map (row_object e) (names_by_number (tree_of shown))
 
--- ---- a case: what `--task '#k=word'` says before all others
+-- ---- a case: what `--task '#k=word'` puts before all others
 
 abbrev pub numbered_word : ℕ → (word : Text) → Text
 numbered_word k word = codes "#" ++ decimal k ++ codes "=" ++ word
@@ -101,9 +102,9 @@ first_of s r x its =
       renames = r ∷ its.renames;
     }
 
--- The line of the case in which task k fails with this word, of a canvas with this plan: the rows
--- that differ from those of the canvas as it stands. The plan that is evaluated has the name of
--- the stub at the task.
+-- The line of the case in which task k fails with this word, for a canvas with this plan: the rows
+-- that differ from those without a failure. The plan that is evaluated has the name of the stub at
+-- the task.
 pub record IsCaseLine (its : Asking) (behaviour : Behaviour) (word : Text) (c : Tree)
     (shown : Line) (before : Evaluated) (k : ℕ) (text : Text) : Type 0 where
   pub stub : Stub

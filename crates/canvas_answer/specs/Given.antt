@@ -1,4 +1,5 @@
--- What is given for the options of a command, by the rows that the crate `clap` makes of the words.
+-- The values given for the options of a command, from the rows that the crate `clap` makes of the
+-- words.
 use Rattle.std.specs.Prelude.{◌≡◌, ◌<◌, ◌^◌, ℕ, Bool, true, false, List, [], Option, None, Some, codes, unwrap_or}
 use Rattle.std.specs.Str.Parse.{IsNumeral, digits_value, without_leading_plus}
 use Rattle.clap.specs.Walk.{Row, all_of, first_of, one_of}
@@ -11,7 +12,7 @@ module _ (given : List Row) (option : Text) where
     pub set : one_of option given ≡ Some (codes "true") → b ≡ true
     pub unset : one_of option given ≡ Some (codes "false") → b ≡ false
 
-  -- the number that is given, of 32 bits, where a plus may be first; or none
+  -- the number that is given, in 32 bits and with an optional plus before it; or none
   pub record IsNumberOf (n : Option ℕ) : Type 0 where
     pub absent : one_of option given ≡ None → n ≡ None
     pub said : (text : Text) → one_of option given ≡ Some text
@@ -19,7 +20,7 @@ module _ (given : List Row) (option : Text) where
         → digits_value 10 (without_leading_plus text) < 2 ^ 32
         → n ≡ Some (digits_value 10 (without_leading_plus text))
 
-  -- the number that is given, or this
+  -- the number that is given, or `other`
   abbrev pub IsNumber : (other n : ℕ) → Type 0
   IsNumber other n = (said : Option ℕ) × IsNumberOf said × (n ≡ unwrap_or said other)
 

@@ -1,4 +1,4 @@
--- Which names `--task` may say of a canvas. The rule is this project's own.
+-- The names that `--task` may have for a canvas. The rule is this project's own.
 use Rattle.std.specs.Prelude.{◌≡◌, ◌||◌, Bool, false, if◌then◌else◌, List, [], ◌∷◌, Option, Some, None, is_some, string_bytes}
 use Rattle.std.specs.Str.{bytes_eq}
 use Rattle.canvas_task.specs.Builtin.{builtin_named}
@@ -8,11 +8,11 @@ use Rattle.canvas_stubs.specs.declared.stub.Stub.{Stub}
 use Rattle.canvas_answer.specs.declared.refusal.Refusal.{Refusal}
 use Rattle.canvas_answer.specs.declared.refusal.Refusal.TheVariants.{NoTaskNamed, Memory}
 
--- `*`, or that of a built-in task
+-- `*`, or the name of a built-in task
 abbrev pub is_common : Text → Bool
 is_common name = bytes_eq name any_name || is_some (builtin_named name)
 
--- whether what a task is called, if there is one, is this
+-- whether a task's name, if there is one, is this
 abbrev pub is_called : Option Text → Text → Bool
 is_called None name = false
 is_called (Some task) name = bytes_eq task name
@@ -21,7 +21,7 @@ abbrev pub has_name : Text → List Text → Bool
 has_name name [] = false
 has_name name (n ∷ ns) = bytes_eq n name || has_name name ns
 
--- of some stubs the first name that is none of these
+-- the first name of some stubs that is none of these
 abbrev pub first_unknown : List Text → List Stub → Option Text
 first_unknown names [] = None
 first_unknown names (s ∷ ss) =

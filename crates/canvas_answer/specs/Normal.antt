@@ -1,4 +1,4 @@
--- What `canvas normal` answers: the line that a canvas is run as, as JSON (RFC 8259) with a line
+-- The answer of `canvas normal`: the line that a canvas is run as, as JSON (RFC 8259) with a line
 -- feed; or that of its plan, whose signatures have identifiers in their options (Celery's
 -- `Signature.freeze`).
 use Rattle.std.specs.Prelude.{◌≡◌, ◌++◌, Bool, true, false, None, codes}
@@ -27,7 +27,7 @@ IsNormalText c text =
 abbrev pub numbered_line : Line → Text
 numbered_line l = compact_text (line_wire None (bare l)) ++ codes "\n"
 
--- the one, or where numbers are asked for the other
+-- the normal line, or the plan's if numbers are asked for
 abbrev pub IsLineOf : (numbers : Bool) → Tree → Answer → Type 0
 IsLineOf false c a = (line : Text) × IsNormalText c line × AnswersAll line 0 a
 IsLineOf true c a = (l : Line) × IsPlanOf c l × AnswersAll (numbered_line l) 0 a

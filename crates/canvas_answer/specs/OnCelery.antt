@@ -1,5 +1,5 @@
--- What is answered of a run on Celery's own workers: the commands for Redis that start it, the keys
--- of its results (celery/backends/base.py), and the report or the picture of what these workers
+-- The answers for a run on Celery's own workers: the commands for Redis that start it, the keys of
+-- its results (celery/backends/base.py), and the report or the picture of what these workers
 -- stored.
 use Rattle.std.specs.Prelude.{◌≡◌, Bool, true, false, List, [], map, Some, None}
 use Rattle.canvas_task.specs.Text.{Text}
@@ -33,8 +33,8 @@ use Rattle.canvas_answer.specs.declared.answer.Answer.{Answer}
 use Rattle.canvas_answer.specs.declared.celery.Collecting.{Collecting}
 use Rattle.canvas_answer.specs.declared.celery.OnCelery.{OnCelery}
 use Rattle.canvas_answer.specs.declared.celery.OnCelery.TheVariants.{Export, Keys, Collect}
-use Rattle.canvas_answer.specs.declared.reporting.Form.{Form}
-use Rattle.canvas_answer.specs.declared.reporting.Form.TheVariants.{Plain, Json, Explained}
+use Rattle.canvas_answer.specs.declared.reporting.Format.{Format}
+use Rattle.canvas_answer.specs.declared.reporting.Format.TheVariants.{Plain, Json, Explained}
 
 -- the commands that start a plan's line
 abbrev pub commands_of : (run : Text) → Target → Line → Text
@@ -42,10 +42,10 @@ commands_of run target l =
     resp (start run (setting target) (starting (bare l))
     (map (message_text (naming_of run l) target.queue.now) (first_messages l)))
 
--- ---- what workers stored
+-- ---- the workers' stored results
 
--- Rows that are completed where that is asked for: each is as it was stored, or was pending and
--- shows the failure that reaches it. Those of the engine's own tasks are of evaluating the canvas.
+-- Rows that are completed if that is asked for: each is as it was stored, or was pending and shows
+-- the failure that reaches it. Those of the engine's own tasks are those of evaluating the canvas.
 abbrev pub AreCompleted : (completes : Bool) → Line → (stored rows : List Row) → Type 0
 AreCompleted false l stored rows = rows ≡ stored
 AreCompleted true l stored rows =
@@ -54,7 +54,7 @@ AreCompleted true l stored rows =
     × ((old : List State) → stored ≡ map (λ s. Known s) old
     → (new : List State) × (rows ≡ map (λ s. Known s) new) × Completes l old new)
 
--- the rows that results give, each of which its own line says
+-- the rows that results give, each from its own line
 abbrev pub AreReported : (run : Text) → (completes : Bool) → (results : Text) → Line → List Row
     → Type 0
 AreReported run completes results l rows =
@@ -62,7 +62,7 @@ AreReported run completes results l rows =
     × AreCompleted completes l stored rows
 
 -- the text of rows in each form; the rows of the engine's own tasks have the report of a run
-abbrev pub IsStoredText : Form → Line → List Row → Text → Type 0
+abbrev pub IsStoredText : Format → Line → List Row → Text → Type 0
 IsStoredText Plain l rows text =
     (text ≡ stored_said rows (tree_of l))
     × ((ss : List State) → rows ≡ map (λ s. Known s) ss
@@ -73,7 +73,7 @@ IsStoredText Explained l rows text = text ≡ explained_said [] rows (tree_of l)
 abbrev pub IsCollected : (run : Text) → Collecting → (results : Text) → Line → Answer → Type 0
 IsCollected run collecting results l a =
     (rows : List Row) × AreReported run collecting.completes results l rows
-    × ((text : Text) × IsStoredText collecting.manner.form l rows text × AnswersAll text 0 a)
+    × ((text : Text) × IsStoredText collecting.output.form l rows text × AnswersAll text 0 a)
 
 abbrev pub IsStoredPicture : (run : Text) → (completes : Bool) → (results : Text) → Line → Answer
     → Type 0
@@ -86,7 +86,7 @@ IsFilledAnswer run target l a =
     (values : Text) × (bytes : Text) × IsFilledStart values run (setting target) l bytes
     × AnswersAll bytes 0 a
 
--- Of a report it is said of the results that the input gave.
+-- For a report, there are results that the input gave.
 abbrev pub IsOnCelery : (run : Text) → OnCelery → Line → Answer → Type 0
 IsOnCelery run (Export target None) l a = AnswersAll (commands_of run target l) 0 a
 IsOnCelery run (Export target (Some file)) l a = IsFilledAnswer run target l a

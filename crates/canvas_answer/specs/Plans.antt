@@ -16,8 +16,8 @@ use Rattle.canvas_answer.specs.declared.prepared.Spelled.{Spelled}
 use Rattle.canvas_answer.specs.declared.refusal.Refusal.{Refusal}
 use Rattle.canvas_answer.specs.declared.refusal.Refusal.TheVariants.{Canvas, Memory}
 
--- The canvas of a text is what it spells. Where it is adapted first that is so of a text that
--- spells one.
+-- The canvas of a text is the one that it spells. If the text is adapted first, this holds only of
+-- a text that spells one.
 abbrev pub IsCanvasOf : (adapts : Bool) → Text → Tree → Type 0
 IsCanvasOf false bytes c = text_reading bytes ≡ Ok c
 IsCanvasOf true bytes c = (t : Tree) → text_reading bytes ≡ Ok t → c ≡ t
@@ -34,8 +34,8 @@ IsTextPlan bytes l = (c : Tree) × (text_reading bytes ≡ Ok c) × IsPlanOf c l
 abbrev pub run_line : Plans → Line
 run_line plans = unwrap_or plans.named plans.shown
 
--- As a canvas is shown, and as it is run: there the tasks of some numbers have the names that their
--- stubs have.
+-- The line of a canvas as it is shown, and as it is run: in the run, tasks with a numbered stub
+-- have the names of their stubs.
 pub record ArePlansOf (its : Asking) (bytes : Text) (shown run : Line) : Type 0 where
   pub canvas : Tree
   pub read : IsCanvasOf its.adapts bytes canvas
@@ -44,13 +44,13 @@ pub record ArePlansOf (its : Asking) (bytes : Text) (shown run : Line) : Type 0 
 
 -- ---- texts
 
--- The text that `canvas adapt` gives spells a canvas. Where the bytes spell one and no task gets
+-- The text that `canvas adapt` gives spells a canvas. If the bytes spell one and no task gets
 -- another name, it is these bytes.
 pub record IsAdaptedText (bytes : Text) (renames : List Rename) (made : Text) : Type 0 where
   pub spelled : (c : Tree) × (text_reading made ≡ Ok c)
   pub kept : (c : Tree) → text_reading bytes ≡ Ok c → renames ≡ [] → made ≡ bytes
 
--- the text that is taken for the bytes: that, where they are adapted first
+-- the text that is used for the bytes: the adapted one, if they are adapted first
 abbrev pub IsSpelled : (adapts : Bool) → Text → Text → Type 0
 IsSpelled false bytes made = made ≡ bytes
 IsSpelled true bytes made = IsAdaptedText bytes [] made
@@ -68,7 +68,7 @@ IsReadRefusal bytes refusal = ⊥
 abbrev pub IsNoCanvas : Text → Type 0
 IsNoCanvas bytes = (fault : SigFault) × (text_reading bytes ≡ Err fault)
 
--- Why there are no plans of a text. Where no task gets another name for the run, a canvas that is
+-- Why there are no plans of a text. If no task gets another name for the run, a canvas that is
 -- refused is one that the text doesn't spell.
 abbrev pub IsPlanRefusal : List Rename → Text → Refusal → Type 0
 IsPlanRefusal renames bytes refusal =

@@ -1,12 +1,12 @@
--- How a text is printed: printable ASCII and line feeds as they are, and any other character as
--- JSON's strings have it (RFC 8259): `\u` and four hexadecimal digits, past U+FFFF two of these.
+-- How a text is printed: printable ASCII and line feeds as they are, and any other character as in
+-- JSON's strings (RFC 8259): `\u` and four hexadecimal digits, past U+FFFF two of these.
 use Rattle.std.specs.Prelude.{ℕ, Bool, ◌+◌, ◌/◌, ◌%◌, ◌||◌, ◌==◌, nat_lt, ◌∷◌, [], ◌++◌}
 use Rattle.std.specs.Prelude.{if◌then◌else◌, chars, flat_map}
 use Rattle.std.specs.Char.{digit_char}
 use Rattle.canvas_task.specs.Text.{Text}
 use Rattle.canvas_finding.specs.Shown.{is_printable}
 
--- what a printed line has, with the byte that ends it
+-- a byte of a printed line, or the one that ends it
 abbrev pub is_line_byte : ℕ → Bool
 is_line_byte b = b == 10 || is_printable b
 

@@ -1,8 +1,8 @@
--- What a report shows where stubs raise exceptions of any class. In a run NotRegistered takes the
--- place of an exception that isn't one of the four that the program's own tasks raise.
+-- The rows of a report if stubs raise exceptions of any class. In a run, NotRegistered replaces an
+-- exception that isn't one of the four that the program's own tasks raise.
 --     own_class   the class that the stub raises which answers a task
---     class_of    the class of the exception that a failed task has: its own where it was called,
---                 else that of the task that it is due to
+--     class_of    the class of a failed task's exception: its own if it was called, else that of
+--                 the task that it is due to
 --     AreShown    the rows of a report: a failure has the class of its task, and a ChordError that
 --                 of the member that it names
 use Rattle.std.specs.Prelude.{◌≡◌, ℕ, zero, suc, if◌then◌else◌, nat_lt, List, [], ◌∷◌, Option, Some, None, String, string_bytes}
@@ -34,7 +34,7 @@ class_named (e ∷ es) name =
     if bytes_eq (string_bytes e.name) name then Some (string_bytes e.class)
     else class_named es name
 
--- of the stub of the name, or else of the stub `*`
+-- the class that the stub of the name raises, or else the stub `*`
 abbrev pub class_raised : List Stub → List OtherError → Text → Option Text
 class_raised stubs errors name =
     class_named errors (if has_stub name stubs then name else any_name)
@@ -43,13 +43,13 @@ abbrev pub class_if_named : List Stub → List OtherError → Option Text → Op
 class_if_named stubs errors None = None
 class_if_named stubs errors (Some name) = class_raised stubs errors name
 
--- of a task of a line
+-- the class of a task of a line
 abbrev pub own_class : List Stub → List OtherError → Line → ℕ → Option Text
 own_class stubs errors l k = class_if_named stubs errors (name_of l k)
 
--- ---- by what became of the task
+-- ---- by the fate of the task
 
--- by its own class, and those of the tasks before it
+-- given its own class, and those of the tasks before it
 abbrev pub class_by : ℕ → Option Text → (ℕ → Option Text) → Option Fate → Option Text
 class_by k own at None = None
 class_by k own at (Some Ran) = own
@@ -57,7 +57,7 @@ class_by k own at (Some (Skipped d)) = if nat_lt d k then at d else None
 class_by k own at (Some Idle) = None
 
 module _ (fates : Fates) (own : ℕ → Option Text) where
-  -- A task is due to one before it, so that as many steps as its number are enough.
+  -- A task is due to one before it, so as many steps as its number are enough.
   abbrev pub class_within : ℕ → ℕ → Option Text
   class_within zero k = None
   class_within (suc n) k = class_by k (own k) (class_within n) (fate_at fates k)
@@ -67,7 +67,7 @@ module _ (fates : Fates) (own : ℕ → Option Text) where
 
 -- ---- rows
 
--- the state itself where the class is one of the four
+-- the state itself if the class is one of the four
 abbrev pub IsRaised : Option Text → State → Row → Type 0
 IsRaised None s r = r ≡ Known s
 IsRaised (Some class) s r =
@@ -78,7 +78,7 @@ IsBlamed dep None s r = r ≡ Known s
 IsBlamed dep (Some class) s r =
     (name : String Global) × (r ≡ Blamed dep name) × (string_bytes name ≡ class)
 
--- the row of task k, which has this state in the run, by the classes of all tasks
+-- the row of task k, which has this state in the run, given the classes of all tasks
 abbrev pub IsShown : (ℕ → Option Text) → ℕ → State → Row → Type 0
 IsShown class k (Some (Failure (Plain NotRegistered))) r =
     IsRaised (class k) (Some (Failure (Plain NotRegistered))) r

@@ -1,4 +1,4 @@
--- What a command asks for with what is given for its options.
+-- What a command asks for, by what is given for its options.
 use Rattle.std.specs.Prelude.{◌≡◌, ◌≢◌, ℕ, Bool, true, false, if◌then◌else◌, List, Option, None, Some, codes, option_map, unwrap_or, not}
 use Rattle.clap.specs.Walk.{Row, first_of}
 use Rattle.canvas_adapt.specs.RenameTexts.{AreRenameTexts}
@@ -13,45 +13,45 @@ use Rattle.canvas_words.specs.declared.subcommand.Subcommand.TheVariants.{Run, T
 use Rattle.canvas_answer.specs.Given.{IsFlag, IsNumber, IsNumberOf, text_of, texts_of}
 use Rattle.canvas_answer.specs.declared.again.Again.{Again}
 use Rattle.canvas_answer.specs.declared.again.Again.TheVariants as again
-use Rattle.canvas_answer.specs.declared.asked.Request.{Request}
-use Rattle.canvas_answer.specs.declared.asked.Verb.{Verb}
-use Rattle.canvas_answer.specs.declared.asked.Verb.TheVariants as verb
-use Rattle.canvas_answer.specs.declared.asked.Work.{Work}
-use Rattle.canvas_answer.specs.declared.asked.Work.TheVariants.{One, Each}
-use Rattle.canvas_answer.specs.declared.asked.Work.TheVariants as work
+use Rattle.canvas_answer.specs.declared.command_line.Request.{Request}
+use Rattle.canvas_answer.specs.declared.command_line.Verb.{Verb}
+use Rattle.canvas_answer.specs.declared.command_line.Verb.TheVariants as verb
+use Rattle.canvas_answer.specs.declared.command_line.Action.{Action}
+use Rattle.canvas_answer.specs.declared.command_line.Action.TheVariants.{One, Each}
+use Rattle.canvas_answer.specs.declared.command_line.Action.TheVariants as action
 use Rattle.canvas_answer.specs.declared.failures.Failures as failures
 use Rattle.canvas_answer.specs.declared.celery.Collecting.{Collecting}
 use Rattle.canvas_answer.specs.declared.celery.OnCelery.TheVariants as celery
 use Rattle.canvas_answer.specs.declared.each.Each as each
 use Rattle.canvas_answer.specs.declared.graph.States.{States}
 use Rattle.canvas_answer.specs.declared.graph.States.TheVariants as states
-use Rattle.canvas_answer.specs.declared.reporting.Form.{Form}
-use Rattle.canvas_answer.specs.declared.reporting.Form.TheVariants.{Plain, Json, Explained}
-use Rattle.canvas_answer.specs.declared.reporting.Manner.{Manner}
+use Rattle.canvas_answer.specs.declared.reporting.Format.{Format}
+use Rattle.canvas_answer.specs.declared.reporting.Format.TheVariants.{Plain, Json, Explained}
+use Rattle.canvas_answer.specs.declared.reporting.OutputOptions.{OutputOptions}
 
 module _ (given : List Row) where
-  -- ---- parts of what is asked for
+  -- ---- parts of a request
 
   abbrev pub IsWorkers : ℕ → Type 0
   IsWorkers n = IsNumber given (codes "workers") 1 n
 
-  -- JSON, or by the flag that asks for an explanation
-  abbrev pub IsFormWhere : (json : Bool) → Form → Type 0
-  IsFormWhere true form = form ≡ Json
-  IsFormWhere false form = (explains : Bool) × IsFlag given (codes "explain") explains
+  -- JSON, or else as the flag for an explanation says
+  abbrev pub IsFormatWhere : (json : Bool) → Format → Type 0
+  IsFormatWhere true form = form ≡ Json
+  IsFormatWhere false form = (explains : Bool) × IsFlag given (codes "explain") explains
       × (form ≡ (if explains then Explained else Plain))
 
-  abbrev pub IsForm : Form → Type 0
-  IsForm form = (json : Bool) × IsFlag given (codes "json") json × IsFormWhere json form
+  abbrev pub IsFormat : Format → Type 0
+  IsFormat form = (json : Bool) × IsFlag given (codes "json") json × IsFormatWhere json form
 
-  -- by the flag that gives a status of its own
-  abbrev pub IsManner : Text → Manner → Type 0
-  IsManner flag m = IsForm m.form × IsFlag given flag m.fails
+  -- with the flag that gives a failure a status of its own
+  abbrev pub IsOutputOptions : Text → OutputOptions → Type 0
+  IsOutputOptions flag m = IsFormat m.form × IsFlag given flag m.fails
 
   abbrev pub AreTurns : ℕ → List ℕ → Type 0
   AreTurns workers turns = IsTurnList workers (text_of given (codes "turns")) turns
 
-  -- what is delivered again: a list of numbers, or another text, which may have names
+  -- what is redelivered: a list of numbers, or another text, which may have names
   abbrev pub IsAgain : Option Text → Again → Type 0
   IsAgain None again.Nothing = Unit {0}
   IsAgain (Some list) (again.Entries es) = IsEntryList list es.items
@@ -61,7 +61,7 @@ module _ (given : List Row) where
   abbrev pub IsRun : Text → run_number.Run → Type 0
   IsRun option run = run.digits ≡ text_of given option
 
-  -- what a picture shows: results where their file is given, else those of a run where that is
+  -- what a picture shows: results if their file is given, else those of a run if that is
   abbrev pub IsShowing : Option Text → States → Type 0
   IsShowing None states.None = IsFlag given (codes "run") false
   IsShowing None (states.Run workers) = IsFlag given (codes "run") true × IsWorkers workers
@@ -89,21 +89,21 @@ module _ (given : List Row) where
 
   abbrev pub IsCollecting : Collecting → Type 0
   IsCollecting c =
-      IsFlag given (codes "complete") c.completes × IsForm c.manner.form
-      × (c.manner.fails ≡ false)
+      IsFlag given (codes "complete") c.completes × IsFormat c.output.form
+      × (c.output.fails ≡ false)
 
-  -- ---- what is asked for
+  -- ---- the requests
 
   abbrev pub IsVerb : Subcommand → Verb → Type 0
-  IsVerb Run (verb.Run workers manner) = IsWorkers workers × IsManner (codes "fail") manner
-  IsVerb Turns (verb.Turns workers turns again steps manner) =
+  IsVerb Run (verb.Run workers output) = IsWorkers workers × IsOutputOptions (codes "fail") output
+  IsVerb Turns (verb.Turns workers turns again steps output) =
       IsWorkers workers × AreTurns workers turns.items
       × IsAgain (first_of (codes "again") given) again × IsFlag given (codes "steps") steps
-      × IsManner (codes "fail") manner
+      × IsOutputOptions (codes "fail") output
   IsVerb Normal (verb.Normal numbers) = IsFlag given (codes "numbers") numbers
-  -- of a page without a word for failures, but it has one, given or not
+  -- the work of a page that has no word for failures; but it has one, given or not
   IsVerb Page (verb.Normal numbers) = IsFlag given (codes "numbers") numbers
-  IsVerb Check (verb.Check manner) = IsManner (codes "strict") manner
+  IsVerb Check (verb.Check output) = IsOutputOptions (codes "strict") output
   IsVerb Adapt (verb.Adapt renames) =
       AreRenameTexts (texts_of given (codes "rename")) renames.items
   IsVerb Graph (verb.Graph states) = IsShowing (first_of (codes "results") given) states
@@ -118,7 +118,7 @@ module _ (given : List Row) where
       IsRun (codes "run") run × IsCollecting collecting
   IsVerb command other = ⊥
 
-  -- of many canvases a line feed, 10, ends each, or a zero byte
+  -- each of many canvases ends with a line feed, 10, or with a zero byte
   pub record IsEach (e : each.Each) : Type 0 where
     pub workers : IsWorkers e.workers
     pub fails : IsFlag given (codes "fail") e.fails
@@ -130,23 +130,23 @@ module _ (given : List Row) where
   abbrev pub AreFailures : (word : Option Text) → failures.Failures → Type 0
   AreFailures word f = (word ≡ Some f.word.now) × IsFlag given (codes "fail") f.fails
 
-  -- in lines, or by the command for that in a page
-  abbrev pub AreFailuresBy : Subcommand → (word : Option Text) → Work → Type 0
-  AreFailuresBy command word (work.Failures f) = (command ≢ Page) × AreFailures word f
-  AreFailuresBy command word (work.Page f) = (command ≡ Page) × AreFailures word f
+  -- in lines, or in a page for that command
+  abbrev pub AreFailuresBy : Subcommand → (word : Option Text) → Action → Type 0
+  AreFailuresBy command word (action.Failures f) = (command ≢ Page) × AreFailures word f
+  AreFailuresBy command word (action.Page f) = (command ≡ Page) × AreFailures word f
   AreFailuresBy command word other = ⊥
 
-  abbrev pub IsWork : Subcommand → Work → Type 0
-  IsWork command (One v) =
+  abbrev pub IsAction : Subcommand → Action → Type 0
+  IsAction command (One v) =
       IsFlag given (codes "each") false × (first_of (codes "failures") given ≡ None)
       × IsVerb command v
-  IsWork command (Each e) = IsFlag given (codes "each") true × IsEach e
-  IsWork command work =
+  IsAction command (Each e) = IsFlag given (codes "each") true × IsEach e
+  IsAction command action =
       IsFlag given (codes "each") false
-      × AreFailuresBy command (first_of (codes "failures") given) work
+      × AreFailuresBy command (first_of (codes "failures") given) action
 
   pub record IsRequest (command : Subcommand) (r : Request) : Type 0 where
-    pub work : IsWork command r.work
+    pub action : IsAction command r.action
     pub file : r.file.now ≡ text_of given (codes "FILE")
     pub adapts : IsFlag given (codes "adapt") r.adapts
     pub is_json : IsFlag given (codes "json") r.is_json

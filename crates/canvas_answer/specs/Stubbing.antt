@@ -1,7 +1,7 @@
--- What tasks answer, as texts say it: those of `--task`, and the lines of a file. A text is a stub,
--- which may raise an exception of any class; or, if it begins with `#`, one of a task's number. For
--- a run the class `stands` is put in place of a class that isn't one of the four of built-in tasks,
--- and a task with a number has the name of that, as `#3`.
+-- The answers of tasks, as texts give them: those of `--task`, and the lines of a file. A text is a
+-- stub, which may raise an exception of any class; or, if it begins with `#`, one for a task's
+-- number. In a run the class `stands` replaces a class that isn't one of the four of built-in
+-- tasks, and a task with a numbered stub has that number's name, such as `#3`.
 use Rattle.std.specs.Prelude.{◌≡◌, ◌==◌, ◌++◌, Bool, false, if◌then◌else◌, List, [], ◌∷◌, Option, Some, None, Ok, map, string_bytes, codes}
 use Rattle.std.specs.List.{filter_map}
 use Rattle.clap.specs.Walk.{Row, first_of}
@@ -32,24 +32,24 @@ named text = if is_numbered text then None else Some text
 abbrev pub error_said : OtherError → Text × Text
 error_said e = (string_bytes e.name, string_bytes e.class)
 
--- the class of a file's stub, where no word has the name
+-- the class of a file's stub, if no word has its name
 abbrev pub unsaid : List Stub → Text × Text → Option (Text × Text)
 unsaid stubs e = if has_stub e.0 stubs then None else Some e
 
 module _ (stands : Text) where
-  -- the stub of a task's number, as `#3=1`, whose name is that of the task in a run: `#3`
+  -- a numbered stub, such as `#3=1`; its name is that of the task in a run: `#3`
   abbrev pub IsNumbered : Text → Rename → Stub → Type 0
   IsNumbered text r s =
       (stub_reading (plain_text stands text) ≡ Ok s) × (string_bytes r.name ≡ s.name)
       × IsRenameText (s.name ++ 61 ∷ s.name) r
 
-  -- each text is one of a number
+  -- each text is a numbered stub
   abbrev pub AreNumbered : List Text → List Rename → List Stub → Type 0
   AreNumbered [] [] [] = Unit {0}
   AreNumbered (text ∷ texts) (r ∷ rs) (s ∷ ss) = IsNumbered text r s × AreNumbered texts rs ss
   AreNumbered texts rs ss = ⊥
 
-  -- what the words say: first what is by name, then what is by number
+  -- the words' stubs: first those by name, then those by number
   pub record AreSaid (texts : List Text) (answers : Answers) : Type 0 where
     pub by_name : List Stub
     pub by_number : List Stub
@@ -60,7 +60,7 @@ module _ (stands : Text) where
         ≡ filter_map other_error (filter_map named texts)
         ++ filter_map other_error (filter_map numbered texts)
 
-  -- what the lines of a file add, which have no numbers
+  -- the stubs that the lines of a file add, which have no numbers
   pub record AreAdded (lines : List Text) (before after : Answers) : Type 0 where
     pub more : List Stub
     pub read : stubs_reading (map (plain_text stands) lines) ≡ Ok more
@@ -71,12 +71,12 @@ module _ (stands : Text) where
         ++ filter_map (unsaid before.stubs.items)
         (filter_map other_error (filter_map named lines))
 
--- `check` warns of tasks that nobody answers, and so of NotRegistered
+-- `check` warns of tasks without an answer, and so of NotRegistered
 abbrev pub standing : Subcommand → Text
 standing Check = codes "ZeroDivisionError"
 standing command = codes "NotRegistered"
 
--- what the words of a command say, and the lines of a file where they name one
+-- the stubs of a command's words, and those of a file's lines if the words name one
 abbrev pub added_by : Text → Option Text → (before after : Answers) → Type 0
 added_by stands None before after = after ≡ before
 added_by stands (Some file) before after = (lines : List Text) × AreAdded stands lines before after

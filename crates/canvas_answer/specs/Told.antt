@@ -1,4 +1,4 @@
--- What a report tells of a run, in each form, where states and calls are those of evaluation.
+-- The report of a run, in each form, if states and calls are those of evaluation.
 use Rattle.std.specs.Prelude.{◌≡◌, ◌⊎◌, ◌&&◌, if◌then◌else◌, ℕ, Bool, List, [], map, Option, None, Some, String}
 use Rattle.std.specs.declared.alloc.Global.{Global}
 use Rattle.canvas_task.specs.Apply.{Behaviour}
@@ -22,8 +22,8 @@ use Rattle.canvas_answer.specs.Asking.{Asking}
 use Rattle.canvas_answer.specs.Blamed.{AreBlames, Blames, blames}
 use Rattle.canvas_answer.specs.Raised.{AreShown, class_of, own_class}
 use Rattle.canvas_answer.specs.declared.answer.Answer.{Answer}
-use Rattle.canvas_answer.specs.declared.reporting.Form.{Form}
-use Rattle.canvas_answer.specs.declared.reporting.Form.TheVariants.{Plain, Json, Explained}
+use Rattle.canvas_answer.specs.declared.reporting.Format.{Format}
+use Rattle.canvas_answer.specs.declared.reporting.Format.TheVariants.{Plain, Json, Explained}
 
 -- the states of a run as rows
 abbrev pub known_states : List State → List Row
@@ -31,16 +31,16 @@ known_states ss = map (λ s. Known s) ss
 
 -- ---- rows as texts
 
--- the rows as JSON, with what is told of the tasks: which were called, and the parameters that are
--- blamed for a TypeError; and of the run, how many stores answered Again
+-- the rows as JSON: which tasks were called, the parameters that are blamed for a TypeError, and
+-- how many stores of the run answered Again
 abbrev pub IsJsonOf : Fates → List (ℕ × Option (String Global)) → (again : Option ℕ) → List Row
     → Tree → Text → Type 0
 IsJsonOf fates blamed again rows t text =
     (at : ℕ → Shown) × AllShow rows at
     × (text ≡ json_lines (rows_wire (fate_at fates) (parameter_of blamed) again at t))
 
--- where these parameters are at fault
-abbrev pub IsToldText : Form → Fates → Blames → (again : Option ℕ) → List Row → Tree → Text
+-- the text if these parameters are at fault
+abbrev pub IsToldText : Format → Fates → Blames → (again : Option ℕ) → List Row → Tree → Text
     → Type 0
 IsToldText Plain fates blames again rows t text = text ≡ stored_said rows t
 IsToldText Json fates blames again rows t text =
@@ -48,29 +48,29 @@ IsToldText Json fates blames again rows t text =
     × IsJsonOf fates blamed again rows t text
 IsToldText Explained fates blames again rows t text = text ≡ explained_said fates rows t
 
--- where it isn't told which tasks were called
-abbrev pub IsUntoldText : Form → List Row → Tree → Text → Type 0
+-- the text if it isn't known which tasks were called
+abbrev pub IsUntoldText : Format → List Row → Tree → Text → Type 0
 IsUntoldText Plain rows t text = text ≡ stored_said rows t
 IsUntoldText Json rows t text = IsJsonOf [] [] None rows t text
 IsUntoldText Explained rows t text = text ≡ explained_said [] rows t
 
--- the status of a report: 3 where failures count and the result of the canvas is one
+-- the status of a report: 3 if failures count and the result of the canvas is one
 abbrev pub report_status : (counts failed : Bool) → ℕ
 report_status counts failed = if counts && failed then 3 else 0
 
--- ---- a run, where stubs may raise exceptions of any class
+-- ---- a run whose stubs may raise exceptions of any class
 
 module _ (its : Asking) (run shown : Line) where
-  -- Of a run that ended early with this report, if it has one: that, or nothing, since memory was
-  -- refused. What became of its tasks is seen from its rows.
-  abbrev pub IsReportText : Form → List State → Text → Type 0
+  -- The report of a run that ended early, if it has one; or nothing, since memory was refused. The
+  -- fates of its tasks are seen from its rows.
+  abbrev pub IsReportText : Format → List State → Text → Type 0
   IsReportText form ss text =
       (rows : List Row)
       × AreShown (class_of (seen_fates (rows_from 1 ss) run)
       (own_class its.stubs its.errors run)) ss rows
       × IsUntoldText form rows (tree_of shown) text
 
-  abbrev pub IsEarlyText : Form → Option Report → Text → Type 0
+  abbrev pub IsEarlyText : Format → Option Report → Text → Type 0
   IsEarlyText form None text = text ≡ []
   IsEarlyText form (Some r) text = (text ≡ []) ⊎ IsReportText form r.rows text
 
@@ -83,14 +83,14 @@ module _ (its : Asking) (run shown : Line) where
     AreRows rows =
         AreShown (class_of (fates behaviour run) (own_class its.stubs its.errors run)) ss rows
 
-    abbrev pub IsTold : Form → (again : Option ℕ) → Text → Type 0
+    abbrev pub IsTold : Format → (again : Option ℕ) → Text → Type 0
     IsTold form again text =
         (rows : List Row) × AreRows rows
         × IsToldText form (fates behaviour run) (blames its.stubs (fates behaviour run) ss run)
         again rows (tree_of shown) text
 
-    -- that is all that was asked for, in this form; where failures count, the status says of one
-    abbrev pub IsReport : Form → (counts : Bool) → (again : Option ℕ) → Answer → Type 0
+    -- that is all that was asked for, in this form; if failures count, the status says of one
+    abbrev pub IsReport : Format → (counts : Bool) → (again : Option ℕ) → Answer → Type 0
     IsReport form counts again a =
         (text : Text) × IsTold form again text
         × AnswersAll text

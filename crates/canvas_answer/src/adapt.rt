@@ -1,4 +1,4 @@
-//! `canvas adapt`: a canvas that can be run, from any that Celery writes.
+//! `canvas adapt`: converts any canvas that Celery writes into one that can be run.
 ghost use Rattle.std.specs.Prelude.{IfOk, codes};
 ghost use Rattle.clap.specs.Matches.{found_of};
 ghost use Rattle.clap.specs.Walk.{rows_of};
@@ -14,7 +14,7 @@ use canvas_adapt::{AdaptedText, BadRename, Rename, RenameFault, adapted_text, re
 use clap::ArgMatches;
 use std::alloc::Global;
 
-/// The other names that the words ask for.
+/// Returns the other names that the words ask for.
 pub(crate) fn asked_renames(alloc: Global, given: &ArgMatches<'_>) -> Result<Vec<Rename>, Refusal>
     ensures { IfOk result (λ renames. AreRenameTexts
         (texts_of (rows_of (found_of given.now)) (codes "rename")) renames.items) }
@@ -26,7 +26,7 @@ pub(crate) fn asked_renames(alloc: Global, given: &ArgMatches<'_>) -> Result<Vec
     }
 }
 
-/// The refusal of one of the words.
+/// Returns the refusal of one of the words.
 fn bad_word(alloc: Global, texts: &[&str], bad: &BadRename) -> Refusal {
     match bad.fault {
         RenameFault::Memory => Refusal::Memory,
@@ -37,7 +37,7 @@ fn bad_word(alloc: Global, texts: &[&str], bad: &BadRename) -> Refusal {
     }
 }
 
-/// The first name for a task that a canvas of so many doesn't have.
+/// Refuses the first name for a task that a canvas with this number of tasks doesn't have.
 fn check_numbers(renames: &[Rename], tasks: u32) -> Result<(), Refusal> {
     for rename in renames {
         if rename.task.get() > tasks {
@@ -47,7 +47,7 @@ fn check_numbers(renames: &[Rename], tasks: u32) -> Result<(), Refusal> {
     Ok(())
 }
 
-/// A canvas that can be run, as JSON, and what was changed for it.
+/// Returns a canvas that can be run, as JSON, with what was changed for it.
 pub fn answer_adapt(alloc: Global, renames: &[Rename], text: &[u8]) -> Result<Answer, Refusal>
     ensures { IfOk result (λ a. (made : Text) × IsAdaptedText text.now renames.now made
         × AnswersAll made 0 a) }

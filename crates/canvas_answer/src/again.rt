@@ -1,4 +1,4 @@
-//! `--again`: what is delivered again, by the numbers and names of tasks.
+//! `--again`: what is redelivered, by the numbers and names of tasks.
 ghost use Rattle.std.specs.Prelude.{IfOk, codes};
 ghost use Rattle.clap.specs.Matches.{found_of};
 ghost use Rattle.clap.specs.Walk.{first_of, rows_of};
@@ -13,7 +13,7 @@ use canvas_task::{TaskNo, name_ok};
 use clap::ArgMatches;
 use std::alloc::{AllocError, Global};
 
-/// What is delivered again.
+/// The redeliveries that the words ask for.
 #[derive(Drop)]
 pub enum Again<'w> {
     Nothing,
@@ -22,7 +22,7 @@ pub enum Again<'w> {
     Named(&'w str),
 }
 
-/// Whether what stands before a point may be a task's name, and isn't like a number.
+/// Returns whether the text before a point may be a task's name, and isn't like a number.
 fn is_name(who: &str) -> bool {
     name_ok(who) && !matches!(who.as_bytes(), [b'0'..=b'9' | b'+' | b'-', ..])
 }
@@ -36,7 +36,7 @@ fn is_number(who: &str) -> bool {
     !who.is_empty()
 }
 
-/// What stands before the point of an entry.
+/// Returns the text before the point of an entry.
 fn who_of(entry: &str) -> Option<&str> {
     match entry.rsplit_once(':') {
         Some((who, "early" | "late")) => Some(who),
@@ -58,7 +58,7 @@ fn says_number(entry: &str) -> bool {
     }
 }
 
-/// Whether there are names of tasks in a list, which otherwise has numbers.
+/// Returns whether a list has names of tasks, and not only numbers.
 fn has_names(list: &str) -> bool {
     let mut found = false;
     for entry in list.split(',') {
@@ -71,7 +71,7 @@ fn has_names(list: &str) -> bool {
     found
 }
 
-/// What the words ask for.
+/// Returns what the words ask to redeliver.
 pub(crate) fn asked_again<'w>(alloc: Global, given: &ArgMatches<'w>) -> Result<Again<'w>, Refusal>
     ensures { IfOk result (IsAgain (rows_of (found_of given.now))
         (first_of (codes "again") (rows_of (found_of given.now)))) }
@@ -86,7 +86,7 @@ pub(crate) fn asked_again<'w>(alloc: Global, given: &ArgMatches<'w>) -> Result<A
     }
 }
 
-/// Adds an entry to a list.
+/// Appends an entry to a list.
 fn push_text(out: &mut String, entry: &str) -> Result<(), AllocError> {
     if !out.is_empty() {
         out.push(',')?;
@@ -94,14 +94,14 @@ fn push_text(out: &mut String, entry: &str) -> Result<(), AllocError> {
     out.push_str(entry)
 }
 
-/// The same of a task's number.
+/// Appends the entry of a task's number to a list.
 fn push_entry(out: &mut String, number: u32, when: &str) -> Result<(), AllocError> {
     let comma = if out.is_empty() { "" } else { "," };
     write!(out, "{comma}{number}:{when}")?;
     Ok(())
 }
 
-/// Both entries of each task.
+/// Appends both entries of each task.
 fn push_all(out: &mut String, plan: &Plan) -> Result<(), AllocError> {
     for index in 0..plan.tasks() {
         let number = plan.task_at(index).get();
@@ -111,7 +111,7 @@ fn push_all(out: &mut String, plan: &Plan) -> Result<(), AllocError> {
     Ok(())
 }
 
-/// The same entry of each task of a name.
+/// Appends the entry of each task with this name.
 fn push_named(out: &mut String, plan: &Plan, name: &str, when: &str) -> Result<(), AllocError> {
     for index in 0..plan.tasks() {
         let task = plan.task_at(index);
@@ -122,7 +122,8 @@ fn push_named(out: &mut String, plan: &Plan, name: &str, when: &str) -> Result<(
     Ok(())
 }
 
-/// The entry of a number as it is, and those of a name. That of a name that no task has is refused.
+/// Appends a numbered entry as it is, and for a name the entries of its tasks. A name that no task
+/// has is refused.
 fn push_said(out: &mut String, plan: &Plan, entry: &str) -> Result<(), Refusal> {
     let (who, when) = entry.rsplit_once(':').unwrap_or((entry, ""));
     if !is_name(who) {
@@ -146,14 +147,14 @@ fn push_list(out: &mut String, plan: &Plan, list: &str) -> Result<(), Refusal> {
     Ok(())
 }
 
-/// A list with numbers in place of names.
+/// Returns a list with numbers instead of names.
 fn numbered(alloc: Global, plan: &Plan, list: &str) -> Result<String, Refusal> {
     let mut out = String::new(alloc);
     push_list(&mut out, plan, list)?;
     Ok(out)
 }
 
-/// The entries of a list of numbers and names of tasks.
+/// Returns the entries of a list of numbers and names of tasks.
 pub fn named_entries(
     alloc: Global,
     plan: &Plan,

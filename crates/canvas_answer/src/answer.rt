@@ -1,4 +1,7 @@
-//! What the program prints, and its status.
+//! The program's output and status.
+//!
+//! Only `Answer::print` and `write_out` write. So a program of your own can have an answer and
+//! print nothing, and few functions here know a reader or a writer.
 ghost use Rattle.std.specs.Prelude.{◌≡◌, ◌⊎◌, [], false, true, None, Some, OnOk};
 ghost use Rattle.std.specs.Io.KnownBytes.{Appends};
 ghost use Rattle.canvas_answer.specs.declared.answer.Remark.TheVariants as remark;
@@ -17,14 +20,14 @@ use std::alloc::Global;
 use std::fmt::{self, Display};
 use std::io::{self, Write};
 
-/// What standard error says beside an answer.
+/// The lines for standard error beside an answer.
 #[derive(Drop)]
 pub enum Remark {
-    /// How many stores of a run answered Again.
+    /// The number of a run's stores that answered Again.
     Repeats(u64),
-    /// What was changed of a canvas.
+    /// The changes made to a canvas.
     Changes(Changes),
-    /// Lines on what of a canvas Celery's workers get otherwise.
+    /// Lines on the parts of a canvas that Celery's workers get otherwise.
     Export(String),
 }
 
@@ -39,23 +42,23 @@ impl Display for Remark {
     }
 }
 
-/// What the program answers. Nothing of it is printed yet.
+/// An answer of the program, none of which is printed yet.
 #[derive(Drop)]
 pub struct Answer {
-    /// What goes to standard output.
+    /// The output for standard output.
     out: Output,
-    /// What standard error says beside it.
+    /// The lines for standard error beside it.
     remark: Option<Remark>,
-    /// Why that isn't all that was asked for.
+    /// Why the output isn't all that was asked for.
     refusal: Option<Refusal>,
-    /// The refusal as a JSON object in a line, where that is asked for.
+    /// The refusal as a JSON object in a line, if that is asked for.
     told: Option<String>,
-    /// The status where it is.
+    /// The status if there is no refusal.
     status: u8,
 }
 
 impl Answer {
-    /// All that was asked for.
+    /// Returns an answer with all that was asked for.
     fn of(out: Output) -> Answer
         ensures { AnswersAll (bytes_in out) 0 result }
     {
@@ -68,42 +71,43 @@ impl Answer {
         }
     }
 
-    /// Lines for a reader, which are all that was asked for.
+    /// Returns an answer with lines for a reader, which are all that was asked for.
     pub fn whole(lines: Vec<u8>) -> Answer
         ensures { AnswersAll lines.items 0 result }
     {
         Answer::of(Output::Lines(lines))
     }
 
-    /// The same for a program, of which each byte is printed as it is.
+    /// Returns an answer with bytes for a program, each of which is printed as it is.
     pub fn raw(bytes: Vec<u8>) -> Answer
         ensures { AnswersAll bytes.items 0 result }
     {
         Answer::of(Output::Bytes(bytes))
     }
 
-    /// Messages, a line each, which are made one by one as they are printed.
+    /// Returns an answer with messages, a line each, which are made one by one as they are printed.
     pub fn letters(letters: Vec<Letter>) -> Answer
         ensures { AnswersAll (message_lines letters.items) 0 result }
     {
         Answer::of(Output::Letters(letters))
     }
 
-    /// A start, whose messages' texts are made one by one as they are printed.
+    /// Returns an answer with a start, whose messages' texts are made one by one as they are
+    /// printed.
     pub(crate) fn start(start: Start) -> Answer
         ensures { AnswersAll start 0 result }
     {
         Answer::of(Output::Start(start))
     }
 
-    /// Nothing, and why.
+    /// Returns an answer with only a refusal.
     pub fn refused(alloc: Global, refusal: Refusal) -> Answer
         ensures { AnswersPart [] refusal result }
     {
         Answer::in_part(alloc, None, refusal)
     }
 
-    /// What there is of a report, and why that isn't all.
+    /// Returns an answer with what there is of a report, and why that isn't all.
     pub fn in_part(alloc: Global, text: Option<String>, refusal: Refusal) -> Answer
         ensures { AnswersPart (bytes_of text) refusal result }
     {
@@ -120,7 +124,7 @@ impl Answer {
         }
     }
 
-    /// The same after lines that were made before it.
+    /// Returns the answer after lines that were made before it.
     pub fn after(self, lines: Vec<u8>) -> Answer
         ensures none { lines.items ≡ [] → result ≡ self }
         ensures others { (result.remark ≡ self.remark) × (result.refusal ≡ self.refusal)
@@ -135,7 +139,7 @@ impl Answer {
         }
     }
 
-    /// The same with this status, where it isn't refused.
+    /// Returns the answer with this status, which counts if it isn't refused.
     pub fn with_status(self, status: u8) -> Answer
         ensures { (result.out ≡ self.out) × (result.remark ≡ self.remark)
             × (result.refusal ≡ self.refusal) × (result.status ≡ status) }
@@ -143,7 +147,7 @@ impl Answer {
         Answer { status, ..self }
     }
 
-    /// The same with this beside it on standard error.
+    /// Returns the answer with this remark on standard error.
     pub fn with_remark(self, remark: Option<Remark>) -> Answer
         ensures { (result.out ≡ self.out) × (result.remark ≡ remark)
             × (result.refusal ≡ self.refusal) × (result.status ≡ self.status) }
@@ -158,8 +162,8 @@ impl Answer {
         self.with_remark(Some(Remark::Changes(changes)))
     }
 
-    /// The same whose refusal, if it has one, is told as JSON. Where that takes memory which is
-    /// refused, that is the refusal.
+    /// Returns the answer with its refusal, if it has one, as JSON. If memory for that is refused,
+    /// that is the refusal.
     pub fn in_json(self, alloc: Global) -> Answer
         ensures same { (result.out ≡ self.out) × (result.remark ≡ self.remark)
             × (result.status ≡ self.status) }
@@ -181,10 +185,10 @@ impl Answer {
         }
     }
 
-    /// Prints the answer to both outputs, and gives the status: 0 where all went well, 1 where the
-    /// program was refused or can't print, 2 where it ended early, and 3 where that is asked for
-    /// and the canvas's result is a failure. It ends early, too, where memory for a message is
-    /// refused, of which the ones before it are printed then.
+    /// Prints the answer to both outputs, and returns the status: 0 on success, 1 if the program
+    /// was refused or can't print, 2 if it ended early, and 3 if that is asked for and the canvas's
+    /// result is a failure. It ends early, too, if memory for a message is refused; the messages
+    /// before it are printed then.
     pub fn print<W: Write, E: Write>(&self, alloc: Global, out: &mut W, err: &mut E) -> u8
         ensures status { IsStatus self.now result }
         ensures out { self.now.refusal ≡ None → is_cut self.now.out result ≡ false
@@ -198,7 +202,7 @@ impl Answer {
         }
     }
 
-    /// Writes what goes to standard output.
+    /// Writes the output for standard output.
     pub fn write_out<W: Write>(&self, alloc: Global, out: &mut W) -> io::Result<()>
         ensures { OnOk result (Appends (W.contents out.old) (W.contents out.new)
             (printed_out self.now)) }
@@ -220,9 +224,8 @@ impl Answer {
 }
 
 impl Refusal {
-    /// Prints why there is no answer: the object that is told of it, or lines, piece by piece,
-    /// since there may be no memory for a text. If that can't be printed either, the status is all
-    /// that is left.
+    /// Prints why there is no answer: the refusal's JSON object, or lines, piece by piece, since
+    /// there may be no memory for a text. If that can't be printed either, only the status is left.
     fn print<E: Write>(&self, told: Option<&String>, err: &mut E) -> u8
         ensures { result ≡ refusal_status self.now }
     {

@@ -14,7 +14,7 @@ use canvas_task::{Builtin, Fault, Kind, Outcome, TaskNo};
 use canvas_warning::{Blame, Input, blamed};
 use std::alloc::{AllocError, Global};
 
-/// The built-in task that a stub does as.
+/// Returns the built-in task that a stub does as.
 fn builtin_done(does: Option<Does>) -> Option<Builtin>
     ensures { result ≡ builtin_done does }
 {
@@ -24,8 +24,8 @@ fn builtin_done(does: Option<Does>) -> Option<Builtin>
     }
 }
 
-/// The built-in task that answers the calls of a name: what a stub of the name does, or the task of
-/// the name, or what the stub of each other name does.
+/// Returns the built-in task that answers the calls of a name: that of the name's stub, or the task
+/// of the name, or that of the stub `*`.
 pub(crate) fn builtin_of(stubs: &[Stub], name: &str) -> Option<Builtin>
     ensures { result ≡ builtin_of stubs.now name.now }
 {
@@ -38,7 +38,7 @@ pub(crate) fn builtin_of(stubs: &[Stub], name: &str) -> Option<Builtin>
     }
 }
 
-/// Whether a task was called.
+/// Returns whether a task was called.
 fn is_called(fates: &[(TaskNo, Fate)], task: TaskNo) -> bool
     ensures { result ≡ is_called (fate_at fates.now task) }
 {
@@ -48,7 +48,7 @@ fn is_called(fates: &[(TaskNo, Fate)], task: TaskNo) -> bool
     }
 }
 
-/// Whether a task was called and is a TypeError.
+/// Returns whether a task was called and its call is a TypeError.
 fn is_bad_call(report: &Report, fates: &[(TaskNo, Fate)], task: TaskNo) -> bool
     ensures { result ≡ is_bad_call fates.now report.now.rows task }
 {
@@ -69,8 +69,8 @@ fn parameter_of(alloc: Global, blame: Option<Blame<'_>>) -> Result<Option<String
     }
 }
 
-/// The parameter that makes a task's call a TypeError with this before its own arguments, if it is
-/// one. None where no built-in task answers the call.
+/// Returns the parameter that makes a task's call a TypeError with this before its own arguments,
+/// if there is one; None if no built-in task answers the call.
 fn blame_of(
     alloc: Global,
     stubs: &[Stub],
@@ -92,7 +92,7 @@ fn blame_of(
     Ok(Some(parameter_of(alloc, blame)?))
 }
 
-/// A task itself, if its call is a TypeError.
+/// Appends a task itself, if its call is a TypeError.
 fn push_own(
     alloc: Global,
     stubs: &[Stub],
@@ -115,7 +115,7 @@ fn push_own(
     Ok(())
 }
 
-/// A task, its links and its error callbacks.
+/// Appends those of a task, its links and its error callbacks.
 #[cycle(tasks)]
 fn push_task(
     alloc: Global,
@@ -171,7 +171,7 @@ fn push_callbacks(
     Ok(())
 }
 
-/// The tasks before a line's group or chord. It answers what comes after them.
+/// Appends those of the tasks before a line's group or chord. Returns what comes after them.
 fn push_tasks(
     alloc: Global,
     stubs: &[Stub],
@@ -212,7 +212,7 @@ fn push_line(
     push_tail(alloc, stubs, report, fates, &line.tail, comes, found)
 }
 
-/// The group or chord that a line ends in, if it is one.
+/// Appends those of the group or chord that a line ends in, if it does.
 #[cycle(lines)]
 fn push_tail(
     alloc: Global,
@@ -273,8 +273,8 @@ fn push_lines(
     Ok(())
 }
 
-/// The tasks of a run whose call is a TypeError, if a built-in task answers it, each with the
-/// parameter that is at fault, if it is one.
+/// Returns the tasks of a run whose call is a TypeError, if a built-in task answers it, each with
+/// the parameter that is at fault, if there is one.
 pub(crate) fn blamed_in_run(
     alloc: Global,
     stubs: &[Stub],

@@ -16,7 +16,7 @@ use crate::ignored::export_remark;
 use crate::input::results_of;
 use crate::plan::{lasting, plan_of, signed_plan};
 use crate::refusal::Refusal;
-use crate::reporting::{Form, Manner};
+use crate::reporting::{Format, OutputOptions};
 use canvas_celery::{Run, keys};
 use canvas_collect::{collect, complete};
 use canvas_export::{Start, Target};
@@ -30,7 +30,7 @@ use std::alloc::Global;
 use std::io::Read;
 use std::rt::Files;
 
-/// What is asked for of a run on Celery's own workers.
+/// A request about a run on Celery's own workers.
 #[derive(Clone, Copy, Drop)]
 pub enum OnCelery<'w> {
     /// Its start, as commands for Redis.
@@ -52,12 +52,12 @@ pub enum OnCelery<'w> {
 pub struct Collecting {
     /// Whether the report also has the tasks that a failure reaches.
     pub completes: bool,
-    /// In which form. What workers stored has no status of its own.
-    pub manner: Manner,
+    /// The form. A report of what workers stored has no status of its own.
+    pub output: OutputOptions,
 }
 
-/// What is asked for of a canvas's run, whose results the input gives. So many arguments of the
-/// canvas are texts since it was adapted.
+/// Answers a request about a canvas's run, whose results the input gives. `texts` arguments of the
+/// canvas were made texts when it was adapted.
 pub fn answer_celery<S, R: Read>(
     rt: &S,
     run: &Run,
@@ -92,7 +92,8 @@ where
     }
 }
 
-/// The commands for Redis that start a canvas, and what the workers get of it otherwise.
+/// Returns the commands for Redis that start a canvas, with a remark on what the workers get
+/// otherwise.
 fn answer_export(
     alloc: Global,
     run: &Run,
@@ -109,7 +110,7 @@ fn answer_export(
     Ok(Answer::start(start).with_remark(remark))
 }
 
-/// The keys of a canvas's results, a line each.
+/// Returns the keys of a canvas's results, a line each.
 fn answer_keys(alloc: Global, plan: &Plan, run: &Run, prefix: &str) -> Result<Answer, Refusal>
     ensures { IfOk result
         (AnswersAll (result_keys run.now.digits prefix.now (count_line plan.now)) 0) }
@@ -117,7 +118,7 @@ fn answer_keys(alloc: Global, plan: &Plan, run: &Run, prefix: &str) -> Result<An
     Ok(Answer::raw(keys(alloc, plan, run, prefix)?))
 }
 
-/// The report of a canvas from the results that the input gives.
+/// Returns the report of a canvas from the results that the input gives.
 fn answer_collect<S, R: Read>(
     rt: &S,
     plan: &Plan,
@@ -134,7 +135,7 @@ where
     answer_results(rt.alloc(), plan, run, collecting, results)
 }
 
-/// The report that these results give, which may be long, and are dropped before it is made.
+/// Returns the report of these results. They may be long, and are dropped before it is made.
 fn answer_results(
     alloc: Global,
     plan: &Plan,
@@ -146,22 +147,22 @@ fn answer_results(
 {
     let rows = stored_rows(alloc, plan, run, &results, collecting.completes)?;
     drop(results);
-    let text = text_of_rows(alloc, plan, &rows, collecting.manner.form)?;
+    let text = text_of_rows(alloc, plan, &rows, collecting.output.form)?;
     Ok(Answer::whole(text.into_bytes()))
 }
 
-/// The report of rows of any kind. Celery's workers tell no more.
+/// Returns the report of rows of any kind. Celery's workers store nothing more.
 pub(crate) fn text_of_rows(
     alloc: Global,
     plan: &Plan,
     rows: &[Row],
-    form: Form,
+    form: Format,
 ) -> Result<String, Memory>
     ensures { IfOk result (λ text. IsStoredText form plan.now rows.now (string_bytes text)) }
 {
     match form {
-        Form::Plain => stored_text(alloc, plan, rows),
-        Form::Json => {
+        Format::Plain => stored_text(alloc, plan, rows),
+        Format::Json => {
             let told = Told {
                 fates: &[],
                 blamed: &[],
@@ -169,11 +170,11 @@ pub(crate) fn text_of_rows(
             };
             stored_rows_text(alloc, plan, rows, told)
         }
-        Form::Explained => explained_text(alloc, plan, rows, &[]),
+        Format::Explained => explained_text(alloc, plan, rows, &[]),
     }
 }
 
-/// The run that the words name.
+/// Parses the run that the words name.
 pub(crate) fn run_of(text: &str) -> Result<Run, Refusal>
     ensures { IfOk result (λ run. run.digits ≡ text.now) }
 {
@@ -183,7 +184,7 @@ pub(crate) fn run_of(text: &str) -> Result<Run, Refusal>
     }
 }
 
-/// Rows with the failures that reach those that are pending.
+/// Returns rows with the failures that reach those that are pending.
 fn completed_rows(plan: &Plan, rows: Vec<Row>) -> Result<Vec<Row>, Refusal>
     ensures { IfOk result (λ made. AreCompleted true plan.now rows.items made.items) }
 {
@@ -192,7 +193,7 @@ fn completed_rows(plan: &Plan, rows: Vec<Row>) -> Result<Vec<Row>, Refusal>
     Ok(made)
 }
 
-/// The rows that stored results give, completed where that is asked for.
+/// Returns the rows of stored results, completed if that is asked for.
 pub(crate) fn stored_rows(
     alloc: Global,
     plan: &Plan,

@@ -1,4 +1,4 @@
-//! Many canvases of one input: how they are run, and the JSON object of each.
+//! Many canvases in one input: how they are run, and the JSON object of each.
 ghost use Rattle.std.specs.Str.Lines.{lines};
 ghost use Rattle.std.specs.Prelude.{◌≡◌, ◌++◌, OnOk, IfOk, codes, map, string_bytes};
 ghost use Rattle.canvas_semantics.specs.Line.{tree_of};
@@ -15,7 +15,7 @@ use canvas_report::Report;
 use canvas_task::Tasks;
 use std::alloc::{AllocError, Global};
 
-/// How the canvases of an input are run that has one after the other.
+/// How the canvases of an input that has one after the other are run.
 #[derive(Clone, Copy, Drop)]
 pub struct Each {
     pub workers: u32,
@@ -23,11 +23,11 @@ pub struct Each {
     pub fails: bool,
     /// The byte that each ends with.
     pub end: u8,
-    /// Whether each has what its tasks answer before it.
+    /// Whether each has the answers of its tasks before it.
     pub has_tasks: bool,
 }
 
-/// Adds a row behind others.
+/// Appends a row after others.
 fn push_more(out: &mut String, row: &str) -> Result<(), AllocError>
     ensures { OnOk result
         (string_bytes out.new ≡ string_bytes out.old ++ codes "," ++ row.now) }
@@ -36,7 +36,7 @@ fn push_more(out: &mut String, row: &str) -> Result<(), AllocError>
     out.push_str(row)
 }
 
-/// Adds rows with commas between them.
+/// Appends rows with commas between them.
 pub(crate) fn push_rows(out: &mut String, rows: &[&str]) -> Result<(), AllocError>
     ensures { OnOk result (string_bytes out.new
         ≡ string_bytes out.old ++ joined (map (λ row. row.now) rows.now)) }
@@ -50,7 +50,7 @@ pub(crate) fn push_rows(out: &mut String, rows: &[&str]) -> Result<(), AllocErro
     Ok(())
 }
 
-/// The object of some rows and of that of the canvas, in a line.
+/// Returns an object of some rows and that of the canvas, in a line.
 fn object_line(alloc: Global, rows: &[&str], canvas: &str) -> Result<String, AllocError>
     ensures { IfOk result (λ object. string_bytes object
         ≡ object_line (map (λ row. row.now) rows.now) canvas.now) }
@@ -63,7 +63,7 @@ fn object_line(alloc: Global, rows: &[&str], canvas: &str) -> Result<String, All
     Ok(object)
 }
 
-/// The object of some lines, of which the last is that of the canvas.
+/// Returns the object of some lines, the last of which is that of the canvas.
 fn object_of(alloc: Global, lines: &[&str]) -> Result<String, AllocError>
     ensures { IfOk result
         (λ object. IsObject (map (λ line. line.now) lines.now) (string_bytes object)) }
@@ -74,14 +74,14 @@ fn object_of(alloc: Global, lines: &[&str]) -> Result<String, AllocError>
     }
 }
 
-/// The lines of a text.
+/// Returns the lines of a text.
 fn lines_in(alloc: Global, text: &str) -> Result<Vec<&str>, AllocError>
     ensures { IfOk result (λ ls. map (λ line. line.now) ls.items ≡ lines text.now) }
 {
     text.lines().collect(alloc)
 }
 
-/// The lines of `run --json` as one object in a line.
+/// Returns the lines of `run --json` as one object in a line.
 fn object_of_lines(alloc: Global, text: &str) -> Result<String, AllocError>
     ensures { IfOk result (λ object. IsObject (lines text.now) (string_bytes object)) }
 {
@@ -89,7 +89,7 @@ fn object_of_lines(alloc: Global, text: &str) -> Result<String, AllocError>
     object_of(alloc, &lines)
 }
 
-/// The report of a run as an object in a line.
+/// Returns the report of a run as an object in a line.
 pub fn object_text<T: Tasks>(
     alloc: Global,
     plans: &Plans,

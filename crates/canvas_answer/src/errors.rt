@@ -1,4 +1,7 @@
-//! Exceptions of other classes than the four that the program's own tasks raise.
+//! Exceptions of classes other than the four that the program's own tasks raise.
+//!
+//! In a run such an exception is one of the four, and a report shows its own class. So no statement
+//! of the engine is about it.
 ghost use Rattle.std.specs.Prelude.{◌≡◌, ◌++◌, IfOk, OnOk, map, option_map, option_to_list};
 ghost use Rattle.std.specs.List.{filter_map};
 ghost use Rattle.canvas_stubs.specs.Raising.{other_error};
@@ -8,14 +11,14 @@ ghost use Rattle.canvas_answer.specs.Stubbing.{error_said};
 use canvas_stubs::other_error;
 use std::alloc::{AllocError, Global};
 
-/// What the stub of a name raises: an exception of another class.
+/// An exception of another class that the stub of a name raises.
 #[derive(Drop)]
 pub struct OtherError {
     pub name: String,
     pub class: String,
 }
 
-/// Adds what a stub's text raises, where that is an exception of another class.
+/// Appends the exception that a stub's text raises, if it is of another class.
 pub(crate) fn push_error(
     alloc: Global,
     errors: &mut Vec<OtherError>,
@@ -33,7 +36,7 @@ pub(crate) fn push_error(
     Ok(())
 }
 
-/// The exceptions of other classes that some stubs' texts raise.
+/// Returns the exceptions of other classes that some stubs' texts raise.
 pub(crate) fn errors_of(alloc: Global, texts: &[&str]) -> Result<Vec<OtherError>, AllocError>
     ensures { IfOk result (λ errors. map error_said errors.items
         ≡ filter_map other_error (map (λ t. t.now) texts.now)) }
@@ -45,7 +48,7 @@ pub(crate) fn errors_of(alloc: Global, texts: &[&str]) -> Result<Vec<OtherError>
     Ok(errors)
 }
 
-/// The class of the exception that the stub of a name raises, where it is another.
+/// Returns the class of the exception that the stub of a name raises, if it is another.
 pub(crate) fn class_named<'a>(errors: &'a [OtherError], name: &str) -> Option<&'a str>
     ensures { option_map (λ c. c.now) result ≡ class_named errors.now name.now }
 {

@@ -1,13 +1,13 @@
-//! Writing piece by piece so that nothing but printable ASCII and line feeds reaches the reader.
+//! Writing piece by piece so that only printable ASCII and line feeds reach the reader.
 
 use crate::printing::write_lines;
 use std::io::{self, Write};
 
-/// Writes lines to another writer, as `write_lines` does.
+/// A writer that writes lines to another writer, as `write_lines` does.
 #[derive(Drop)]
 pub(crate) struct Escaping<'a, W> {
     out: &'a mut W,
-    /// Whether they are to be one line, so that a line feed is escaped, too.
+    /// Whether they become one line, so that a line feed is escaped, too.
     in_line: bool,
 }
 

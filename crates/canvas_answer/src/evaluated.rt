@@ -1,4 +1,4 @@
-//! What is told of a canvas that is evaluated, as JSON lines.
+//! The results of a canvas that is evaluated, as JSON lines.
 ghost use Rattle.std.specs.Prelude.{◌≡◌, ◌+◌, ◌++◌, IfOk, OnOk, Some, codes, map, option_to_list, slice_get, string_bytes, true};
 ghost use Rattle.std.specs.List.{filter_map};
 ghost use Rattle.std.specs.Str.{bytes_eq};
@@ -27,7 +27,7 @@ use canvas_rewrite::Plan;
 use canvas_task::{Memory, TaskNo, Tasks};
 use std::alloc::{AllocError, Global};
 
-/// What is told of a canvas that is evaluated.
+/// The results of a canvas that is evaluated.
 #[derive(Drop)]
 pub struct Evaluated {
     rows: Vec<Row>,
@@ -37,7 +37,7 @@ pub struct Evaluated {
     pub failed: bool,
 }
 
-/// A canvas as it stands: what is told of it, and the rows of all its tasks.
+/// The results of a canvas without a failure, with the rows of all its tasks.
 #[derive(Drop)]
 pub struct Base {
     pub(crate) told: Evaluated,
@@ -45,7 +45,7 @@ pub struct Base {
 }
 
 impl Base {
-    /// Whether the canvas's result is a failure as it stands.
+    /// Returns whether the canvas's result is a failure already.
     pub fn failed(&self) -> bool
         ensures { result ≡ self.now.told.failed }
     {
@@ -74,14 +74,14 @@ impl<'a, T: Tasks> Source<'a, T> {
     }
 }
 
-/// A line without its line feed.
+/// Returns a line without its line feed.
 fn without_end(line: &str) -> &str
     ensures { result.now ≡ without_end line.now }
 {
     line.strip_suffix('\n').unwrap_or(line)
 }
 
-/// Whether a text is at a place.
+/// Returns whether a text is at a place.
 fn is_text_at(texts: &[String], place: usize, text: &str) -> bool
     ensures { (found : Text) → slice_get (map string_bytes texts.now) place ≡ Some found
         → result ≡ bytes_eq found text.now }
@@ -92,7 +92,7 @@ fn is_text_at(texts: &[String], place: usize, text: &str) -> bool
     }
 }
 
-/// Whether two rows are the same.
+/// Returns whether two rows are the same.
 fn is_same_row(row: &Row, other: &Row) -> bool
     ensures { result ≡ true → shown_text row.now ≡ shown_text other.now }
 {
@@ -111,7 +111,7 @@ fn is_same_row(row: &Row, other: &Row) -> bool
     }
 }
 
-/// Whether the rows of the task at a place are the same.
+/// Returns whether the rows of the task at a place are the same.
 fn has_same_row(rows: &[Row], others: &[Row], place: usize) -> bool
     ensures { result ≡ true → shown_text (row_of rows.now (place + 1))
         ≡ shown_text (row_of others.now (place + 1)) }
@@ -122,7 +122,7 @@ fn has_same_row(rows: &[Row], others: &[Row], place: usize) -> bool
     }
 }
 
-/// Whether the same became of the task at a place.
+/// Returns whether the fates of the task at a place are the same.
 fn has_same_fate(fates: &[(TaskNo, Fate)], others: &[(TaskNo, Fate)], place: usize) -> bool
     ensures { result ≡ true → fate_at fates.now (place + 1) ≡ fate_at others.now (place + 1) }
 {
@@ -144,7 +144,7 @@ impl Evaluated {
         }
     }
 
-    /// The row of a task as a JSON object.
+    /// Returns the row of a task as a JSON object.
     fn row(&self, alloc: Global, plan: &Plan, task: TaskNo) -> Result<String, Memory>
         ensures { IfOk result (λ row. string_bytes row
             ≡ without_end (line_if (told_line self.now) task (name_of plan.now task))) }
@@ -153,7 +153,7 @@ impl Evaluated {
         Ok(String::from_str(alloc, without_end(&line))?)
     }
 
-    /// The rows of all tasks.
+    /// Returns the rows of all tasks.
     pub(crate) fn all_rows(&self, alloc: Global, plan: &Plan) -> Result<Vec<String>, Memory>
         ensures { IfOk result
             (λ rows. AreAllRows self.now plan.now (map string_bytes rows.items)) }
@@ -165,7 +165,8 @@ impl Evaluated {
         Ok(rows)
     }
 
-    /// Whether the same is told of the task at a place, as far as that shows without its row.
+    /// Returns whether the task at a place has the same line, as far as that shows without writing
+    /// it.
     fn is_alike(&self, other: &Evaluated, place: usize) -> bool
         ensures { (name : Text) → result ≡ true
             → told_line self.now (place + 1, name) ≡ told_line other.now (place + 1, name) }
@@ -176,7 +177,7 @@ impl Evaluated {
             && has_same_fate(&self.fates, &other.fates, place)
     }
 
-    /// Adds the row of the task at a place, unless it is that of the canvas as it stands.
+    /// Appends the row of the task at a place, unless it is that of the canvas without a failure.
     fn push_changed(
         &self,
         alloc: Global,
@@ -202,7 +203,7 @@ impl Evaluated {
         Ok(())
     }
 
-    /// The rows that differ from those of the canvas as it stands.
+    /// Returns the rows that differ from those of the canvas without a failure.
     pub(crate) fn changed_rows(
         &self,
         alloc: Global,
@@ -221,7 +222,8 @@ impl Evaluated {
         Ok(found)
     }
 
-    /// These rows, the canvas's result, and the task that fails, as a JSON object in a line.
+    /// Returns these rows, the canvas's result, and the task that fails, as a JSON object in a
+    /// line.
     pub(crate) fn object(
         &self,
         alloc: Global,
@@ -238,7 +240,7 @@ impl Evaluated {
     }
 }
 
-/// Adds the task that fails as a member.
+/// Appends the task that fails as a member.
 fn push_fails(object: &mut String, fails: Option<TaskNo>) -> Result<(), AllocError>
     ensures { OnOk result
         (string_bytes object.new ≡ string_bytes object.old ++ fails_member fails) }

@@ -1,5 +1,5 @@
-//! `canvas run --failures`: what becomes of a canvas if each of its tasks fails alone. Each case is
-//! evaluated and not run, since every run has the report of that.
+//! `canvas run --failures`: the results of a canvas in which only one task fails, for each task.
+//! Each case is evaluated and not run, since every run has the report of the evaluation.
 ghost use Rattle.std.specs.Prelude.{◌≡◌, ◌+◌, ◌++◌, ◌<◌, IfOk, None, Some, codes, map, string_bytes};
 ghost use Rattle.canvas_adapt.specs.Renamed.{renamed};
 ghost use Rattle.canvas_semantics.specs.Line.{count_line, tree_of};
@@ -25,19 +25,19 @@ use canvas_stubs::{Does, StubFault, Stubbed, plain_text, read_stub};
 use canvas_task::{TaskNo, Tasks};
 use std::alloc::{AllocError, Global};
 
-/// The exception that stands for those of other classes while a canvas is evaluated.
+/// The exception that replaces those of other classes while a canvas is evaluated.
 const STANDS: &str = "NotRegistered";
 
-/// What is asked for.
+/// The request of `--failures`.
 #[derive(Clone, Copy)]
 pub struct Failures<'w> {
     /// `raise:` and the class of the exception that each task fails with.
     pub word: &'w str,
-    /// Whether a failure of the canvas, as it stands, has a status of its own.
+    /// Whether a failure of the canvas without a further one has a status of its own.
     pub fails: bool,
 }
 
-/// What `--task` would say so that the task of a number fails.
+/// Returns the word for `--task` with which the task of a number fails.
 fn task_text(alloc: Global, number: u32, word: &str) -> Result<String, AllocError>
     ensures { IfOk result (λ text. string_bytes text ≡ numbered_word number word.now) }
 {
@@ -46,14 +46,14 @@ fn task_text(alloc: Global, number: u32, word: &str) -> Result<String, AllocErro
     Ok(text)
 }
 
-/// The class of the exception that a word raises.
+/// Returns the class of the exception that a word raises.
 fn class_in(word: &str) -> &str
     ensures { (class : Text) → word.now ≡ codes "raise:" ++ class → result.now ≡ class }
 {
     word.strip_prefix("raise:").unwrap_or(word)
 }
 
-/// Refuses a word that is no exception which a task may fail with.
+/// Refuses a word that is not an exception with which a task may fail.
 pub(crate) fn check_raise(alloc: Global, word: &str) -> Result<(), Refusal> {
     let text = task_text(alloc, 1, word)?;
     let plain = plain_text(alloc, &text, STANDS)?;
@@ -70,13 +70,13 @@ pub struct Cases<'a, T> {
     pub canvas: Canvas,
     pub text: &'a [u8],
     pub adapts: bool,
-    /// What the task fails with.
+    /// The word with which the task fails.
     pub word: &'a str,
-    /// What tasks answer that have no stub.
+    /// The tasks that answer if there is no stub.
     pub tasks: &'a T,
 }
 
-/// What is made anew for each case: the plans, and what tasks answer.
+/// What is made anew for each case: the plans, and the answers of tasks.
 #[derive(Drop)]
 pub struct Ready {
     pub plans: Plans,
@@ -84,14 +84,14 @@ pub struct Ready {
 }
 
 impl Ready {
-    /// How many tasks the canvas has.
+    /// Returns how many tasks the canvas has.
     pub fn tasks(&self) -> u32
         ensures { result ≡ count_line self.now.plans.shown }
     {
         self.plans.shown.tasks()
     }
 
-    /// The task at a place, from 0.
+    /// Returns the task at a place, from 0.
     pub fn task_at(&self, place: u32) -> TaskNo
         requires { place < count_line self.now.plans.shown }
         ensures { result ≡ place + 1 }
@@ -101,7 +101,7 @@ impl Ready {
 }
 
 impl<'a, T: Tasks> Cases<'a, T> {
-    /// The cases of a text's canvas.
+    /// Returns the cases of a text's canvas.
     pub fn of(
         alloc: Global,
         text: &'a [u8],
@@ -123,7 +123,7 @@ impl<'a, T: Tasks> Cases<'a, T> {
         })
     }
 
-    /// The canvas as it stands. A name that the words say is that of a task.
+    /// Prepares the canvas without a failure. Each name in the words must be that of a task.
     pub fn ready(&self, alloc: Global, answers: Answers) -> Result<Ready, Refusal>
         ensures { IfOk result (λ ready. (ready.answers ≡ answers)
             × IsPlanOf self.now.canvas ready.plans.shown
@@ -138,7 +138,7 @@ impl<'a, T: Tasks> Cases<'a, T> {
         Ok(Ready { plans, answers })
     }
 
-    /// What is told of a case.
+    /// Evaluates a case.
     fn evaluated(&self, alloc: Global, ready: Ready) -> Result<(Evaluated, Ready), Refusal>
         ensures { IfOk result (λ r. (r.1 ≡ ready)
             × IsEvaluated (asked_of self.now.adapts ready.answers)
@@ -179,7 +179,7 @@ impl<'a, T: Tasks> Cases<'a, T> {
         Ok((told, Ready { plans, answers }))
     }
 
-    /// The line of the canvas as it stands, with all its rows.
+    /// Returns the line of the canvas without a failure, with all its rows.
     pub fn first(&self, alloc: Global, ready: Ready) -> Result<(String, Base, Ready), Refusal>
         ensures told { IfOk result (λ r. IsEvaluated (asked_of self.now.adapts ready.answers)
             (stubs_behaviour ready.answers.stubs.items (T.behaviour self.now.tasks.now))
@@ -196,7 +196,7 @@ impl<'a, T: Tasks> Cases<'a, T> {
         Ok((line, Base { told, rows }, ready))
     }
 
-    /// What becomes of the canvas where a task fails.
+    /// Evaluates the canvas with a task that fails.
     fn failing(
         &self,
         alloc: Global,
@@ -215,8 +215,8 @@ impl<'a, T: Tasks> Cases<'a, T> {
         self.evaluated(alloc, Ready { plans, answers })
     }
 
-    /// The line of the case in which a task fails: the rows that differ from those of the canvas
-    /// as it stands.
+    /// Returns the line of the case in which a task fails: the rows that differ from those of the
+    /// canvas without a failure.
     pub fn line(
         &self,
         alloc: Global,

@@ -1,8 +1,8 @@
-//! The figures of a canvas, with what is warned of it.
+//! The statistics of a canvas, with its warnings.
 
 use crate::answer::Answer;
 use crate::refusal::Refusal;
-use crate::reporting::{FAILED, Form, Manner};
+use crate::reporting::{FAILED, Format, OutputOptions};
 use crate::warnings::Warnings;
 use canvas_envelope::Letter;
 use canvas_rewrite::Plan;
@@ -11,7 +11,7 @@ use canvas_values::Depths;
 use std::alloc::{AllocError, Global};
 use std::fmt;
 
-/// What a run of a canvas takes.
+/// The size of a canvas's run.
 #[derive(Clone, Copy)]
 pub struct Figures {
     tasks: u32,
@@ -38,7 +38,7 @@ impl fmt::Display for Figures {
     }
 }
 
-/// How many bytes the texts of a message have. They are written for this, and dropped.
+/// Returns how many bytes the texts of a message have. They are written for this, and dropped.
 fn length_of(alloc: Global, message: &Letter) -> Result<u64, Memory> {
     let envelope = message.envelope(alloc)?;
     let mut bytes = 0u64;
@@ -48,7 +48,7 @@ fn length_of(alloc: Global, message: &Letter) -> Result<u64, Memory> {
     Ok(bytes)
 }
 
-/// How many bytes the texts of messages have.
+/// Returns how many bytes the texts of messages have.
 fn bytes_of(alloc: Global, messages: &[Letter]) -> Result<u64, Memory> {
     let mut bytes = 0u64;
     for message in messages {
@@ -58,7 +58,7 @@ fn bytes_of(alloc: Global, messages: &[Letter]) -> Result<u64, Memory> {
 }
 
 impl Figures {
-    /// The figures as a JSON object in a line.
+    /// Returns the statistics as a JSON object in a line.
     fn json_line(self, alloc: Global) -> Result<String, AllocError> {
         let Figures {
             tasks,
@@ -72,7 +72,8 @@ impl Figures {
         )
     }
 
-    /// The figures of a plan whose canvas has these depths, and whose run publishes these messages.
+    /// Returns the statistics of a plan whose canvas has these depths, and whose run publishes
+    /// these messages.
     pub fn of(
         alloc: Global,
         plan: &Plan,
@@ -88,15 +89,15 @@ impl Figures {
         })
     }
 
-    /// What is said of a canvas that is accepted, and the status.
+    /// Returns the answer for a canvas that is accepted, with its status.
     pub fn answer(
         self,
         alloc: Global,
-        manner: Manner,
+        output: OutputOptions,
         warnings: &Warnings,
     ) -> Result<Answer, Refusal> {
-        let out = check_text(alloc, self, warnings, manner.form)?;
-        let status = if manner.fails && !warnings.is_empty() {
+        let out = check_text(alloc, self, warnings, output.form)?;
+        let status = if output.fails && !warnings.is_empty() {
             FAILED
         } else {
             0
@@ -105,14 +106,14 @@ impl Figures {
     }
 }
 
-/// Some figures, and behind them what is warned of the canvas.
+/// Returns some statistics, followed by the canvas's warnings.
 fn check_text(
     alloc: Global,
     figures: Figures,
     warnings: &Warnings,
-    form: Form,
+    form: Format,
 ) -> Result<String, AllocError> {
-    if form == Form::Json {
+    if form == Format::Json {
         let mut out = figures.json_line(alloc)?;
         warnings.push_objects(&mut out)?;
         return Ok(out);

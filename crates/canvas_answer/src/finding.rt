@@ -1,15 +1,15 @@
-//! Where a canvas is refused, for people and as JSON.
+//! The place at which a canvas is refused, for people and as JSON.
 
 use canvas_finding::{Finding, Spot, Step, pointer_text};
 use canvas_report::quoted_json;
 use std::alloc::{AllocError, Global};
 use std::fmt;
 
-/// Where a text is refused, as a person reads it.
+/// The place at which a text is refused, as a person reads it.
 #[derive(Clone, Copy)]
 pub(crate) struct Place<'a>(pub &'a Finding);
 
-/// The pointer to a signature; that of the whole canvas is empty.
+/// Writes the pointer to a signature; that of the whole canvas is empty.
 fn write_pointer<W: fmt::Write>(f: &mut fmt::Formatter<W>, steps: &[Step]) -> fmt::Result {
     if steps.is_empty() {
         return f.write_str("the top");
@@ -43,7 +43,7 @@ impl fmt::Display for Place<'_> {
     }
 }
 
-/// The pointer to a signature, as a JSON string; null where none is found that is refused.
+/// Returns the pointer to a signature, as a JSON string; null if no refused one is found.
 pub(crate) fn pointer_json(alloc: Global, found: Option<&Finding>) -> Result<String, AllocError> {
     match found {
         Some(
@@ -56,7 +56,7 @@ pub(crate) fn pointer_json(alloc: Global, found: Option<&Finding>) -> Result<Str
     }
 }
 
-/// The name in the signature, as a JSON string; null where it has none.
+/// Returns the name in the signature, as a JSON string; null if it has none.
 pub(crate) fn task_json(alloc: Global, found: Option<&Finding>) -> Result<String, AllocError> {
     match found {
         Some(
@@ -69,7 +69,7 @@ pub(crate) fn task_json(alloc: Global, found: Option<&Finding>) -> Result<String
     }
 }
 
-/// The members that say where a text is no JSON; none where it is.
+/// Writes the members that say where a text is not JSON; none if it is.
 pub(crate) fn write_columns(text: &mut String, found: Option<&Finding>) -> Result<(), AllocError> {
     match found {
         Some(

@@ -30,7 +30,7 @@ use std::alloc::Global;
 use std::io::Read;
 use std::rt::Files;
 
-/// What Celery's workers stored.
+/// Results that Celery's workers stored.
 #[derive(Clone, Copy, Drop)]
 pub struct Stored<'w> {
     /// The file with the results, a line each; `-` is standard input.
@@ -40,16 +40,16 @@ pub struct Stored<'w> {
     pub completes: bool,
 }
 
-/// Which states a picture shows.
+/// The states that a picture shows.
 #[derive(Clone, Copy, Drop)]
 pub enum States<'w> {
     None,
-    /// Those of a run by so many workers.
+    /// The states of a run by this number of workers.
     Run(u32),
     Stored(Stored<'w>),
 }
 
-/// The picture of a plan, with the states of these rows where there are any.
+/// Returns the picture of a plan, with the states of these rows if there are any.
 fn picture(alloc: Global, plan: &Plan, rows: Option<&[Row]>) -> Result<Answer, Refusal>
     ensures { IfOk result
         (IsPictured [] (option_map (λ rows. rows.now) rows.entry) plan.now) }
@@ -57,7 +57,7 @@ fn picture(alloc: Global, plan: &Plan, rows: Option<&[Row]>) -> Result<Answer, R
     Ok(Answer::whole(graph_text(alloc, plan, rows, &[])?.into_bytes()))
 }
 
-/// The same with the states of these results.
+/// Returns the picture of a plan with the states of these results.
 fn stored_picture(
     alloc: Global,
     plan: &Plan,
@@ -86,7 +86,7 @@ where
     stored_picture(rt.alloc(), plan, asked, &results)
 }
 
-/// The picture of a canvas that isn't run, with what was stored where that is asked for.
+/// Returns the picture of a canvas that isn't run, with the stored states if that is asked for.
 pub fn plan_picture<S, R: Read>(
     rt: &S,
     stored: Option<Stored<'_>>,
@@ -124,7 +124,7 @@ fn picture_text<T>(
     graph_text(alloc, &plans.shown, Some(&rows), &fates)
 }
 
-/// The picture of a whole run.
+/// Returns the picture of a whole run.
 pub fn report_picture<T>(
     alloc: Global,
     plans: &Plans,

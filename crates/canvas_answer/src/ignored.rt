@@ -1,10 +1,13 @@
-//! What of a canvas Celery's workers get otherwise, as standard error tells it.
+//! The parts of a canvas that Celery's workers get otherwise, as lines for standard error.
+//!
+//! Every ignored option is named, and not only known ones, since Celery passes those that it
+//! doesn't know to the broker.
 
 use crate::answer::Remark;
 use canvas_finding::{Signature, shown_name};
 use std::alloc::{AllocError, Global};
 
-/// The line on an option.
+/// Appends the line on an option.
 fn push_line(
     lines: &mut String,
     alloc: Global,
@@ -21,7 +24,7 @@ fn push_line(
     Ok(())
 }
 
-/// The line on arguments that were made texts.
+/// Appends the line on arguments that were made texts.
 fn push_texts(lines: &mut String, count: usize) -> Result<(), AllocError> {
     let (arguments, texts) = match count {
         0 => return Ok(()),
@@ -35,7 +38,7 @@ fn push_texts(lines: &mut String, count: usize) -> Result<(), AllocError> {
     Ok(())
 }
 
-/// A line for each of some sorted names, with how often it is there.
+/// Appends a line for each of some sorted names, with how often it is there.
 fn push_lines(lines: &mut String, alloc: Global, names: &[String]) -> Result<(), AllocError> {
     let mut count = 0usize;
     for (index, name) in names.iter().enumerate() {
@@ -52,7 +55,7 @@ fn push_lines(lines: &mut String, alloc: Global, names: &[String]) -> Result<(),
     Ok(())
 }
 
-/// The lines on some arguments that were made texts, and on sorted names of options.
+/// Returns the lines on arguments that were made texts, and on sorted names of options.
 fn lines_of(alloc: Global, texts: usize, names: &[String]) -> Result<String, AllocError> {
     let mut lines = String::new(alloc);
     push_texts(&mut lines, texts)?;
@@ -60,7 +63,7 @@ fn lines_of(alloc: Global, texts: usize, names: &[String]) -> Result<String, All
     Ok(lines)
 }
 
-/// The names of the options that signatures have and that are ignored.
+/// Returns the names of the options that signatures have and that are ignored.
 fn ignored_names(alloc: Global, signatures: Vec<Signature>) -> Result<Vec<String>, AllocError> {
     let mut names = Vec::new(alloc);
     for signature in signatures {
@@ -71,8 +74,8 @@ fn ignored_names(alloc: Global, signatures: Vec<Signature>) -> Result<Vec<String
     Ok(names)
 }
 
-/// What is said of an export: how many arguments are texts since the canvas was adapted, and which
-/// options of its signatures are ignored.
+/// Returns the remark on an export: how many arguments were made texts when the canvas was adapted,
+/// and which options of its signatures are ignored.
 pub(crate) fn export_remark(
     alloc: Global,
     signatures: Vec<Signature>,

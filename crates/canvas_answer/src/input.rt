@@ -1,4 +1,4 @@
-//! Reading a canvas's text and the results of tasks, as far as they can be long.
+//! Reads a canvas's text and the results of tasks, up to their greatest lengths.
 ghost use Rattle.std.specs.Prelude.{◌≡◌, ◌≢◌, ◌++◌, ◌*◌, ◌<◌, ◌≤◌, IfOk, IfSome, OnOk, codes, length, take, true};
 ghost use Rattle.std.specs.Io.KnownBytes.{Consumes, IsAtEnd};
 ghost use Rattle.canvas_task.specs.Text.{Text};
@@ -14,25 +14,26 @@ use std::fs;
 use std::io::{self, ErrorKind, Read};
 use std::rt::Files;
 
-/// The most bytes of results that are taken: 64 KiB for each of 1,024 tasks.
+/// The most bytes of results that are accepted: 64 KiB for each of 1,024 tasks.
 const MOST_RESULTS: usize = 67_108_864;
 
 /// How many bytes are read at a time.
 const CHUNK: usize = 2048;
 
-/// The greatest block that malloc is made to keep, in bytes.
+/// The size of the largest block that malloc is made to keep, in bytes.
 const KEPT: usize = 4_194_304;
 
-/// Has malloc keep what reading a canvas gives back, so that the run is laid into pages that are
-/// there. glibc's takes each block over 128 KiB from the system and returns it as soon as it is
-/// freed, until one as large was freed (mallopt(3), `M_MMAP_THRESHOLD`): so one is, unused.
+/// Makes malloc keep the blocks freed after a canvas is read, so that the run uses pages that are
+/// there. glibc's malloc takes each block over 128 KiB from the system and returns it as soon as it
+/// is freed, until a block as large was freed (mallopt(3), `M_MMAP_THRESHOLD`): so one is freed
+/// here, unused.
 pub fn keep_blocks(alloc: Global) {
     let block: Result<Vec<u8>, AllocError> = Vec::with_capacity(alloc, KEPT);
     drop(block);
 }
 
-/// Reads once, as far as there is room for more, and says whether that was the end. A read that is
-/// interrupted finds nothing.
+/// Reads once, as far as there is room for more, and returns whether that was the end. An
+/// interrupted read finds nothing.
 fn read_more<R: Read>(
     reader: &mut R,
     chunk: &mut [u8; CHUNK],
@@ -57,14 +58,14 @@ fn read_more<R: Read>(
     }
 }
 
-/// Reads at most so many bytes in at most that many reads, of which those that are interrupted are
-/// some. If these end before the text does, that is a fault.
+/// Reads at most `most` bytes in at most `most` reads, of which interrupted ones count. Fails if
+/// the reads end before the text does.
 fn read_at_most<R: Read>(alloc: Global, reader: &mut R, most: usize) -> io::Result<Vec<u8>>
     ensures { IfOk result (λ text. IfSome (R.remaining reader.old)
         (λ bytes. text.items ≡ take most bytes)) }
 {
     let mut text = Vec::new(alloc);
-    // One for all reads, since it is filled with zeros when it is made.
+    // One buffer for all reads, since it is filled with zeros when it is made.
     let mut chunk = [0u8; CHUNK];
     for _ in 0..most {
         if read_more(reader, &mut chunk, &mut text, most)? || text.len() == most {
@@ -74,7 +75,7 @@ fn read_at_most<R: Read>(alloc: Global, reader: &mut R, most: usize) -> io::Resu
     Err(io::Error::from(ErrorKind::Other))
 }
 
-/// At most so many bytes of a file, or of the input where it is named `-`.
+/// Reads at most `most` bytes of a file, or of the input if the name is `-`.
 fn bytes_of<S, R: Read>(rt: &S, file: &str, input: &mut R, most: usize) -> Result<Vec<u8>, Refusal>
 where
     S: Files + AllocGlobal,
@@ -97,7 +98,7 @@ fn read_file<S: Files + AllocGlobal>(rt: &S, file: &str, most: usize) -> io::Res
     read_at_most(rt.alloc(), &mut fs::open(rt, file)?, most)
 }
 
-/// All bytes of a file; none where it has more than so many.
+/// Reads all bytes of a file; None if it has more than `most`.
 fn bytes_within<S, R: Read>(
     rt: &S,
     file: &str,
@@ -112,7 +113,8 @@ where
     Ok((bytes.len() <= most).then_some(bytes))
 }
 
-/// The text of a canvas, with one byte more than the longest has, so that a longer one shows.
+/// Reads the text of a canvas, up to one byte more than the longest has, so that a longer one
+/// shows.
 pub fn text_of<S, R: Read>(rt: &S, file: &str, input: &mut R) -> Result<Vec<u8>, Refusal>
 where
     S: Files + AllocGlobal,
@@ -124,7 +126,7 @@ where
     bytes_of(rt, file, input, MOST_BYTES + 1)
 }
 
-/// The results that Celery's workers stored, a line each.
+/// Reads the results that Celery's workers stored, a line each.
 pub(crate) fn results_of<S, R: Read>(rt: &S, file: &str, input: &mut R) -> Result<Vec<u8>, Refusal>
 where
     S: Files + AllocGlobal,
@@ -133,7 +135,7 @@ where
     bytes_within(rt, file, input, MOST_RESULTS)?.ok_or(Refusal::Celery(CeleryRefusal::TooLarge))
 }
 
-/// The text with the values of places.
+/// Reads the text with the values of places.
 pub(crate) fn values_of<S, R: Read>(rt: &S, file: &str, input: &mut R) -> Result<Vec<u8>, Refusal>
 where
     S: Files + AllocGlobal,
@@ -145,7 +147,7 @@ where
     }
 }
 
-/// The refusal of a file that can't be read, which the words name so.
+/// Returns the refusal of a file that can't be read, with its name in the words.
 pub fn unread(alloc: Global, error: &io::Error, file: &str) -> Refusal {
     match error.kind() {
         ErrorKind::OutOfMemory => Refusal::Memory,

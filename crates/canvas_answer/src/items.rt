@@ -1,5 +1,5 @@
-//! The items of `--each`: canvases one after the other, each up to the byte that ends it, and what
-//! stands before a canvas in an item that has what its tasks answer.
+//! The items of `--each`: canvases one after the other, each up to the byte that ends it, and the
+//! answers of tasks before a canvas in an item that has them.
 ghost use Rattle.std.specs.Prelude.{◌≡◌, ◌≢◌, ◌++◌, ◌≤◌, IfOk, IfSome, OnOk, OnSome, length, option_map, take};
 ghost use Rattle.std.specs.List.{All};
 ghost use Rattle.std.specs.Io.KnownBytes.{Consumes, IsAtEnd};
@@ -20,22 +20,23 @@ use canvas_stubs::Stub;
 use std::alloc::{AllocError, Global};
 use std::io::{self, BufRead, ErrorKind};
 
-/// The most bytes of an item that are kept: the longest list of what tasks answer, the empty line
-/// behind it, and one byte more than the longest canvas has, so that a longer one shows.
+/// The most bytes of an item that are kept: the longest list of tasks' answers, the empty line
+/// after it, and one byte more than the longest canvas has, so that a longer one shows.
 const MOST_ITEM: usize = 2 * MOST_BYTES + 3;
 
-/// What a piece of the input was.
+/// The kind of a piece of the input.
 #[derive(Clone, Copy)]
 enum Piece {
     /// The end of an item.
     Last,
-    /// A part of it, behind which it goes on.
+    /// A part of an item that goes on.
     Part,
     /// Nothing: the input ends.
     None,
 }
 
-/// The bytes before the end of an item, how many are taken with it, and what piece that is.
+/// Returns the bytes before the end of an item, how many are taken with it, and the kind of the
+/// piece.
 fn piece_of(bytes: &[u8], end: u8) -> (&[u8], usize, Piece)
     ensures within { result.1 ≤ length bytes.now }
     ensures without { All (λ x. x ≢ end) result.0.now }
@@ -54,7 +55,7 @@ fn piece_of(bytes: &[u8], end: u8) -> (&[u8], usize, Piece)
     }
 }
 
-/// Adds bytes to an item, as many as there is room for.
+/// Appends bytes to an item, as many as there is room for.
 fn add_bytes(item: &mut Vec<u8>, bytes: &[u8]) -> Result<(), AllocError>
     requires { length item.old.items ≤ most_item }
     ensures { OnOk result (item.new.items ≡ take most_item (item.old.items ++ bytes.now)) }
@@ -64,7 +65,7 @@ fn add_bytes(item: &mut Vec<u8>, bytes: &[u8]) -> Result<(), AllocError>
     Ok(())
 }
 
-/// Reads a piece of an item. A read that is interrupted is a part without a byte.
+/// Reads a piece of an item. An interrupted read is a part without a byte.
 fn add_piece<B: BufRead>(reader: &mut B, end: u8, item: &mut Vec<u8>) -> io::Result<Piece>
     requires { length item.old.items ≤ most_item }
     ensures { IfOk result (λ piece. (bs : Text) × All (λ x. x ≢ end) bs
@@ -89,9 +90,9 @@ fn add_piece<B: BufRead>(reader: &mut B, end: u8, item: &mut Vec<u8>) -> io::Res
     Ok(piece)
 }
 
-/// Reads the next item, without the byte that ends it, which the last one may lack. None where the
-/// input has no more. No more is read than what the reader has at once, so that an item can be
-/// answered before the next is there. What is too long is kept in part.
+/// Reads the next item, without the byte that ends it, which the last one may lack. Returns None if
+/// the input has no more. It reads no more than the reader has at once, so that an item can be
+/// answered before the next is there. An item that is too long is kept in part.
 pub fn next_item<B: BufRead>(alloc: Global, reader: &mut B, end: u8) -> io::Result<Option<Vec<u8>>>
     ensures short { IfOk result (λ item. IfSome item (λ item. length item.items ≤ most_item)) }
     ensures next { IfOk result (λ item. IfSome (B.remaining reader.old) (λ xs.
@@ -114,7 +115,7 @@ pub fn next_item<B: BufRead>(alloc: Global, reader: &mut B, end: u8) -> io::Resu
     Err(io::Error::from(ErrorKind::Other))
 }
 
-/// What stands before the first empty line of an item, and what stands behind it.
+/// Returns the text before the first empty line of an item, and the text after it.
 pub fn parts_of(item: &[u8]) -> (&[u8], &[u8]) {
     let mut before = b'\n';
     for (at, byte) in item.iter().enumerate() {
@@ -126,11 +127,11 @@ pub fn parts_of(item: &[u8]) -> (&[u8], &[u8]) {
     (item, &[])
 }
 
-/// The exception that stands for those of other classes in a run.
+/// The exception that replaces those of other classes in a run.
 const STANDS: &str = "NotRegistered";
 
-/// The lines of an item's tasks. They are refused as those of a file are, by the name that the
-/// words have for the input.
+/// Returns the lines of an item's tasks. They are refused as those of a file are, by the name that
+/// the words have for the input.
 fn lines_in<'i>(alloc: Global, bytes: &'i [u8], file: &str) -> Result<Vec<&'i str>, Refusal> {
     if bytes.len() > MOST_BYTES {
         return Err(Refusal::of_file(alloc, file, Unread::TooLong));
@@ -141,7 +142,7 @@ fn lines_in<'i>(alloc: Global, bytes: &'i [u8], file: &str) -> Result<Vec<&'i st
     }
 }
 
-/// What tasks answer by the lines of an item, as `--task` says it, and behind it what they do by
+/// Returns the answers of tasks by the lines of an item, as `--task` has them, followed by those of
 /// the words and their file.
 pub fn item_answers(
     alloc: Global,
@@ -156,7 +157,7 @@ pub fn item_answers(
     Ok(answers)
 }
 
-/// Adds what others say. Of two stubs of a name, and of two numbers, the first counts.
+/// Appends the answers of others. If two stubs have one name or number, the first counts.
 fn add_others(answers: &mut Answers, others: Setting<'_>) -> Result<(), AllocError> {
     add_errors(answers, others.errors)?;
     for stub in others.stubs {
@@ -172,7 +173,7 @@ fn add_others(answers: &mut Answers, others: Setting<'_>) -> Result<(), AllocErr
     Ok(())
 }
 
-/// Adds exceptions, but those of names that have a stub.
+/// Appends exceptions, except those of names that have a stub.
 fn add_errors(answers: &mut Answers, others: &[OtherError]) -> Result<(), AllocError> {
     for error in others {
         if stub_named(&answers.stubs, &error.name).is_none() {

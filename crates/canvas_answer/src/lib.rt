@@ -1,12 +1,12 @@
-//! What the program `canvas` is asked, and its answers as far as they need no run of the engine.
+//! Requests to the program `canvas`, and its answers as far as they need no run of the engine.
 #![tactic(auto)]
 
 pub mod adapt;
 pub mod again;
 pub mod answer;
-pub mod asked;
 mod blamed;
 pub mod celery;
+pub mod command_line;
 pub mod each;
 pub mod errors;
 mod escaping;

@@ -1,5 +1,5 @@
 //! The rows of a run with the exceptions that stubs raise by their own classes. A task that was
-//! called has that of its stub, one that was skipped that of the task that it is due to.
+//! called has that of its stub, and one that was skipped that of the task that it is due to.
 ghost use Rattle.std.specs.Prelude.{◌≡◌, [], IfOk, ℕ, Some, map, option_map, suc};
 ghost use Rattle.canvas_semantics.specs.States.{numbers_from};
 ghost use Rattle.canvas_answer.specs.Raised.{AreShown, IsBlamed, IsRaised, IsShown, class_by, class_of, class_raised, own_class};
@@ -14,8 +14,8 @@ use canvas_rewrite::Plan;
 use canvas_task::{Fault, Kind, Outcome, TaskNo, Why};
 use std::alloc::{AllocError, Global};
 
-/// The class of the exception that the stub raises which answers a name, where NotRegistered takes
-/// its place in a run.
+/// Returns the class of the exception that the stub raises which answers a name, if NotRegistered
+/// replaces it in a run.
 fn class_raised<'a>(setting: Setting<'a>, name: &str) -> Option<&'a str>
     ensures { option_map (λ c. c.now) result
         ≡ class_raised setting.entry.stubs.now setting.entry.errors.now name.now }
@@ -27,7 +27,8 @@ fn class_raised<'a>(setting: Setting<'a>, name: &str) -> Option<&'a str>
     }
 }
 
-/// The same of a task of the plan that is run.
+/// Returns the class of the exception that a task's stub raises, for a task of the plan that is
+/// run.
 fn own_class<'a>(setting: Setting<'a>, plan: &Plan, task: TaskNo) -> Option<&'a str>
     ensures { option_map (λ c. c.now) result
         ≡ own_class setting.entry.stubs.now setting.entry.errors.now plan.now task }
@@ -38,7 +39,7 @@ fn own_class<'a>(setting: Setting<'a>, plan: &Plan, task: TaskNo) -> Option<&'a 
     }
 }
 
-/// The class at a place in a list of classes.
+/// Returns the class at a place in a list of classes.
 fn class_in<'a>(classes: &[Option<&'a str>], place: usize) -> Option<&'a str>
     ensures { option_map (λ c. c.now) result ≡ class_in classes.now place }
 {
@@ -48,15 +49,14 @@ fn class_in<'a>(classes: &[Option<&'a str>], place: usize) -> Option<&'a str>
     }
 }
 
-/// The class of a task, from 1.
+/// Returns the class of a task, from 1.
 fn class_at<'a>(classes: &[Option<&'a str>], task: TaskNo) -> Option<&'a str>
     ensures { option_map (λ c. c.now) result ≡ class_at classes.now task }
 {
     class_in(classes, task.get() as usize - 1)
 }
 
-/// The class of the exception that a task has of which this became, where those of the tasks before
-/// it are known.
+/// Returns the class of the exception of a task with this fate, given those of the tasks before it.
 fn class_by<'a>(
     setting: Setting<'a>,
     plan: &Plan,
@@ -75,7 +75,7 @@ fn class_by<'a>(
     }
 }
 
-/// The class of each task's exception, where a run by a plan had these fates.
+/// Returns the class of each task's exception, if a run of a plan had these fates.
 pub(crate) fn classes_of<'a>(
     alloc: Global,
     plan: &Plan,
@@ -121,7 +121,7 @@ fn blamed_row(
     }
 }
 
-/// The row of the task at a place, from 0, with this state.
+/// Returns the row of the task at a place, from 0, with this state.
 fn shown_row(
     alloc: Global,
     classes: &[Option<&str>],
@@ -146,7 +146,7 @@ fn shown_row(
     }
 }
 
-/// The rows of a report as the run has them.
+/// Returns the rows of a report as the run has them.
 pub(crate) fn known_rows(alloc: Global, report: &Report) -> Result<Vec<Row>, AllocError>
     ensures { IfOk result (λ rows. rows.items ≡ known_states report.now.rows) }
 {
@@ -157,7 +157,7 @@ pub(crate) fn known_rows(alloc: Global, report: &Report) -> Result<Vec<Row>, All
     Ok(rows)
 }
 
-/// The rows of a report with these classes.
+/// Returns the rows of a report with these classes.
 pub(crate) fn rows_of(
     alloc: Global,
     report: &Report,
@@ -174,7 +174,7 @@ pub(crate) fn rows_of(
     Ok(rows)
 }
 
-/// The rows of a report, where the run had these fates.
+/// Returns the rows of a report of a run that had these fates.
 pub(crate) fn named_rows(
     alloc: Global,
     plan: &Plan,

@@ -1,5 +1,4 @@
-//! The names that `--task` says: a task of the canvas has each, unless it is `*` or a built-in
-//! task's.
+//! The names in `--task`: a task of the canvas has each, unless it is `*` or a built-in task's.
 ghost use Rattle.std.specs.Prelude.{◌≡◌, IfErr, IfOk, None, Some, option_map};
 ghost use Rattle.canvas_semantics.specs.Line.{names};
 ghost use Rattle.canvas_answer.specs.Names.{IsUnknownName, first_unknown, has_name, is_called, is_common};
@@ -11,14 +10,14 @@ use canvas_task::Builtin;
 use std::alloc::{AllocError, Global};
 use strsim::levenshtein;
 
-/// Whether it is `*` or the name of a built-in task, which may be said of any canvas.
+/// Returns whether it is `*` or the name of a built-in task, which any canvas may have.
 fn is_common(name: &str) -> bool
     ensures { result ≡ is_common name.now }
 {
     name == "*" || Builtin::named(name).is_some()
 }
 
-/// Whether what a task is called is this name.
+/// Returns whether a task's name is this.
 fn is_called(task: Option<&str>, name: &str) -> bool
     ensures { result ≡ is_called (option_map (λ task. task.now) task.entry) name.now }
 {
@@ -28,7 +27,7 @@ fn is_called(task: Option<&str>, name: &str) -> bool
     }
 }
 
-/// Whether a task of the plan has the name.
+/// Returns whether a task of the plan has the name.
 fn has_name(plan: &Plan, name: &str) -> bool
     ensures { result ≡ has_name name.now (names plan.now) }
 {
@@ -40,7 +39,7 @@ fn has_name(plan: &Plan, name: &str) -> bool
     false
 }
 
-/// The first of some stubs whose name no task of the plan has.
+/// Returns the first of some stubs whose name no task of the plan has.
 fn unknown_stub<'a>(plan: &Plan, stubs: &'a [Stub]) -> Option<&'a Stub>
     ensures { option_map (λ stub. stub.now.name) result
         ≡ first_unknown (names plan.now) stubs.now }
@@ -54,8 +53,8 @@ fn unknown_stub<'a>(plan: &Plan, stubs: &'a [Stub]) -> Option<&'a Stub>
     None
 }
 
-/// How far a name is from that of a task: how many letters are changed, or one where it lacks what
-/// stands before a dot.
+/// Returns how far a name is from that of a task: how many letters are changed, or one if it lacks
+/// only the part before a dot.
 fn distance(alloc: Global, name: &str, task: &str) -> Result<usize, AllocError> {
     match task.strip_suffix(name) {
         Some(module) if module.ends_with('.') => Ok(1),
@@ -63,7 +62,7 @@ fn distance(alloc: Global, name: &str, task: &str) -> Result<usize, AllocError> 
     }
 }
 
-/// The name of a task that is nearest to one, and no more than a third of its letters away.
+/// Returns the name of a task that is nearest to one, and no more than a third of its letters away.
 fn nearest<'p>(alloc: Global, plan: &'p Plan, name: &str) -> Result<Option<&'p str>, AllocError> {
     let mut found = None;
     let mut least = (name.len() / 3).saturating_add(1);
@@ -79,7 +78,7 @@ fn nearest<'p>(alloc: Global, plan: &'p Plan, name: &str) -> Result<Option<&'p s
     Ok(found)
 }
 
-/// The refusal of a name that no task of the plan has, with the name that may be meant.
+/// Returns the refusal of a name that no task of the plan has, with the name that may be meant.
 fn refused_name(alloc: Global, plan: &Plan, name: &str) -> Result<Refusal, AllocError>
     ensures { IfOk result (IsUnknownName (Some name.now)) }
 {

@@ -14,7 +14,7 @@ use canvas_values::Node;
 use canvas_writing::numbered_text;
 use std::alloc::{AllocError, Global};
 
-/// The normal line of a canvas, as a signature.
+/// Returns the normal line of a canvas, as a signature.
 fn line_node(alloc: Global, canvas: &Canvas) -> Result<Node, Memory>
     ensures { IfOk result (λ node. IsNormalNode canvas.now (view node)) }
 {
@@ -22,7 +22,7 @@ fn line_node(alloc: Global, canvas: &Canvas) -> Result<Node, Memory>
     node_of(alloc, &line)
 }
 
-/// The normal line of a canvas as JSON.
+/// Returns the normal line of a canvas as JSON.
 fn line_json(alloc: Global, canvas: &Canvas) -> Result<String, Memory>
     ensures { IfOk result (λ text. IsNormalText canvas.now (string_bytes text ++ codes "\n")) }
 {
@@ -38,7 +38,7 @@ fn line_text(alloc: Global, canvas: &Canvas) -> Result<String, Memory>
     Ok(text)
 }
 
-/// The line of a plan as JSON, which names its tasks, groups and chords, with a line feed.
+/// Returns the line of a plan as JSON, which names its tasks, groups and chords, with a line feed.
 pub fn numbered_line(alloc: Global, plan: &Plan) -> Result<String, AllocError>
     ensures { IfOk result (λ text. string_bytes text ≡ numbered_line plan.now) }
 {
@@ -47,7 +47,8 @@ pub fn numbered_line(alloc: Global, plan: &Plan) -> Result<String, AllocError>
     Ok(text)
 }
 
-/// The line of a plan as JSON, which names its tasks, groups and chords, with a line feed.
+/// Answers with the line of a plan as JSON, which names its tasks, groups and chords, with a line
+/// feed.
 pub fn answer_numbered(alloc: Global, plan: &Plan) -> Result<Answer, Refusal>
     ensures { IfOk result (AnswersAll (numbered_line plan.now) 0) }
 {
@@ -55,7 +56,7 @@ pub fn answer_numbered(alloc: Global, plan: &Plan) -> Result<Answer, Refusal>
     Ok(Answer::raw(line.into_bytes()))
 }
 
-/// The normal line of a canvas as JSON, with a line feed.
+/// Answers with the normal line of a canvas as JSON, with a line feed.
 pub fn answer_normal(alloc: Global, canvas: &Canvas) -> Result<Answer, Refusal>
     ensures { IfOk result (λ a. (line : Text) × IsNormalText canvas.now line
         × AnswersAll line 0 a) }

@@ -1,4 +1,8 @@
-//! `--task '#3=WORD'`: what the third task answers. It has the name `#3` while its canvas runs.
+//! `--task '#3=WORD'`: the answer of the third task. It has the name `#3` while its canvas runs.
+//!
+//! A worker calls a task by its name and arguments, so only a name distinguishes tasks. The canvas
+//! of the run is made of the one that was read, and the output shows the names of the latter. A
+//! task that is named `#3` has that stub, too.
 ghost use Rattle.std.specs.Prelude.{◌≡◌, ◌∷◌, ◌++◌, [], IfOk, List, Ok, OnOk, map, option_to_list, string_bytes};
 ghost use Rattle.std.specs.List.{filter_map};
 ghost use Rattle.canvas_adapt.specs.RenameTexts.{IsRenameText};
@@ -23,7 +27,7 @@ use std::fmt;
 pub enum NumberFault {
     /// It isn't `#NUMBER=WORD`.
     NoWord,
-    /// The number is there twice.
+    /// The number is a duplicate.
     Twice,
     /// The command takes none.
     NotTaken,
@@ -40,14 +44,14 @@ impl fmt::Display for NumberFault {
     }
 }
 
-/// Whether a word is one of a task's number.
+/// Returns whether a word is one for a task's number.
 pub(crate) fn has_number(text: &str) -> bool
     ensures { result ≡ is_numbered text.now }
 {
     matches!(text.as_bytes(), [b'#', ..])
 }
 
-/// Adds a word of a task's number.
+/// Appends a word for a task's number.
 fn push_numbered<'t>(found: &mut Vec<&'t str>, text: &'t str) -> Result<(), AllocError>
     ensures { OnOk result (map (λ t. t.now) found.new.items
         ≡ map (λ t. t.now) found.old.items ++ option_to_list (numbered text.entry.now)) }
@@ -58,7 +62,7 @@ fn push_numbered<'t>(found: &mut Vec<&'t str>, text: &'t str) -> Result<(), Allo
     Ok(())
 }
 
-/// The words of tasks' numbers.
+/// Returns the words for tasks' numbers.
 pub(crate) fn with_numbers<'t>(alloc: Global, texts: &[&'t str]) -> Result<Vec<&'t str>, AllocError>
     ensures { IfOk result (λ found. map (λ t. t.now) found.items
         ≡ filter_map numbered (map (λ t. t.now) texts.now)) }
@@ -70,7 +74,7 @@ pub(crate) fn with_numbers<'t>(alloc: Global, texts: &[&'t str]) -> Result<Vec<&
     Ok(found)
 }
 
-/// Adds a word of a task's name.
+/// Appends a word for a task's name.
 fn push_named<'t>(found: &mut Vec<&'t str>, text: &'t str) -> Result<(), AllocError>
     ensures { OnOk result (map (λ t. t.now) found.new.items
         ≡ map (λ t. t.now) found.old.items ++ option_to_list (named text.entry.now)) }
@@ -81,7 +85,7 @@ fn push_named<'t>(found: &mut Vec<&'t str>, text: &'t str) -> Result<(), AllocEr
     Ok(())
 }
 
-/// The words of tasks' names.
+/// Returns the words for tasks' names.
 pub(crate) fn with_names<'t>(alloc: Global, texts: &[&'t str]) -> Result<Vec<&'t str>, AllocError>
     ensures { IfOk result (λ found. map (λ t. t.now) found.items
         ≡ filter_map named (map (λ t. t.now) texts.now)) }
@@ -93,7 +97,7 @@ pub(crate) fn with_names<'t>(alloc: Global, texts: &[&'t str]) -> Result<Vec<&'t
     Ok(found)
 }
 
-/// The number, `=` and the number once more.
+/// Returns the number, `=` and the number once more.
 fn named_by_itself(alloc: Global, number: &str) -> Result<String, AllocError>
     ensures { IfOk result (λ t. string_bytes t ≡ number.now ++ 61 ∷ number.now) }
 {
@@ -103,7 +107,7 @@ fn named_by_itself(alloc: Global, number: &str) -> Result<String, AllocError>
     Ok(text)
 }
 
-/// The name of the task of a number, which is the number.
+/// Returns the name of the task of a number, which is the number.
 fn rename_of(alloc: Global, text: &str, number: &str) -> Result<Rename, Refusal>
     ensures { IfOk result (λ r. (string_bytes r.name ≡ number.now)
         × IsRenameText (number.now ++ 61 ∷ number.now) r) }
@@ -155,7 +159,7 @@ fn add_number(alloc: Global, answers: &mut Answers, text: &str, stands: &str) ->
     Ok(())
 }
 
-/// Adds what the tasks of numbers answer.
+/// Appends the answers of the tasks of numbers.
 pub(crate) fn add_numbers(
     alloc: Global,
     answers: &mut Answers,
@@ -175,7 +179,7 @@ pub(crate) fn add_numbers(
     Ok(())
 }
 
-/// Puts before all others that the task of a number raises an exception of a class, as a word of
+/// Puts before all others that the task of a number raises an exception of a class, as a word for
 /// the task says.
 pub(crate) fn put_first(
     alloc: Global,
@@ -210,7 +214,7 @@ fn take_one<T: Drop>(items: &mut Vec<T>)
     }
 }
 
-/// Takes away what was put before all others.
+/// Removes what was put before all others.
 pub(crate) fn take_first(answers: &mut Answers)
     ensures { (before : Answers) → (s : Stub) → (r : Rename) → (x : OtherError)
         → IsPutFirst s r x before answers.old → AreAlike before answers.new }
@@ -220,7 +224,7 @@ pub(crate) fn take_first(answers: &mut Answers)
     take_one(&mut answers.errors);
 }
 
-/// The first word of a task's number is refused where a command takes none.
+/// Refuses the first word for a task's number if a command takes none.
 pub(crate) fn refuse_numbers(alloc: Global, texts: &[&str]) -> Result<(), Refusal> {
     for text in texts {
         if has_number(text) {

@@ -1,4 +1,4 @@
-//! What goes to standard output: texts, or what they are made of as they are printed.
+//! Standard output: texts, or what they are made of as they are printed.
 ghost use Rattle.std.specs.Prelude.{◌≡◌, ◌∷◌, [], IfOk, OnOk, string_bytes, true};
 ghost use Rattle.std.specs.Str.{IsUtf8};
 ghost use Rattle.std.specs.Io.KnownBytes.{Appends};
@@ -15,17 +15,17 @@ use canvas_task::Memory;
 use std::alloc::Global;
 use std::io::{self, Write};
 
-/// What goes to standard output. Of a run's messages and of a start no text is made before it is
-/// printed, since a thousand of them may carry the same long body.
+/// The content of standard output. The texts of a run's messages and of a start aren't made before
+/// they are printed, since a thousand messages may carry the same long body.
 #[derive(Drop)]
 pub(crate) enum Output {
     /// Lines for a reader.
     Lines(Vec<u8>),
-    /// What a program reads, which is given each byte as it is.
+    /// Bytes for a program, each printed as it is.
     Bytes(Vec<u8>),
     /// Messages, a line each, for a reader.
     Letters(Vec<Letter>),
-    /// A start on Celery's own workers, which is given as it is.
+    /// A start on Celery's own workers, printed as it is.
     Start(Start),
 }
 
@@ -48,7 +48,7 @@ fn write_letter<W: Write>(alloc: Global, letter: &Letter, out: &mut W) -> io::Re
     }
 }
 
-/// Writes the lines of messages, of which only one is held.
+/// Writes the lines of messages, only one of which is held at a time.
 fn write_letters<W: Write>(alloc: Global, letters: &[Letter], out: &mut W) -> io::Result<()>
     ensures { OnOk result (Appends (W.contents out.old) (W.contents out.new)
         (printed (message_lines letters.now))) }
@@ -72,8 +72,8 @@ impl Output {
         }
     }
 
-    /// Why not all of it was printed: it can't be written, or there was no memory for a text that
-    /// is made as it is printed.
+    /// Returns why not all of it was printed: it can't be written, or there was no memory for a
+    /// text that is made as it is printed.
     pub(crate) fn refusal(&self, error: &io::Error) -> Refusal
         ensures { is_cut self.now (refusal_status result) ≡ true }
     {

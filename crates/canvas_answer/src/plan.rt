@@ -12,7 +12,7 @@ use canvas_task::Memory;
 use std::alloc::Global;
 use std::mem::ManuallyDrop;
 
-/// The canvas that a text spells.
+/// Returns the canvas that a text spells.
 pub fn canvas_of(alloc: Global, text: &[u8]) -> Result<Canvas, Refusal>
     ensures ok { IfOk result (λ canvas. text_reading text.now ≡ Ok canvas) }
     ensures err { IfErr result (IsReadRefusal text.now) }
@@ -24,7 +24,7 @@ pub fn canvas_of(alloc: Global, text: &[u8]) -> Result<Canvas, Refusal>
     }
 }
 
-/// The plan of the canvas that a text spells.
+/// Returns the plan of the canvas that a text spells.
 pub fn plan_of(alloc: Global, text: &[u8]) -> Result<Plan, Refusal>
     ensures ok { IfOk result (λ plan. IsTextPlan text.now plan) }
     ensures err { IfErr result (IsReadRefusal text.now) }
@@ -36,7 +36,7 @@ pub fn plan_of(alloc: Global, text: &[u8]) -> Result<Plan, Refusal>
     }
 }
 
-/// The same, with the signatures of the text.
+/// Returns the plan of the canvas that a text spells, with the signatures of the text.
 pub(crate) fn signed_plan(alloc: Global, text: &[u8]) -> Result<(Plan, Vec<Signature>), Refusal>
     ensures { IfOk result (λ r. IsTextPlan text.now r.0) }
 {
@@ -46,8 +46,8 @@ pub(crate) fn signed_plan(alloc: Global, text: &[u8]) -> Result<(Plan, Vec<Signa
     }
 }
 
-/// What a command holds until its process ends, which takes it along: to drop a plan is a twentieth
-/// of a group's run.
+/// Keeps a value that a command holds until its process ends, without dropping it: dropping a plan
+/// takes a twentieth of a group's run.
 pub fn lasting<T: Drop>(value: T) -> ManuallyDrop<T>
     ensures { manually_drop_value result ≡ value }
 {

@@ -1,4 +1,4 @@
-//! A canvas that is made ready: read once, adapted where that is asked for, and planned.
+//! A prepared canvas: read once, adapted if that is asked for, and planned.
 ghost use Rattle.std.specs.Prelude.{◌≡◌, ◌≢◌, [], IfErr, IfOk, IfSome, None, true};
 ghost use Rattle.canvas_adapt.specs.Renamed.{renamed};
 ghost use Rattle.canvas_task.specs.Text.{Text};
@@ -25,7 +25,7 @@ pub struct Prepared {
     pub changes: Changes,
 }
 
-/// The refusal of a canvas for a fault.
+/// Returns the refusal of a canvas for a fault.
 fn refused(fault: SigFault) -> Refusal
     ensures { (e : SigFault) → result ≡ refusal.Canvas e
         → (e ≡ fault) × (fault ≢ sig_fault.Memory) }
@@ -36,7 +36,7 @@ fn refused(fault: SigFault) -> Refusal
     }
 }
 
-/// The canvas of a text, adapted.
+/// Returns the canvas of a text, adapted.
 fn adapted(alloc: Global, text: &[u8]) -> Result<Prepared, Refusal>
     ensures ok { IfOk result (λ p. IsCanvasOf true text.now p.canvas) }
     ensures err { IfErr result (IsPlanRefusal [] text.now) }
@@ -48,7 +48,7 @@ fn adapted(alloc: Global, text: &[u8]) -> Result<Prepared, Refusal>
 }
 
 impl Prepared {
-    /// The canvas of a text, adapted where that is asked for. The text is read once.
+    /// Returns the canvas of a text, adapted if that is asked for. The text is read once.
     pub fn of(alloc: Global, text: &[u8], adapts: bool) -> Result<Prepared, Refusal>
         ensures ok { IfOk result (λ p. IsCanvasOf adapts text.now p.canvas) }
         ensures err { IfErr result (IsPlanRefusal [] text.now) }
@@ -65,7 +65,7 @@ impl Prepared {
 }
 
 impl Prepared {
-    /// The plan of the canvas.
+    /// Returns the plan of the canvas.
     pub fn into_plan(self, alloc: Global) -> Result<Plan, Refusal>
         ensures { IfOk result (IsPlanOf self.canvas) }
     {
@@ -74,14 +74,14 @@ impl Prepared {
     }
 }
 
-/// The text that spells a canvas which can be run, for what points into it.
+/// The text that spells a canvas which can be run, for values that borrow from it.
 #[derive(Drop)]
 pub struct Spelled {
     adapted: Option<AdaptedText>,
 }
 
 impl Spelled {
-    /// The text as it is, or adapted where that is asked for.
+    /// Returns the text as it is, or adapted if that is asked for.
     pub fn of(alloc: Global, text: &[u8], adapts: bool) -> Result<Spelled, Refusal>
         ensures { IfOk result (λ s. IsSpelled adapts text.now (spelled_text s text.now)) }
     {
@@ -93,7 +93,7 @@ impl Spelled {
         Ok(Spelled { adapted })
     }
 
-    /// The text, which is that of `of` where nothing was adapted.
+    /// Returns the text, which is that of `of` if nothing was adapted.
     pub fn text<'a>(&'a self, text: &'a [u8]) -> &'a [u8]
         ensures { result.now ≡ spelled_text self.now text.now }
     {
@@ -103,7 +103,7 @@ impl Spelled {
         }
     }
 
-    /// How many arguments are texts since it was adapted.
+    /// Returns how many arguments were made texts when it was adapted.
     pub fn texts(&self) -> usize {
         match &self.adapted {
             Some(adapted) => adapted.changes.arguments,
@@ -116,11 +116,11 @@ impl Spelled {
 #[derive(Drop)]
 pub struct Plans {
     pub shown: Plan,
-    /// Where some of its tasks have other names for the run.
+    /// The plan of the run, if some of its tasks have other names there.
     named: Option<Plan>,
 }
 
-/// The first of these numbers that a canvas of so many tasks doesn't have is refused.
+/// Refuses the first of these numbers that a canvas with this number of tasks doesn't have.
 fn check_numbers(renames: &[Rename], tasks: u32) -> Result<(), Refusal>
     ensures { IfErr result (λ e. (task : TaskNo) × (e ≡ NoTaskToAnswer task)) }
 {
@@ -142,7 +142,7 @@ fn plan_of(alloc: Global, canvas: Canvas) -> Result<Plan, Refusal>
     }
 }
 
-/// The plan of a canvas some of whose tasks have other names, where there are any.
+/// Returns the plan of a canvas some of whose tasks have other names, if there are any.
 fn named_plan(alloc: Global, canvas: &Canvas, renames: &[Rename]) -> Result<Option<Plan>, Refusal>
     ensures some { IfOk result (λ plan. IfSome plan (IsPlanOf (renamed renames.now canvas.now))) }
     ensures none { IfOk result (λ plan. plan ≡ None → renamed renames.now canvas.now ≡ canvas.now) }
@@ -159,7 +159,7 @@ fn named_plan(alloc: Global, canvas: &Canvas, renames: &[Rename]) -> Result<Opti
 }
 
 impl Plans {
-    /// The plans of a canvas, one where no task has another name for the run.
+    /// Returns the plans of a canvas, which are one if no task has another name for the run.
     pub fn of(alloc: Global, canvas: Canvas, renames: &[Rename]) -> Result<Plans, Refusal>
         ensures shown { IfOk result (λ plans. IsPlanOf canvas plans.shown) }
         ensures run { IfOk result
@@ -172,7 +172,7 @@ impl Plans {
         Ok(Plans { shown, named })
     }
 
-    /// The same plans where other tasks of the canvas have other names for the run.
+    /// Returns the plans if other tasks of the canvas have other names for the run.
     pub(crate) fn renamed(
         self,
         alloc: Global,
@@ -188,7 +188,7 @@ impl Plans {
         Ok(Plans { shown, named })
     }
 
-    /// The plan that is run.
+    /// Returns the plan that is run.
     pub fn run(&self) -> &Plan
         ensures { result.now ≡ run_line self.now }
     {

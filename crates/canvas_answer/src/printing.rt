@@ -1,4 +1,4 @@
-//! Texts on their way to a reader: what isn't printable ASCII is escaped as JSON does it.
+//! Prints texts for a reader: what isn't printable ASCII is escaped as in JSON.
 ghost use Rattle.std.specs.Prelude.{◌≡◌, ◌<◌, ◌≤◌, ◌++◌, OnOk, IsTrue, MatchBool, nat_lt};
 ghost use Rattle.std.specs.List.{list_all};
 ghost use Rattle.std.specs.Char.{digit_char};
@@ -11,10 +11,10 @@ use std::io::{self, ErrorKind, Write};
 /// How many bytes are written at a time.
 const ROOM: usize = 4096;
 
-/// The most bytes that a character is printed as.
+/// The most bytes that a printed character has.
 const MOST_PRINTED: usize = 12;
 
-/// A hexadecimal digit.
+/// Returns a hexadecimal digit.
 fn digit(value: u32) -> u8
     requires { value < 16 }
     ensures { result ≡ digit_char value }
@@ -26,7 +26,7 @@ fn digit(value: u32) -> u8
     }
 }
 
-/// `\u` and four hexadecimal digits.
+/// Returns `\u` and four hexadecimal digits.
 fn unit_bytes(unit: u32) -> [u8; 6]
     requires { unit < 65536 }
     ensures { result ≡ unit_text unit }
@@ -41,7 +41,7 @@ fn unit_bytes(unit: u32) -> [u8; 6]
     ]
 }
 
-/// Two of these.
+/// Returns two such units.
 fn pair_bytes(high: u32, low: u32) -> [u8; 12]
     requires high { high < 65536 }
     requires low { low < 65536 }
@@ -63,7 +63,7 @@ fn pair_bytes(high: u32, low: u32) -> [u8; 12]
     ]
 }
 
-/// Whether a character is printable ASCII or ends a line.
+/// Returns whether a character is printable ASCII or ends a line.
 fn is_line_code(code: u32) -> bool
     ensures value { result ≡ is_line_byte code }
     ensures small { IsTrue result → code < 128 }
@@ -78,7 +78,7 @@ fn is_one_unit(code: u32) -> bool
     code < 0x1_0000
 }
 
-/// A character that is escaped, after others.
+/// Appends a character that is escaped.
 fn put_escaped(kept: &mut ArrayVec<u8, ROOM>, code: u32) -> Result<(), CapacityError>
     requires { code < 0x11_0000 }
     ensures { OnOk result (kept.new.items ≡ kept.old.items ++ escaped code) }
@@ -90,7 +90,7 @@ fn put_escaped(kept: &mut ArrayVec<u8, ROOM>, code: u32) -> Result<(), CapacityE
     }
 }
 
-/// A character as it is printed, after others.
+/// Appends a character as it is printed.
 fn put_char(kept: &mut ArrayVec<u8, ROOM>, c: char) -> Result<(), CapacityError>
     ensures { OnOk result (kept.new.items ≡ kept.old.items ++ printed_char c) }
 {
@@ -125,11 +125,11 @@ fn is_line_byte(byte: u8) -> bool
     byte == b'\n' || byte >= b' ' && byte <= b'~'
 }
 
-/// Whether each byte is printable ASCII or ends a line.
+/// Returns whether each byte is printable ASCII or ends a line.
 fn are_lines(bytes: &[u8]) -> bool
     ensures { result ≡ list_all is_line_byte bytes.now }
 {
-    // Without an early end it is compiled to a few instructions for sixteen bytes.
+    // Without an early end this is compiled to a few instructions for sixteen bytes.
     let mut are = true;
     for byte in bytes {
         are &= is_line_byte(*byte);
@@ -137,7 +137,7 @@ fn are_lines(bytes: &[u8]) -> bool
     are
 }
 
-/// Writes lines so that nothing but printable ASCII and line feeds reaches the reader.
+/// Writes lines so that only printable ASCII and line feeds reach the reader.
 pub fn write_lines<W: Write>(out: &mut W, bytes: &[u8]) -> io::Result<()>
     ensures { OnOk result (Appends (W.contents out.old) (W.contents out.new) (printed bytes.now)) }
 {

@@ -10,7 +10,7 @@ ghost use Rattle.canvas_answer.specs.Answers.{AnswersAll, AnswersPart, bytes_of}
 ghost use Rattle.canvas_answer.specs.Asking.{asking};
 ghost use Rattle.canvas_answer.specs.Plans.{run_line};
 ghost use Rattle.canvas_answer.specs.Told.{IsEarlyText, IsReport, IsReportText, IsTold, report_status};
-ghost use Rattle.canvas_answer.specs.declared.reporting.Form.TheVariants.{Explained, Plain};
+ghost use Rattle.canvas_answer.specs.declared.reporting.Format.TheVariants.{Explained, Plain};
 
 use crate::answer::Answer;
 use crate::celery::text_of_rows;
@@ -25,28 +25,27 @@ use std::alloc::Global;
 
 /// How a report is printed.
 #[derive(Clone, Copy, PartialEq, Eq)]
-pub enum Form {
+pub enum Format {
     Plain,
     /// Each task is a JSON object in a line.
     Json,
-    /// Tasks go by their numbers, and what wasn't called has its reason.
+    /// Tasks have their numbers, and a task that wasn't called has its reason.
     Explained,
 }
 
-/// How a report is printed, and what its result does.
+/// How a report is printed, and whether its result has a status.
 #[derive(Clone, Copy)]
-pub struct Manner {
-    pub form: Form,
+pub struct OutputOptions {
+    pub form: Format,
     /// Whether a failure of the canvas, or a warning, has a status of its own.
     pub fails: bool,
 }
 
-/// The status of a canvas whose result is a failure, or of which something is warned, where that is
-/// asked for.
+/// The status of a canvas whose result is a failure, or that has a warning, if that is asked for.
 pub const FAILED: u8 = 3;
 
-impl Manner {
-    /// The report of a whole run.
+impl OutputOptions {
+    /// Returns the report of a whole run.
     fn whole_text<T: Tasks>(
         &self,
         alloc: Global,
@@ -62,13 +61,13 @@ impl Manner {
             (string_bytes text)) }
     {
         match self.form {
-            Form::Plain => plain_text(alloc, plans, report, source),
-            Form::Json => source.json_of(alloc, plans, report, again),
-            Form::Explained => explained(alloc, plans, report, source),
+            Format::Plain => plain_text(alloc, plans, report, source),
+            Format::Json => source.json_of(alloc, plans, report, again),
+            Format::Explained => explained(alloc, plans, report, source),
         }
     }
 
-    /// The report of a whole run, and the status that its result has.
+    /// Returns the report of a whole run, with the status of its result.
     pub fn whole<T: Tasks>(
         &self,
         alloc: Global,
@@ -86,7 +85,7 @@ impl Manner {
         Ok(self.answer(text.into_bytes(), &plans.shown, report))
     }
 
-    /// Lines that are told of a whole run, and the status that its result has.
+    /// Returns the lines of a whole run, with the status of its result.
     pub fn answer(&self, lines: Vec<u8>, plan: &Plan, report: &Report) -> Answer
         ensures { AnswersAll lines.items (report_status self.now.fails
             (any_failed (with_states (rows_from 1 report.now.rows) (ends_of plan.now)))) result }
@@ -99,8 +98,8 @@ impl Manner {
         Answer::whole(lines).with_status(status)
     }
 
-    /// Why a run has no whole report, and what it stored, where that is known and there is memory
-    /// for it.
+    /// Returns why a run has no whole report, with what it stored, if that is known and there is
+    /// memory for it.
     pub fn early<T>(
         &self,
         alloc: Global,
@@ -135,7 +134,8 @@ impl Manner {
         }
     }
 
-    /// What a run that ended early stored.
+    /// Returns the report of a run that ended early. It doesn't say which tasks were called, since
+    /// its rows don't show whether a pending task will run.
     fn stored_report<T>(
         &self,
         alloc: Global,

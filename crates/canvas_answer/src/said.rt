@@ -1,5 +1,5 @@
-//! How a refusal is said to people: lines, of which those that are no parser's and no file's are
-//! made of a name and a note.
+//! The text of a refusal for people: the lines of the parser or of a file, or a line with a name
+//! and a note.
 
 use crate::celery::CeleryRefusal;
 use crate::finding::Place;
@@ -37,15 +37,15 @@ impl fmt::Display for Name<'_> {
     }
 }
 
-/// A text that isn't the program's own: in a line for people what isn't printable ASCII is escaped
-/// as in JSON's strings, so that it ends no line and sets no terminal.
+/// A text that isn't the program's own. In a line for people, what isn't printable ASCII is escaped
+/// as in JSON's strings, so that it ends no line and controls no terminal.
 #[derive(Clone, Copy)]
 struct Foreign<'a> {
     text: &'a str,
     in_line: bool,
 }
 
-/// `\u` and four hexadecimal digits; past U+FFFF two of these.
+/// Writes `\u` and four hexadecimal digits; past U+FFFF two of these.
 fn write_units<W: fmt::Write>(f: &mut fmt::Formatter<W>, c: char) -> fmt::Result {
     let code = c as u32;
     if code < 0x1_0000 {
@@ -72,7 +72,7 @@ impl fmt::Display for Foreign<'_> {
     }
 }
 
-/// What is said of a refusal besides its name: what is refused, and why.
+/// The note of a refusal besides its name: what is refused, and why.
 #[derive(Clone, Copy)]
 pub(crate) struct Note<'a> {
     refusal: &'a Refusal,
@@ -81,7 +81,7 @@ pub(crate) struct Note<'a> {
 }
 
 impl<'a> Note<'a> {
-    /// That in a line for people.
+    /// Returns the note in a line for people.
     fn in_line(refusal: &'a Refusal) -> Note<'a> {
         Note {
             refusal,
@@ -89,7 +89,7 @@ impl<'a> Note<'a> {
         }
     }
 
-    /// That for programs, each text as it is.
+    /// Returns the note for programs, with each text as it is.
     pub(crate) fn plain(refusal: &'a Refusal) -> Note<'a> {
         Note {
             refusal,
@@ -104,7 +104,7 @@ impl<'a> Note<'a> {
         }
     }
 
-    /// That of a word, or of a part of one, and why it is refused.
+    /// Writes the note on a word, or on a part of one, and why it is refused.
     fn write_word<W: fmt::Write, D: fmt::Display>(
         &self,
         f: &mut fmt::Formatter<W>,
@@ -115,7 +115,7 @@ impl<'a> Note<'a> {
         write!(f, "{text}: {why}")
     }
 
-    /// That of a line of a file.
+    /// Writes the note on a line of a file.
     fn write_line<W: fmt::Write, D: fmt::Display>(
         &self,
         f: &mut fmt::Formatter<W>,
@@ -127,7 +127,7 @@ impl<'a> Note<'a> {
         write!(f, "in line {line} of {file}: {why}")
     }
 
-    /// That of a name that no task has.
+    /// Writes the note on a name that no task has.
     fn write_name<W: fmt::Write>(
         &self,
         f: &mut fmt::Formatter<W>,
@@ -145,7 +145,7 @@ impl<'a> Note<'a> {
     }
 }
 
-/// That of a number that no task has.
+/// Writes the note on a number that no task has.
 fn write_number<W: fmt::Write>(f: &mut fmt::Formatter<W>, task: TaskNo) -> fmt::Result {
     let number = task.get();
     write!(f, "#{number}: no task has this number")
@@ -169,7 +169,7 @@ impl fmt::Display for Note<'_> {
     }
 }
 
-/// Whether a line for people says more than the name.
+/// Returns whether a line for people has more than the name.
 fn has_note(refusal: &Refusal) -> bool {
     match refusal {
         Refusal::BadWorkers | Refusal::BadTurn | Refusal::BadAgain => false,
@@ -178,7 +178,7 @@ fn has_note(refusal: &Refusal) -> bool {
     }
 }
 
-/// The line of a refusal by its name and its note.
+/// Writes the line of a refusal with its name and its note.
 fn write_named<W: fmt::Write>(f: &mut fmt::Formatter<W>, refusal: &Refusal) -> fmt::Result {
     let name = Name(refusal);
     write!(f, "canvas: refused {name}")?;

@@ -4,17 +4,17 @@ use crate::errors::OtherError;
 use canvas_adapt::Rename;
 use canvas_stubs::Stub;
 
-/// How canvases are made ready and shown.
+/// How canvases are prepared and shown.
 #[derive(Clone, Copy)]
 pub struct Setting<'a> {
     /// Whether they are adapted first.
     pub adapts: bool,
-    /// The stubs that stand before the tasks.
+    /// The stubs that come before the tasks.
     pub stubs: &'a [Stub],
-    /// Those of names that the words say.
+    /// The stubs of the names in the words.
     pub said: &'a [Stub],
-    /// What stubs raise in place of NotRegistered.
+    /// The exceptions of stubs that NotRegistered replaces.
     pub errors: &'a [OtherError],
-    /// The names that some tasks have while a canvas runs: those whose stub has their number.
+    /// The names that some tasks have while a canvas runs: those with a numbered stub.
     pub renames: &'a [Rename],
 }

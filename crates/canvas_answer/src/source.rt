@@ -1,4 +1,4 @@
-//! What a run is of: a canvas's text, and what answers its calls.
+//! The input of a run: a canvas's text, and the tasks that answer its calls.
 ghost use Rattle.std.specs.Prelude.{◌≡◌, [], IfErr, IfOk, List, ℕ, map, string_bytes};
 ghost use Rattle.canvas_report.specs.declared.row.Row.{Row};
 ghost use Rattle.canvas_semantics.specs.Line.{names, tree_of};
@@ -9,7 +9,7 @@ ghost use Rattle.canvas_answer.specs.Names.{IsUnknownName, first_unknown};
 ghost use Rattle.canvas_answer.specs.Plans.{ArePlansOf, IsPlanRefusal, run_line};
 ghost use Rattle.canvas_answer.specs.Raised.{AreShown, class_of, own_class};
 ghost use Rattle.canvas_answer.specs.Told.{AreRows, IsJsonOf, IsTold, known_states};
-ghost use Rattle.canvas_answer.specs.declared.reporting.Form.TheVariants.{Json};
+ghost use Rattle.canvas_answer.specs.declared.reporting.Format.TheVariants.{Json};
 
 use crate::blamed::{blamed_in_run, builtin_of};
 use crate::named_rows::named_rows;
@@ -27,8 +27,8 @@ use canvas_values::TaskSig;
 use canvas_warning::{Blame, Expected, Forecast, Input, Wrong, blamed, forecasts, tasks_in};
 use std::alloc::{AllocError, Global};
 
-/// A canvas's text, how it is made ready, and the tasks that its calls are answered by, which have
-/// the stubs before them.
+/// A canvas's text, how it is prepared, and the tasks that answer its calls, with the stubs before
+/// them.
 #[derive(Drop)]
 pub struct Source<'a, T> {
     pub text: &'a [u8],
@@ -53,16 +53,16 @@ fn at_fault(alloc: Global, blame: Option<Blame<'_>>) -> Result<Option<AtFault>, 
     }
 }
 
-/// What is foreseen of a signature.
+/// A forecast of a signature, with its parameter at fault.
 #[derive(Drop)]
 pub(crate) struct Foreseen {
     pub forecast: Forecast,
-    /// The parameter that makes its call a TypeError, where that is known.
+    /// The parameter that makes its call a TypeError, if that is known.
     pub blame: Option<AtFault>,
 }
 
-/// The parameter that makes a call a TypeError with this before its own arguments, if a built-in
-/// task answers it.
+/// Returns the parameter that makes a call a TypeError with this before its own arguments, if a
+/// built-in task answers it.
 fn blamed_in(
     alloc: Global,
     stubs: &[Stub],
@@ -75,7 +75,8 @@ fn blamed_in(
     }
 }
 
-/// What is foreseen of a signature that has this forecast, and is this task if it is one.
+/// Returns the forecast of a signature, which is this task if it is one, with its parameter at
+/// fault.
 fn foreseen_of(
     alloc: Global,
     stubs: &[Stub],
@@ -89,7 +90,8 @@ fn foreseen_of(
     Ok(Foreseen { forecast, blame })
 }
 
-/// What is foreseen of signatures that have these forecasts, where these are the tasks among them.
+/// Returns the forecasts of signatures, with the parameters at fault; these are the tasks among
+/// them.
 fn foreseen_by(
     alloc: Global,
     stubs: &[Stub],
@@ -108,7 +110,7 @@ fn foreseen_by(
 }
 
 impl<'a, T> Source<'a, T> {
-    /// The plans of the canvas, whose text is read for them once.
+    /// Returns the plans of the canvas, whose text is read once for them.
     pub fn plans(&self, alloc: Global) -> Result<Plans, Refusal>
         ensures ok { IfOk result (λ plans. ArePlansOf (asking self.now.setting)
             self.now.text.now plans.shown (run_line plans)) }
@@ -119,7 +121,7 @@ impl<'a, T> Source<'a, T> {
         Plans::of(alloc, canvas, self.setting.renames)
     }
 
-    /// Refuses a name that the words say, where no task of the plan has it.
+    /// Refuses a name in the words that no task of the plan has.
     pub fn check_names(&self, alloc: Global, plan: &Plan) -> Result<(), Refusal>
         ensures { IfErr result
             (IsUnknownName (first_unknown (names plan.now) self.now.setting.said.now)) }
@@ -127,7 +129,7 @@ impl<'a, T> Source<'a, T> {
         check_names(alloc, plan, self.setting.said)
     }
 
-    /// The plans, where each name that the words say is that of a task.
+    /// Returns the plans, if each name in the words is that of a task.
     pub fn checked_plans(&self, alloc: Global) -> Result<Plans, Refusal>
         ensures ok { IfOk result (λ plans. ArePlansOf (asking self.now.setting)
             self.now.text.now plans.shown (run_line plans)) }
@@ -141,7 +143,7 @@ impl<'a, T> Source<'a, T> {
         }
     }
 
-    /// The rows of a run, with the exceptions that stubs raise.
+    /// Returns the rows of a run, with the exceptions that stubs raise.
     pub(crate) fn rows(
         &self,
         alloc: Global,
@@ -161,7 +163,7 @@ impl<'a, T> Source<'a, T> {
 }
 
 impl<'a, T> Source<'a, T> {
-    /// The rows of the report of a whole run.
+    /// Returns the rows of the report of a whole run.
     pub fn whole_rows(
         &self,
         alloc: Global,
@@ -179,7 +181,7 @@ impl<'a, T> Source<'a, T> {
 }
 
 impl<'a, T: Tasks> Source<'a, T> {
-    /// What is foreseen of each signature of a canvas, in file order.
+    /// Returns the forecast of each signature of a canvas, in file order.
     pub(crate) fn all_foreseen(
         &self,
         alloc: Global,
@@ -193,7 +195,7 @@ impl<'a, T: Tasks> Source<'a, T> {
         }
     }
 
-    /// The report of a whole run as JSON lines.
+    /// Returns the report of a whole run as JSON lines.
     pub(crate) fn json_of(
         &self,
         alloc: Global,
@@ -216,7 +218,7 @@ impl<'a, T: Tasks> Source<'a, T> {
         self.json_told(alloc, plans, report, told)
     }
 
-    /// The same where this is told of the run.
+    /// Returns the report of a whole run as JSON lines, with these fates, blames and count.
     fn json_told(
         &self,
         alloc: Global,

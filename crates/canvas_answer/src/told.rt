@@ -1,5 +1,8 @@
-//! How a refusal is told to programs: a JSON object in a line, of which a canvas's has the code and
+//! The form of a refusal for programs: a JSON object in a line; that of a canvas has the code and
 //! the place too.
+//!
+//! All refusals become JSON here, so that none is forgotten. A canvas's fault is looked up in its
+//! text; it has no place if the adapted canvas has another fault.
 
 use crate::celery::CeleryRefusal;
 use crate::finding::{pointer_json, task_json, write_columns};
@@ -19,17 +22,17 @@ const AGAIN: &str =
 
 const RUN: &str = "wanted 22 lower-case hexadecimal digits";
 
-/// What programs are told of a refusal.
+/// The parts of a refusal for programs.
 #[derive(Drop)]
 struct Told<'a> {
     name: String,
     note: String,
-    /// The fault of a canvas, with where it is found, if it is.
+    /// The fault of a canvas, with its place, if it is one.
     canvas: Option<(SigFault, Option<&'a Finding>)>,
 }
 
 impl Told<'_> {
-    /// The object, whose members are in the byte order of their names.
+    /// Returns the object, whose members are in the byte order of their names.
     fn json(&self, alloc: Global) -> Result<String, AllocError> {
         let mut text = String::from_str(alloc, "{")?;
         if let Some((fault, found)) = self.canvas {
@@ -48,14 +51,14 @@ impl Told<'_> {
     }
 }
 
-/// What the parser of words says, without usage and hints.
+/// Returns the error of the parser of words, without usage and hints.
 fn words_note(alloc: Global, error: &clap::Error) -> Result<String, AllocError> {
     let said = format!(in alloc; "{error}")?;
     let (fault, _hints) = said.split_once("\n\n").unwrap_or((&said, ""));
     String::from_str(alloc, fault.strip_prefix("error: ").unwrap_or(fault))
 }
 
-/// What is wanted in place of words whose line for people is their name alone.
+/// Returns what is wanted instead of words whose line for people is only their name.
 fn wanted(refusal: &Refusal) -> Option<&'static str> {
     match refusal {
         Refusal::BadTurn => Some(TURNS),
@@ -79,7 +82,7 @@ fn note_of(alloc: Global, refusal: &Refusal) -> Result<String, AllocError> {
     }
 }
 
-/// The fault of a canvas, with where it is found, if it is.
+/// Returns the fault of a canvas, with its place, if it is one.
 fn canvas_fault(refusal: &Refusal) -> Option<(SigFault, Option<&Finding>)> {
     match refusal {
         Refusal::Canvas(fault) => Some((*fault, None)),
@@ -89,7 +92,7 @@ fn canvas_fault(refusal: &Refusal) -> Option<(SigFault, Option<&Finding>)> {
 }
 
 impl Refusal {
-    /// The refusal as a JSON object in a line.
+    /// Returns the refusal as a JSON object in a line.
     pub fn json(&self, alloc: Global) -> Result<String, AllocError> {
         let name = Name(self);
         let told = Told {
@@ -100,8 +103,8 @@ impl Refusal {
         told.json(alloc)
     }
 
-    /// Whether its line for people is all that is said of it, also where JSON is asked for: the
-    /// status says the rest.
+    /// Returns whether its line for people is all that is printed of it, also if JSON is asked for:
+    /// the status says the rest.
     pub fn is_an_end(&self) -> bool {
         matches!(
             self,
@@ -109,7 +112,7 @@ impl Refusal {
         )
     }
 
-    /// The same with its place in the canvas's text, where it is found there.
+    /// Returns the refusal with its place in the canvas's text, if it is found there.
     pub fn placed(self, alloc: Global, text: &[u8]) -> Refusal {
         match self {
             Refusal::Canvas(fault) => match found(alloc, text, fault) {
@@ -121,7 +124,7 @@ impl Refusal {
     }
 }
 
-/// The refusal of a text for a fault, with its place where the text has the same.
+/// Returns the refusal of a text for a fault, with its place if the text has the same fault.
 fn found(alloc: Global, text: &[u8], fault: SigFault) -> Result<Refusal, Memory> {
     match find(alloc, text)? {
         Some(finding) if finding.fault == fault => Ok(Refusal::Found(finding)),

@@ -3,15 +3,15 @@
 use std::fmt;
 use std::io::{Error, ErrorKind};
 
-/// Why a file that the words name can't be read, or holds no such text.
+/// Why a file that the words name can't be read, or has no such text.
 #[derive(Clone, Copy, Debug, PartialEq, Eq)]
 pub enum Unread {
     Missing,
     Forbidden,
     Folder,
-    /// Standard input, which has something else too.
+    /// Standard input, from which something else is read too.
     Taken,
-    /// More bytes than are taken.
+    /// More bytes than are accepted.
     TooLong,
     NotUtf8,
     /// Reading it failed.
@@ -19,7 +19,7 @@ pub enum Unread {
 }
 
 impl Unread {
-    /// What an error of reading comes to.
+    /// Returns the reason for an error of reading.
     pub(crate) fn of(error: &Error) -> Unread {
         match error.kind() {
             ErrorKind::NotFound => Unread::Missing,

@@ -1,4 +1,4 @@
-//! What `canvas check` warns of: what may surprise of a canvas that is accepted.
+//! The warnings of `canvas check` for a canvas that is accepted.
 
 use crate::source::{AtFault, Foreseen, Source};
 use canvas_finding::{Signature, pointer_text, shown_name};
@@ -9,11 +9,11 @@ use canvas_warning::{Expected, Forecast, Input, Wrong};
 use std::alloc::{AllocError, Global};
 use std::collections::BTreeMap;
 
-/// What is warned of, all but ignored options once a signature at most.
+/// The kind of a warning. Each but ignored options has at most one for each signature.
 #[derive(Clone, Copy)]
 enum Concern {
     NotRegistered,
-    /// A name that no task has, where no answers were given.
+    /// A name that no task has, if no answers were given.
     Unanswered,
     TypeError(Input),
     LeftPending,
@@ -28,7 +28,7 @@ enum Concern {
 }
 
 impl Concern {
-    /// The name of the exception, or that of the row in docs/CELERY.md.
+    /// Returns the name of the exception, or that of the row in docs/CELERY.md.
     fn name(self) -> &'static str {
         match self {
             Concern::NotRegistered | Concern::Unanswered => "NotRegistered",
@@ -81,7 +81,7 @@ impl Concern {
     }
 }
 
-/// What is wrong with a parameter, behind its name.
+/// Returns what is wrong with a parameter, for a text that begins with its name.
 fn said_of(wrong: Wrong) -> &'static str {
     match wrong {
         Wrong::NoParameter => "is no parameter",
@@ -98,20 +98,20 @@ struct Warning {
     note: String,
     /// The pointer to the first signature that has it.
     pointer: String,
-    /// The task that this names.
+    /// The name of its task.
     task: String,
-    /// How many have it.
+    /// How many signatures have it.
     count: usize,
 }
 
-/// What is warned of, in file order.
+/// The warnings, in file order.
 #[derive(Drop)]
 pub struct Warnings {
     alloc: Global,
-    /// Whether answers were given of some names.
+    /// Whether answers were given for some names.
     has_answers: bool,
     found: Vec<Warning>,
-    /// Which warning is that of a name, or of an option.
+    /// The index of the warning of a name, or of an option.
     counted: BTreeMap<String, usize>,
 }
 
@@ -137,7 +137,7 @@ impl Warnings {
         Ok(())
     }
 
-    /// The same once for all that have a key. The others are counted.
+    /// Appends a warning once for all signatures with a key. The others are counted.
     fn push_once(
         &mut self,
         signature: &Signature,
@@ -165,7 +165,7 @@ impl Warnings {
         self.push(signature, concern, note)
     }
 
-    /// What concerns a name, once for all that have it.
+    /// Appends a warning about a name, once for all signatures that have it.
     fn push_of_name(&mut self, signature: &Signature, concern: Concern) -> Result<(), AllocError> {
         let (name, task) = (concern.name(), signature.name.as_deref().unwrap_or(""));
         let key = format!(in self.alloc; "{name} {task}")?;
@@ -173,8 +173,8 @@ impl Warnings {
         self.push_once(signature, key, concern, note)
     }
 
-    /// A name that no task answers to. If no answers were given, all such names have one warning:
-    /// the program can't know the user's tasks.
+    /// Appends a warning about a name that no task answers to. If no answers were given, all such
+    /// names have one warning: the program can't know the user's tasks.
     fn push_unknown(
         &mut self,
         signature: &Signature,
@@ -193,7 +193,7 @@ impl Warnings {
         Ok(())
     }
 
-    /// A call that is a TypeError, and by which parameter.
+    /// Appends a warning about a call that is a TypeError, with the parameter at fault.
     fn push_type_error(
         &mut self,
         signature: &Signature,
@@ -247,7 +247,7 @@ impl Warnings {
         Ok(())
     }
 
-    /// The options that are ignored, each once for all that have it.
+    /// Appends warnings about ignored options, each once for all signatures that have it.
     fn push_ignored(&mut self, signature: &Signature) -> Result<(), AllocError> {
         for option in &signature.ignored {
             let concern = Concern::Ignored;
@@ -260,7 +260,7 @@ impl Warnings {
         Ok(())
     }
 
-    /// What is warned of signatures, of which for all but the groups of headers it is foreseen.
+    /// Appends the warnings of signatures. There is a forecast for each but the groups of headers.
     fn push_all(
         &mut self,
         signatures: &[Signature],
@@ -281,12 +281,12 @@ impl Warnings {
         Ok(())
     }
 
-    /// Whether nothing is warned of.
+    /// Returns whether there are no warnings.
     pub fn is_empty(&self) -> bool {
         self.found.is_empty()
     }
 
-    /// Writes each as a line, for a person.
+    /// Appends each as a line, for a person.
     pub(crate) fn push_lines(&self, text: &mut String) -> Result<(), AllocError> {
         for warning in &self.found {
             push_line(text, warning)?;
@@ -294,7 +294,7 @@ impl Warnings {
         Ok(())
     }
 
-    /// Writes each as a JSON object in a line.
+    /// Appends each as a JSON object in a line.
     pub(crate) fn push_objects(&self, text: &mut String) -> Result<(), AllocError> {
         for warning in &self.found {
             push_object(self.alloc, text, warning)?;
@@ -338,7 +338,7 @@ fn push_object(alloc: Global, text: &mut String, warning: &Warning) -> Result<()
     Ok(())
 }
 
-/// What is warned of a canvas that a source's text spells, which has these signatures.
+/// Returns the warnings of a canvas that a source's text spells, which has these signatures.
 pub fn warnings_of<T: Tasks>(
     alloc: Global,
     source: &Source<'_, T>,

@@ -1,4 +1,4 @@
-//! What is asked of a canvas's run on Celery's own workers, where the canvas may be adapted first.
+//! Requests about a canvas's run on Celery's own workers, for a canvas that may be adapted first.
 ghost use Rattle.std.specs.Prelude.{IfOk};
 ghost use Rattle.canvas_semantics.specs.Line.{Line};
 ghost use Rattle.canvas_task.specs.Text.{Text};
@@ -13,8 +13,8 @@ use canvas_celery::Run;
 use std::io::Read;
 use std::rt::Files;
 
-/// What is asked of a canvas's run on Celery's workers. Where the canvas is adapted first, that is
-/// by its text, since what the workers get otherwise is told of that.
+/// Answers a request about a canvas's run on Celery's workers. If the canvas is adapted first, this
+/// uses its text, since the remark on what the workers get otherwise is about that.
 pub fn answer_workers<S, R: Read>(
     rt: &S,
     run: &Run,

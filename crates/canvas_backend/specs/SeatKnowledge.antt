@@ -9,8 +9,8 @@ use Rattle.canvas_history.specs.Table.{TableCall, TableReply}
 abbrev pub numbers_of : seated.TableId → TableId
 numbers_of d = d.words ∷ d.slots ∷ d.views_name ∷ d.atom ∷ d.block ∷ d.offset ∷ d.slot_names
 
--- What a seat knows: the callers that it stands for, each with what it has seen. It is one, but two
--- in the middle of a split or a join.
+-- The knowledge of a seat: its callers, each with what it has seen. It has one, but two in the
+-- middle of a split or a join.
 abbrev pub Knowledge : Type 0
 Knowledge = List (Hat TableCall TableReply)
 

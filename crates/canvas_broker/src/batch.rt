@@ -7,11 +7,14 @@ use canvas_envelope::Envelope;
 use std::marker::Model;
 use std::mem;
 
-/// What a batch took, in order, as far as it isn't read yet. What isn't read when it is dropped is
-/// gone: its takes stand in the history.
+/// The envelopes that a batch took, in order, without those that were read already. Envelopes that
+/// aren't read when it is dropped are lost: the history has their takes.
+///
+/// The whole batch is taken at once. So it has no lifetime, `next` doesn't wait, and it may be
+/// dropped at any time.
 #[derive(Drop)]
 pub struct Batch<T = Envelope> {
-    // the marks of splits among them
+    // the envelopes, with the marks of splits among them
     pub(crate) items: ArrayVec<Item<T>, 4>,
     // how many of these are read
     pub(crate) read: usize,
@@ -27,7 +30,7 @@ impl<T> Model for Batch<T> {
 }
 
 impl<T: Drop> Batch<T> {
-    /// The next envelope. None at the end, and from then on.
+    /// Removes and returns the next envelope. Returns None at the end, and from then on.
     pub fn next(&mut self) -> Option<T>
         ensures { MatchOption result ((self.old ≡ []) × (self.new ≡ []))
             (λ e. self.old ≡ e ∷ self.new) }

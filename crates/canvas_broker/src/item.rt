@@ -1,8 +1,8 @@
-//! What stands in the queue.
+//! The items of the queue.
 ghost use Rattle.std.specs.Prelude.{◌≡◌};
 ghost use Rattle.canvas_broker.specs.declared.item.Item.TheVariants.{Queued};
 
-/// An envelope, or the mark of a split, which takes pass over.
+/// An envelope, or the mark of a split, which takes skip.
 #[derive(Default, Drop)]
 pub enum Item<T> {
     Queued(T),
@@ -11,7 +11,7 @@ pub enum Item<T> {
 }
 
 impl<T> Item<T> {
-    /// The envelope of an item that has one.
+    /// Returns the envelope of an item that has one.
     pub(crate) fn into_envelope(self) -> T
         requires { (e : T) × (self ≡ Queued e) }
         ensures { self ≡ Queued result }

@@ -8,8 +8,8 @@ use std::marker::Model;
 
 pub(crate) type Queue<T> = RuledSegQueue<Item<T>, View<T>, OneHistory>;
 
-/// What one caller has seen of the broker's history, and its own calls in it. It has no bytes. A
-/// pass that is dropped, and not joined, stays a live caller of the history.
+/// The view that one caller has of the broker's history, with its own calls in it. It has no bytes.
+/// A pass that is dropped, and not joined, stays a live caller of the history.
 #[derive(Drop)]
 pub struct BrokerPass<T = Envelope> {
     pub(crate) pass: SegPass<Item<T>, View<T>>,

@@ -1,4 +1,4 @@
-//! The queue of envelopes, for one thread: what the shared broker's histories replay on.
+//! The queue of envelopes for one thread, on which the shared broker's histories replay.
 ghost use Rattle.std.specs.Prelude.{◌≡◌, [], ◌∷◌, ◌++◌, true, ◌↔◌, OnOk, MatchOption, MatchResult};
 ghost use Rattle.canvas_history.specs.Queue.{publish, take, answer_of, next};
 
@@ -8,8 +8,8 @@ use std::alloc::Global;
 use std::collections::VecDeque;
 use std::marker::Model;
 
-/// A queue of envelopes that one thread holds, or of values of another type `T`. Contracts see it
-/// as the list of what it holds, the first to be taken in front.
+/// A queue of envelopes, or of values of another type `T`, for one thread. Contracts see it as the
+/// list of what it holds, with the first to be taken in front.
 #[derive(Drop)]
 pub struct PlainBroker<T = Envelope> {
     queue: VecDeque<T>,
@@ -24,7 +24,7 @@ impl<T> Model for PlainBroker<T> {
 }
 
 impl<T> PlainBroker<T> {
-    /// A broker that holds nothing. It takes no memory yet.
+    /// Returns a broker that holds nothing. It allocates nothing yet.
     pub fn new(alloc: Global) -> PlainBroker<T>
         ensures { result ≡ [] }
     {
@@ -33,8 +33,8 @@ impl<T> PlainBroker<T> {
         }
     }
 
-    /// Adds the envelope at the end. Where memory is refused, it comes back, and the broker holds
-    /// what it held.
+    /// Adds the envelope at the end. If memory is refused, gives it back and leaves the broker
+    /// unchanged.
     pub fn publish(&mut self, envelope: T) -> Result<(), Refused<T>>
         ensures call { MatchResult result (λ _. self.new ≡ self.old ++ envelope ∷ [])
             (λ r. (r.envelope ≡ envelope) × (self.new ≡ self.old)) }
@@ -48,7 +48,7 @@ impl<T> PlainBroker<T> {
         }
     }
 
-    /// Takes the first envelope.
+    /// Takes the envelope at the front.
     pub fn take(&mut self) -> Option<T>
         ensures call { MatchOption result ((self.old ≡ []) × (self.new ≡ []))
             (λ e. self.old ≡ e ∷ self.new) }
@@ -57,7 +57,7 @@ impl<T> PlainBroker<T> {
         self.queue.pop_front()
     }
 
-    /// Whether it holds no envelope.
+    /// Returns whether it holds no envelope.
     pub fn is_empty(&self) -> bool
         ensures { (result ≡ true) ↔ (self.now ≡ []) }
     {

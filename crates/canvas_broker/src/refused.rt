@@ -7,6 +7,6 @@ use thiserror::Error;
 #[derive(Debug, Drop, Error)]
 #[error("the message was refused")]
 pub struct Refused<T = Envelope> {
-    /// As it was given.
+    /// The envelope, as the caller passed it.
     pub envelope: T,
 }

@@ -1,8 +1,8 @@
 -- What a run by turns leaves, step by step, turn by turn and as a whole.
-pub mod StageSteps
-pub mod StageAsks
-pub mod StageTurns
-pub mod StageAgain
+pub mod TurnRunSteps
+pub mod TurnRunAsks
+pub mod TurnRunTurns
+pub mod TurnRunAgain
 pub mod Noting
 pub mod Delivering
 pub mod EntryPlaces

@@ -17,7 +17,7 @@ use Rattle.canvas_core.specs.Asks.{Asked, Answer}
 use Rattle.canvas_by_turns.specs.Noted.{did_seen, step_seen, opening_step, opening_steps}
 use Rattle.canvas_by_turns.specs.Traced.{sent_by, sent_in, sent_after}
 use Rattle.canvas_by_turns.specs.steps.Noting.{Noted, kept, publishes}
-use Rattle.canvas_by_turns.specs.steps.Stages.{AnswersNow, answer_now, step_now}
+use Rattle.canvas_by_turns.specs.steps.TurnRuns.{AnswersNow, answer_now, step_now}
 use Rattle.canvas_by_turns.specs.declared.notes.Step as told
 use Rattle.canvas_by_turns.specs.declared.notes.Keeps.{Keeps}
 use Rattle.canvas_by_turns.specs.declared.notes.Keeps.TheVariants.{Nothing, Published, All}

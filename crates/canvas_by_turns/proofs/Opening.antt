@@ -8,7 +8,7 @@ use Rattle.canvas_envelope.specs.Wire.{properties_wire, headers_wire, body_wire}
 use Rattle.canvas_envelope.specs.declared.envelope.Envelope.{Envelope}
 use Rattle.canvas_runs.proofs.Envelopes.Readings.{says_reading}
 use Rattle.canvas_runs.specs.Worker.{read_envelope, sealed}
-use Rattle.canvas_by_turns.specs.steps.Stages.{ReadsAs}
+use Rattle.canvas_by_turns.specs.steps.TurnRuns.{ReadsAs}
 
 of_texts : Text → Text → Text → Envelope
 of_texts p h b = record { properties = p; headers = h; body = b }

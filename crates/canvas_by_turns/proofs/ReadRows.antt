@@ -5,7 +5,7 @@ use Rattle.std.proofs.Math.Seq.{take-suc-set}
 use Rattle.canvas_semantics.specs.Evaluation.{State}
 use Rattle.canvas_semantics.specs.States.{numbers_from}
 use Rattle.canvas_history.specs.Table.{Results}
-use Rattle.canvas_by_turns.specs.steps.Stages.{rows_of}
+use Rattle.canvas_by_turns.specs.steps.TurnRuns.{rows_of}
 
 outcomes_more : (f : ℕ → State) (k n : ℕ) → map f (numbers_from k (suc n)) ≡ map f (numbers_from k n) ++ f (k + n) ∷ []
 outcomes_more f k zero = let same : k ≡ k + 0 = omega arith in ap (λ m. f m ∷ []) same

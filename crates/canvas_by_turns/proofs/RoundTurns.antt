@@ -11,12 +11,12 @@ use Rattle.canvas_turns.specs.Turns.{Step, IsWorker, HasEnded, round, rounds, re
 use Rattle.canvas_turns.proofs.TurnEnds.{begins_list, begins_rotation, rounds_next}
 use Rattle.canvas_core.specs.declared.cause.Cause.{Cause}
 use Rattle.canvas_core.specs.declared.cause.Cause.TheVariants.{Memory, Stopped}
-use Rattle.canvas_by_turns.specs.steps.Stages.{Given, Reached, HasReached, IsTurn, IsHalt, IsPartOfRound, IsHaltInRound, IsEarlyEnd, IsRunThrough}
-use Rattle.canvas_by_turns.specs.declared.stage.Stage.{Stage}
+use Rattle.canvas_by_turns.specs.steps.TurnRuns.{Given, Reached, HasReached, IsTurn, IsHalt, IsPartOfRound, IsHaltInRound, IsEarlyEnd, IsRunThrough}
+use Rattle.canvas_by_turns.specs.declared.turn_run.TurnRun.{TurnRun}
 
 module _ (behaviour : Behaviour) (l : Line) (n most : ℕ) (es : Given) (us : List ℕ) (xs : List Step) where
   -- one more turn of the round, which answered an ask or not
-  abbrev OneTurn : Bool → ℕ → Stage → Stage → Type 0
+  abbrev OneTurn : Bool → ℕ → TurnRun → TurnRun → Type 0
   OneTurn b p s s' = (n most : ℕ) (es : Given) (us : List ℕ) (xs : List Step) → Reached behaviour l n most es us xs s
       → IsTurn behaviour b l n most es us xs p s'
 
@@ -31,7 +31,7 @@ module _ (behaviour : Behaviour) (l : Line) (n most : ℕ) (es : Given) (us : Li
       go (inl same) = subst (HasEnded behaviour l xs) (e ∙ sym same) here
       go (inr less) = before q (w.0, omega (arith, less))
 
-  pub part_of_round : (b : Bool) (i p j steps : ℕ) (s s' : Stage) → p ≡ suc i → j ≡ suc i → length xs + steps ≡ most + redeliveries_in xs
+  pub part_of_round : (b : Bool) (i p j steps : ℕ) (s s' : TurnRun) → p ≡ suc i → j ≡ suc i → length xs + steps ≡ most + redeliveries_in xs
       → IsPartOfRound behaviour b l n most es us xs i steps s → OneTurn false p s s'
       → IsPartOfRound behaviour b l n most es us xs j steps s'
   part_of_round true i p j steps s s' e f start part turn =
@@ -45,14 +45,14 @@ module _ (behaviour : Behaviour) (l : Line) (n most : ℕ) (es : Given) (us : Li
         λ q w. ended_too i p e part.1 got.0 q (subst (λ k. IsWorker k q) f w),
       )
 
-  fewer : (ys zs : List Step) (s s' : Stage) (vs ws : List ℕ) → Reached behaviour l n most es vs ys s → Reached behaviour l n most es ws (ys ++ zs) s'
+  fewer : (ys zs : List Step) (s s' : TurnRun) (vs ws : List ℕ) → Reached behaviour l n most es vs ys s → Reached behaviour l n most es ws (ys ++ zs) s'
       → length zs ≡ suc (redeliveries_in zs) → s'.steps < s.steps
   fewer ys zs s s' vs ws r t one =
       let long = length-append ys zs in
       let copies = total-append (λ (y : Step). redelivers_one y.1.0) ys zs in
       omega (arith, long, copies, r.count, t.count, one)
 
-  pub step_of_round : (b : Bool) (i p j steps : ℕ) (s s' : Stage) → p ≡ suc i → j ≡ suc i → length xs + steps ≡ most + redeliveries_in xs
+  pub step_of_round : (b : Bool) (i p j steps : ℕ) (s s' : TurnRun) → p ≡ suc i → j ≡ suc i → length xs + steps ≡ most + redeliveries_in xs
       → IsPartOfRound behaviour b l n most es us xs i steps s → OneTurn true p s s'
       → IsPartOfRound behaviour true l n most es us xs j steps s'
   step_of_round true i p j steps s s' e f start part turn =
@@ -69,12 +69,12 @@ module _ (behaviour : Behaviour) (l : Line) (n most : ℕ) (es : Given) (us : Li
       )
 
   -- what there is to go on from
-  pub part_reached : (b : Bool) (i steps : ℕ) (s : Stage) → IsPartOfRound behaviour b l n most es us xs i steps s
+  pub part_reached : (b : Bool) (i steps : ℕ) (s : TurnRun) → IsPartOfRound behaviour b l n most es us xs i steps s
       → HasReached behaviour l n most es (us ++ round i) s
   part_reached true i steps s part = part.0
   part_reached false i steps s part = (xs, part.0)
 
-  pub halt_in_round : (cause : Cause) (i : ℕ) (s : Stage) → i ≤ n → IsHalt behaviour cause l n most es (us ++ round i) s
+  pub halt_in_round : (cause : Cause) (i : ℕ) (s : TurnRun) → i ≤ n → IsHalt behaviour cause l n most es (us ++ round i) s
       → IsHaltInRound behaviour cause l n most es us s
   halt_in_round Memory i s h halt = halt
   halt_in_round Stopped i s h halt = (i, h, halt)
@@ -82,24 +82,24 @@ module _ (behaviour : Behaviour) (l : Line) (n most : ℕ) (es : Given) (us : Li
 -- ---- a list of turns
 
 module _ (behaviour : Behaviour) (l : Line) (n most : ℕ) (es : Given) (ts : List ℕ) where
-  pub halt_in_list : (cause : Cause) (us rest : List ℕ) (s : Stage) → us ++ rest ≡ ts → IsHalt behaviour cause l n most es us s
+  pub halt_in_list : (cause : Cause) (us rest : List ℕ) (s : TurnRun) → us ++ rest ≡ ts → IsHalt behaviour cause l n most es us s
       → IsEarlyEnd behaviour cause l n most es ts s
   halt_in_list Memory us rest s e halt = (halt.plan_is, inr halt)
   halt_in_list Stopped us rest s e halt = (us, begins_list n us rest ts e, halt)
 
-  pub halt_in_rounds : (cause : Cause) (k : ℕ) (s : Stage) → IsHaltInRound behaviour cause l n most es (ts ++ rounds n k) s
+  pub halt_in_rounds : (cause : Cause) (k : ℕ) (s : TurnRun) → IsHaltInRound behaviour cause l n most es (ts ++ rounds n k) s
       → IsEarlyEnd behaviour cause l n most es ts s
   halt_in_rounds Memory k s halt = (halt.plan_is, inr halt)
   halt_in_rounds Stopped k s halt = ((ts ++ rounds n k) ++ round halt.0, begins_rotation n k halt.0 ts halt.1, halt.2)
 
-  pub another_round : (k : ℕ) (s : Stage) → HasReached behaviour l n most es ((ts ++ rounds n k) ++ round n) s
+  pub another_round : (k : ℕ) (s : TurnRun) → HasReached behaviour l n most es ((ts ++ rounds n k) ++ round n) s
       → HasReached behaviour l n most es (ts ++ rounds n (suc k)) s
   another_round k s r = (
     r.0,
     subst (λ vs. Reached behaviour l n most es vs r.0 s) (append_assoc ts (rounds n k) (round n) ∙ ap (λ vs. ts ++ vs) (sym (rounds_next n k))) r.1,
   )
 
-  pub last_round : (k : ℕ) (xs : List Step) (s : Stage) → Reached behaviour l n most es ((ts ++ rounds n k) ++ round n) xs s
+  pub last_round : (k : ℕ) (xs : List Step) (s : TurnRun) → Reached behaviour l n most es ((ts ++ rounds n k) ++ round n) xs s
       → ((p : ℕ) → IsWorker n p → HasEnded behaviour l xs p) → IsRunThrough behaviour l n most es ts s
   last_round k xs s r ended = record {
     further = suc k;
@@ -109,7 +109,7 @@ module _ (behaviour : Behaviour) (l : Line) (n most : ℕ) (es : Given) (ts : Li
   }
 
 -- a turn of the round
-pub one_more_turn : (behaviour : Behaviour) → (l : Line) (n most : ℕ) (es : Given) (us : List ℕ) (xs : List Step) (b t : Bool) (i steps : ℕ) (s s' : Stage)
+pub one_more_turn : (behaviour : Behaviour) → (l : Line) (n most : ℕ) (es : Given) (us : List ℕ) (xs : List Step) (b t : Bool) (i steps : ℕ) (s s' : TurnRun)
     → length xs + steps ≡ most + redeliveries_in xs → IsPartOfRound behaviour b l n most es us xs i steps s
     → ((n most : ℕ) (es : Given) (us : List ℕ) (xs : List Step) → Reached behaviour l n most es us xs s → IsTurn behaviour t l n most es us xs (i + 1) s')
     → IsPartOfRound behaviour (b || t) l n most es us xs (i + 1) steps s'
@@ -124,12 +124,12 @@ one_more_turn behaviour l n most es us xs false false i steps s s' start part tu
 
 -- ---- what there is after a turn, whether it answered an ask or not
 
-pub turn_reached : (behaviour : Behaviour) → (b : Bool) (l : Line) (n most : ℕ) (es : Given) (us : List ℕ) (xs : List Step) (p : ℕ) (s : Stage)
+pub turn_reached : (behaviour : Behaviour) → (b : Bool) (l : Line) (n most : ℕ) (es : Given) (us : List ℕ) (xs : List Step) (p : ℕ) (s : TurnRun)
     → IsTurn behaviour b l n most es us xs p s → HasReached behaviour l n most es (us ++ p ∷ []) s
 turn_reached behaviour true l n most es us xs p s h = (xs ++ h.0, h.1)
 turn_reached behaviour false l n most es us xs p s h = (xs, h.1)
 
-pub list_more : (behaviour : Behaviour) → (b : Bool) (l : Line) (n most : ℕ) (es : Given) (ts : List ℕ) (i : ℕ) (s s' : Stage) → i < length ts
+pub list_more : (behaviour : Behaviour) → (b : Bool) (l : Line) (n most : ℕ) (es : Given) (ts : List ℕ) (i : ℕ) (s s' : TurnRun) → i < length ts
     → HasReached behaviour l n most es (take i ts) s
     → ((n most : ℕ) (es : Given) (us : List ℕ) (xs : List Step) → Reached behaviour l n most es us xs s
     → IsTurn behaviour b l n most es us xs (get_or ts i 0) s') → HasReached behaviour l n most es (take (i + 1) ts) s'
@@ -138,6 +138,6 @@ list_more behaviour b l n most es ts i s s' h r turn =
     let up : suc i ≡ i + 1 = omega arith in
     subst (λ us. HasReached behaviour l n most es us s') (sym (take-suc ts i 0 h) ∙ ap (λ j. take j ts) up) next
 
-pub all_taken : (behaviour : Behaviour) → (l : Line) (n most : ℕ) (es : Given) (ts : List ℕ) (i : ℕ) (s : Stage) → length ts ≤ i
+pub all_taken : (behaviour : Behaviour) → (l : Line) (n most : ℕ) (es : Given) (ts : List ℕ) (i : ℕ) (s : TurnRun) → length ts ≤ i
     → HasReached behaviour l n most es (take i ts) s → HasReached behaviour l n most es ts s
 all_taken behaviour l n most es ts i s h r = subst (λ us. HasReached behaviour l n most es us s) (take_all i ts h) r

@@ -14,17 +14,17 @@ use Rattle.canvas_history.specs.Table.{no_results}
 use Rattle.canvas_backend.specs.Plain.{held}
 use Rattle.canvas_runs.specs.Tally.{greatest_count}
 use Rattle.canvas_runs.specs.Law.{its_state}
-use Rattle.canvas_turns.specs.Going.{most_steps}
-use Rattle.canvas_turns.specs.Spending.{Entry, TurnedAgain, no_turn, ByEntries, RunEntries, agains_in}
+use Rattle.canvas_turns.specs.Termination.{most_steps}
+use Rattle.canvas_turns.specs.Redeliveries.{Entry, TurnedAgain, no_turn, ByEntries, RunEntries, agains_in}
 use Rattle.canvas_semantics.specs.States.{EachMay}
 use Rattle.canvas_runs.specs.Worker.{sealed}
 use Rattle.canvas_turns.specs.TurnLaws.{held_rows}
 use Rattle.canvas_turns.specs.Turns.{Step, FirstsRead, all_taken, rounds, redeliveries_in}
 use Rattle.canvas_turns.proofs.Agains.{few_again, agains_few, agains_are}
-use Rattle.canvas_turns.proofs.Spending.{are_turns}
+use Rattle.canvas_turns.proofs.Redeliveries.{are_turns}
 use Rattle.canvas_turns.proofs.Spends.{spends_length}
 use Rattle.canvas_turns.proofs.TurnLaw.{states_are, states_may}
-use Rattle.canvas_core.specs.CoreState.{Standing, begun}
+use Rattle.canvas_core.specs.CoreState.{CoreView, begun}
 use Rattle.canvas_core.specs.declared.cause.Cause.{Cause}
 use Rattle.canvas_core.specs.declared.cause.Cause.TheVariants.{Memory, Stopped}
 use Rattle.canvas_by_turns.specs.Correct.{IsAsked, IsWholeRun, IsWholeWithin, IsWholeAgain, IsRunFault, IsFaultWithin}
@@ -36,31 +36,31 @@ use Rattle.canvas_by_turns.specs.declared.notes.Keeps.{Keeps}
 use Rattle.canvas_by_turns.specs.declared.notes.Keeps.TheVariants as keep
 use Rattle.canvas_by_turns.proofs.Noting.{sent_noted}
 use Rattle.canvas_by_turns.specs.steps.AgainRuns.{IsAgainWithin, IsNotedWithin, IsCutAgain, IsAgainFault}
-use Rattle.canvas_by_turns.specs.steps.Stages.{rows_of, IsNew, AreNew, IsCoreAt, Given, Reached, IsHalfway, IsEarlyEnd, IsRunThrough}
+use Rattle.canvas_by_turns.specs.steps.TurnRuns.{rows_of, IsNew, AreNew, IsCoreAt, Given, Reached, IsHalfway, IsEarlyEnd, IsRunThrough}
 use Rattle.canvas_report.specs.declared.report.Report.{Report}
 use Rattle.canvas_by_turns.specs.declared.fault.RunFault.{RunFault}
 use Rattle.canvas_by_turns.specs.declared.fault.RunFault.TheVariants.{BadWorkers, BadTurn, Halted}
-use Rattle.canvas_by_turns.specs.declared.stage.Stage.{Stage}
+use Rattle.canvas_by_turns.specs.declared.turn_run.TurnRun.{TurnRun}
 
 -- ---- how it starts
 
-new_core : (behaviour : Behaviour) → (l : Line) (cores : List Standing) → AreNew cores → (i : ℕ) (c : Standing) → slice_get cores i ≡ Some c
+new_core : (behaviour : Behaviour) → (l : Line) (cores : List CoreView) → AreNew cores → (i : ℕ) (c : CoreView) → slice_get cores i ≡ Some c
     → IsCoreAt behaviour l [] c
 new_core behaviour l cores new i c here =
     let is : c ≡ begun = at_get cores i c here (λ d. d ≡ begun) new in
     subst (IsCoreAt behaviour l []) (sym is)
     (record { left = refl; is_in = refl; holds = refl; has_one = λ inside. absurd (false≢true inside); task = λ inside. absurd (false≢true inside) })
   where
-    at_get : (xs : List Standing) (j : ℕ) (d : Standing) → slice_get xs j ≡ Some d → (P : Standing → Type 0) → All P xs → P d
+    at_get : (xs : List CoreView) (j : ℕ) (d : CoreView) → slice_get xs j ≡ Some d → (P : CoreView → Type 0) → All P xs → P d
     at_get xs j d e P a = subst P (got xs j d e) (a j d (slice_get_within xs j d e))
       where
-        got : (ys : List Standing) (k : ℕ) (x : Standing) → slice_get ys k ≡ Some x → get_or ys k x ≡ x
+        got : (ys : List CoreView) (k : ℕ) (x : CoreView) → slice_get ys k ≡ Some x → get_or ys k x ≡ x
         got [] zero x e = absurd cc
         got [] (suc k) x e = absurd cc
         got (y ∷ ys) zero x e = cc
         got (y ∷ ys) (suc k) x e = got ys k x e
 
-pub starts : (behaviour : Behaviour) → (l : Line) (n : ℕ) (old s : Stage) → IsPlan l → IsNew l n old → s.queue ≡ map sealed (first_messages l) → FirstsRead l
+pub starts : (behaviour : Behaviour) → (l : Line) (n : ℕ) (old s : TurnRun) → IsPlan l → IsNew l n old → s.queue ≡ map sealed (first_messages l) → FirstsRead l
     → s.table ≡ old.table → s.cores ≡ old.cores → s.steps ≡ old.steps
     → s.again ≡ old.again → s.repeats ≡ old.repeats → Noted old.notes (opening_steps l) s.notes
     → Reached behaviour l n old.steps (old.again.items, old.notes.keeps) [] [] s
@@ -95,7 +95,7 @@ pub err_at : {T : Type 0} (r : Result T Cause) (Q : ℕ → Given → Type 0) (P
 err_at (Ok u) Q P m es q h = tt
 err_at (Err e) Q P m es q h = h m es q
 
-module _ (behaviour : Behaviour) (l : Line) (n most : ℕ) (ts : List ℕ) (es : List Entry) (keeps : Keeps) (rows : List State) (s : Stage)
+module _ (behaviour : Behaviour) (l : Line) (n most : ℕ) (ts : List ℕ) (es : List Entry) (keeps : Keeps) (rows : List State) (s : TurnRun)
     (are : rows ≡ rows_of (count_line l) (held s.table)) where
   pub whole_rows : 1 ≤ n → length es ≤ greatest_count → IsRunThrough behaviour l n most (es, keeps) ts s → IsAgainWithin behaviour l n ts es most rows s.repeats
   whole_rows some fits done =

@@ -1,24 +1,24 @@
--- What a run by turns promises, whatever the number of workers and the order of their turns: each
--- task has the state that evaluating the canvas gives, as the Canvas user guide has it. A run that
--- ended early has rows that are pending, or these.
+-- The promise of a run by turns, for any number of workers and any order of their turns: each task
+-- has the state that evaluating the canvas gives, as the Canvas user guide has it. A run that ended
+-- early has rows that are pending, or these.
 --     AreWorkers n, AreTurns n turns         1 to 16 workers, and each turn is of one of them;
 --                                            IsAsked says both
 --     IsWholeRun l n turns rows              rows of a run by these turns, and then in rotation,
 --                                            that went on until all workers had ended
---     IsWholeWithin l n turns most rows      of at most so many steps
---     IsWholeAgain l n turns es rows m       of a run in which entries say what is delivered again,
---                                            and how many of its stores answered Again
---     IsCut l n turns steps rows             rows of a run that was cut off after so many steps,
+--     IsWholeWithin l n turns most rows      the same, in at most `most` steps
+--     IsWholeAgain l n turns es rows m       the same for a run with entries es of redeliveries,
+--                                            of which m stores answered Again
+--     IsCut l n turns steps rows             rows of a run that was stopped after `steps` steps,
 --                                            with some worker that had not ended
---     IsRunFault, IsFaultWithin              why a run by turns, and one of at most so many steps,
---                                            has no whole report
+--     IsRunFault, IsFaultWithin              why a run by turns, and one with a bound on its
+--                                            steps, has no whole report
 use Rattle.std.specs.Prelude.{◌≡◌, ◌≤◌, ℕ, List, All, length, Option, Some, None, IfSome}
 use Rattle.canvas_task.specs.Apply.{Behaviour}
 use Rattle.canvas_semantics.specs.Evaluation.{State}
 use Rattle.canvas_semantics.specs.Line.{Line, tree_of}
 use Rattle.canvas_semantics.specs.States.{states, EachMay}
 use Rattle.canvas_turns.specs.TurnLaws.{held_rows}
-use Rattle.canvas_turns.specs.Spending.{Entry, RanAgain, RunEntries, agains_in}
+use Rattle.canvas_turns.specs.Redeliveries.{Entry, RanAgain, RunEntries, agains_in}
 use Rattle.canvas_turns.specs.Turns.{most_workers, IsWorker, RanWhole, RanUntil, redeliveries_in}
 use Rattle.canvas_report.specs.declared.report.Report.{Report}
 use Rattle.canvas_core.specs.declared.cause.Cause.TheVariants.{Memory, Stopped}
@@ -31,14 +31,14 @@ AreWorkers n = IsWorker most_workers n
 abbrev pub AreTurns : ℕ → List ℕ → Type 0
 AreTurns n turns = All (IsWorker n) turns
 
--- the number of workers and the turns are such as a run takes
+-- a run takes this number of workers and these turns
 abbrev pub IsAsked : ℕ → List ℕ → Type 0
 IsAsked n turns = AreWorkers n × AreTurns n turns
 
 pub record IsWholeRun (behaviour : Behaviour) (l : Line) (n : ℕ) (turns : List ℕ)
     (rows : List State) : Type 0 where
   pub run : RanWhole behaviour l n turns
-  -- nothing is delivered again
+  -- nothing is redelivered
   pub plain : redeliveries_in run.steps ≡ 0
   pub rows_held : rows ≡ held_rows l run.steps
   -- what evaluating the plan's tree gives
@@ -52,7 +52,7 @@ pub record IsWholeAgain (behaviour : Behaviour) (l : Line) (n : ℕ) (turns : Li
     (es : List Entry) (rows : List State) (m : ℕ) : Type 0 where
   pub run : RanAgain behaviour l n turns es
   pub rows_held : rows ≡ held_rows l run.steps
-  -- what evaluating the plan's tree gives, whatever is delivered again
+  -- what evaluating the plan's tree gives, with any redeliveries
   pub are : rows ≡ states behaviour (tree_of l)
   -- m of the run's stores answered Again, and m of the entries are of tasks that evaluation runs
   pub again : m ≡ agains_in run.steps
@@ -68,15 +68,15 @@ abbrev pub GivesCut : (behaviour : Behaviour) → Option Report → Line → ℕ
 GivesCut behaviour None l n turns steps = ⊥
 GivesCut behaviour (Some report) l n turns steps = IsCut behaviour l n turns steps report.rows
 
--- Why a run with no bound has no whole report, where these are the states: it isn't stopped.
--- Without rows it is for memory that was refused before the first publish.
+-- Why a run with no bound has no whole report, if these are the states: it isn't stopped. It has no
+-- rows only if memory was refused before the first publish.
 abbrev pub IsRunFault : ℕ → List ℕ → List State → RunFault → Type 0
 IsRunFault n turns ss BadWorkers = AreWorkers n → ⊥
 IsRunFault n turns ss BadTurn = AreWorkers n × (AreTurns n turns → ⊥)
 IsRunFault n turns ss (Halted Memory rows) = IsAsked n turns × IfSome rows (λ r. EachMay r.rows ss)
 IsRunFault n turns ss (Halted Stopped rows) = ⊥
 
--- the same of a run of at most so many steps, which is stopped there
+-- like `IsRunFault`, for a run of at most this number of steps, which is stopped there
 abbrev pub IsFaultWithin : (behaviour : Behaviour) → Line → ℕ → List ℕ → ℕ → RunFault → Type 0
 IsFaultWithin behaviour l n turns steps BadWorkers = AreWorkers n → ⊥
 IsFaultWithin behaviour l n turns steps BadTurn = AreWorkers n × (AreTurns n turns → ⊥)

@@ -1,8 +1,8 @@
--- The steps of a run by turns as a run tells them, in their order. The first messages come before
+-- The steps of a run by turns as a run reports them, in their order. The first messages come before
 -- all turns: worker 0 publishes them.
 --     step_seen s        the worker's ask with its answer that a step of the code is
---     IsStepped l n turns es rows m steps    rows of a run by these turns with these entries, how
---                                            many of its stores answered Again, and its steps
+--     IsStepped l n turns es rows m steps    rows of a run by these turns with these entries, m of
+--                                            its stores answered Again, and its steps
 use Rattle.std.specs.Prelude.{◌≡◌, ℕ, List, ◌++◌, map, None}
 use Rattle.canvas_task.specs.Apply.{Behaviour}
 use Rattle.canvas_semantics.specs.Evaluation.{State}
@@ -13,7 +13,7 @@ use Rattle.canvas_history.specs.Queue as queue
 use Rattle.canvas_history.specs.Table as table
 use Rattle.canvas_runs.specs.Core.{Ask, Reply, to_queue, to_table, rest, ack, from_queue, from_table, rested, acked}
 use Rattle.canvas_runs.specs.Worker.{sealed}
-use Rattle.canvas_turns.specs.Spending.{Entry}
+use Rattle.canvas_turns.specs.Redeliveries.{Entry}
 use Rattle.canvas_turns.specs.Turns.{Step}
 use Rattle.canvas_by_turns.specs.Correct.{IsWholeAgain}
 use Rattle.canvas_by_turns.specs.declared.notes.Did.{Did}

@@ -1,5 +1,5 @@
--- What a run by turns publishes, in the order in which it does: the first messages, and then what
--- each step publishes. An envelope that is delivered again is not published again.
+-- The envelopes that a run by turns publishes, in its order: the first messages, and then what each
+-- step publishes. A redelivered envelope is not published again.
 --     sent_after l xs        the envelopes that are published up to there
 --     IsTraced l n turns rows sent    rows of a whole run by these turns, and what it published
 use Rattle.std.specs.Prelude.{◌≡◌, ℕ, List, [], ◌∷◌, ◌++◌, map}

@@ -1,11 +1,11 @@
--- Why a text has no list of turns, as a fault of runs says it.
+-- Why a text has no list of turns, as a fault of runs.
 use Rattle.std.specs.Prelude.{ℕ, ◌<◌, List, length, None}
 use Rattle.canvas_lists.specs.TurnList.{IsTurnList}
 use Rattle.canvas_core.specs.declared.cause.Cause.TheVariants.{Memory}
 use Rattle.canvas_by_turns.specs.declared.fault.RunFault.{RunFault}
 use Rattle.canvas_by_turns.specs.declared.fault.RunFault.TheVariants.{BadTurn, Halted}
 
--- it is no such list, or memory was refused, which the empty text needs none of
+-- it is no such list, or memory was refused, which can't be for the empty text
 abbrev pub IsListFault : ℕ → List ℕ → RunFault → Type 0
 IsListFault n text BadTurn = (turns : List ℕ) → IsTurnList n text turns → ⊥
 IsListFault n text (Halted Memory None) = 0 < length text

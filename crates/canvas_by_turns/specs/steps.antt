@@ -1,3 +1,3 @@
 pub mod Noting
-pub mod Stages
+pub mod TurnRuns
 pub mod AgainRuns

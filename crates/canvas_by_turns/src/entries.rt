@@ -1,7 +1,7 @@
-//! Entries of a run by turns: the points at which an envelope is delivered again.
+//! Entries of a run by turns: the points at which an envelope is redelivered.
 ghost use Rattle.std.specs.Prelude.{◌≡◌, ◌<◌, true, false, MatchOption, length};
 ghost use Rattle.std.specs.List.{remove};
-ghost use Rattle.canvas_turns.specs.Spending.{is_for, has, without};
+ghost use Rattle.canvas_turns.specs.Redeliveries.{is_for, has, without};
 
 use canvas_runs::When;
 use canvas_task::TaskNo;
@@ -16,7 +16,7 @@ fn is_for(entry: &(TaskNo, When), point: &(TaskNo, When)) -> bool
     }
 }
 
-/// Where the first entry for a point stands.
+/// Returns the index of the first entry for a point.
 pub(crate) fn first_for(entries: &[(TaskNo, When)], point: &(TaskNo, When)) -> Option<usize>
     ensures { MatchOption result (has point.now.0 point.now.1 entries.now ≡ false)
         (λ i. (i < length entries.now) × (has point.now.0 point.now.1 entries.now ≡ true)

@@ -14,29 +14,29 @@ pub enum RunFault {
     /// The number of workers is out of its range, 1 to 16.
     #[error("BadWorkers")]
     BadWorkers,
-    /// A turn is of no worker.
+    /// A turn names no worker.
     #[error("BadTurn")]
     BadTurn,
-    /// The run ended early. `rows` is what it has stored, a row for each task; where the first
+    /// The run ended early. `rows` is what it has stored, a row for each task; if the first
     /// messages could not be published all of them are pending.
     ///
-    /// On threads it is None where memory was refused before the first publish was tried, and where
-    /// a worker's executor failed: tasks may have run then, and the cause is Memory. By turns it is
-    /// None where there was no memory for the rows, the workers or the table; from the making of
-    /// the first messages on there are rows.
+    /// On threads it is None if memory was refused before the first publish was tried, or if a
+    /// worker's executor failed: tasks may have run then, and the cause is Memory. By turns it is
+    /// None if there was no memory for the rows, the workers or the table; from the making of the
+    /// first messages on there are rows.
     #[error("{cause}")]
     Halted { cause: Cause, rows: Option<Report> },
 }
 
 impl RunFault {
-    /// A run that ended early, without rows.
+    /// Returns the fault of a run that ended early, without rows.
     pub fn halted(cause: Cause) -> RunFault
         ensures { result ≡ fault.Halted cause None }
     {
         RunFault::Halted { cause, rows: None }
     }
 
-    /// A run that ended early, with these rows.
+    /// Returns the fault of a run that ended early, with these rows.
     pub fn halted_with(cause: Cause, rows: Vec<Option<Outcome>>) -> RunFault
         ensures { result ≡ fault.Halted cause (Some (record { rows = rows.items })) }
     {

@@ -2,7 +2,7 @@
 ghost use Rattle.std.specs.Prelude.{◌≡◌, ◌++◌, map, IfOk, OnOk};
 ghost use Rattle.canvas_history.specs.Lists.{Each};
 ghost use Rattle.canvas_runs.specs.Worker.{sealed};
-ghost use Rattle.canvas_by_turns.specs.steps.Stages.{ReadsAs};
+ghost use Rattle.canvas_by_turns.specs.steps.TurnRuns.{ReadsAs};
 ghost use Rattle.canvas_effects.specs.Effects.{first_messages};
 ghost use Rattle.canvas_turns.specs.Turns.{FirstsRead};
 
@@ -12,7 +12,7 @@ use canvas_rewrite::Plan;
 use canvas_task::Memory;
 use std::alloc::Global;
 
-/// The envelope of a message, which reads back as it.
+/// Writes the envelope of a message, which reads back as it.
 fn seal(alloc: Global, message: Message) -> Result<Letter, Memory>
     ensures value { IfOk result (λ e. e ≡ sealed message) }
     ensures back { OnOk result (ReadsAs message) }
@@ -23,7 +23,7 @@ fn seal(alloc: Global, message: Message) -> Result<Letter, Memory>
     }
 }
 
-/// Puts the envelopes of messages behind others.
+/// Appends the envelopes of messages.
 fn seal_all(
     alloc: Global,
     messages: Vec<Message>,
@@ -40,7 +40,7 @@ fn seal_all(
     Ok(())
 }
 
-/// The envelopes of the messages of the tasks that start at once.
+/// Returns the envelopes of the messages of the tasks that start at once.
 pub fn first_envelopes(alloc: Global, plan: &Plan) -> Result<Vec<Letter>, Memory>
     ensures value { IfOk result (λ es. es.items ≡ map sealed (first_messages plan.now)) }
     ensures back { OnOk result (FirstsRead plan.now) }

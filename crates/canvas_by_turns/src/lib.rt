@@ -1,4 +1,8 @@
 //! Runs of plans by turns, on one thread.
+//!
+//! A run is described by its steps, each a worker's ask with its answer. What a worker has left,
+//! what is queued and what is stored follow from the steps before (`canvas_turns`, `specs/Turns`),
+//! so the contract of a run names no state of the code.
 #![tactic(auto)]
 
 mod entries;
@@ -6,8 +10,8 @@ mod fault;
 mod firsts;
 mod notes;
 mod running;
-mod stage;
 mod turn_list;
+mod turn_run;
 
 pub use fault::RunFault;
 pub use firsts::first_envelopes;

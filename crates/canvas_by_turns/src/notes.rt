@@ -1,4 +1,4 @@
-//! What is noted of a run by turns: its steps, one after the other.
+//! The steps that a run by turns notes.
 ghost use Rattle.std.specs.Prelude.{◌≡◌, ◌∷◌, ◌++◌, [], IfOk, None, OnOk, false, map, option_to_list};
 ghost use Rattle.canvas_history.specs.Queue as queue;
 ghost use Rattle.canvas_runs.specs.Core as C;
@@ -12,17 +12,17 @@ use canvas_envelope::Letter;
 use canvas_task::{GroupNo, Memory, Outcome, TaskNo};
 use std::alloc::{AllocError, Global};
 
-/// What a worker asked for at a step of a run, with the answer.
+/// An ask of a worker at a step of a run, with the answer.
 #[derive(Debug, Drop)]
 pub enum Did {
     /// A take: None if nothing was found.
     Took(Option<Letter>),
     Published(Letter),
-    /// The envelope that it holds was delivered again, for which no worker asks.
+    /// A redelivery of the envelope that the worker holds, for which no worker asks.
     Redelivered(Letter),
     /// A store of a task's outcome.
     Stored(TaskNo, Outcome, Stored),
-    /// The part of a chord by the last task of a member: how many were returned before.
+    /// The part of a chord by the last task of a member, with how many were returned before.
     Returned(GroupNo, TaskNo, u64),
     /// A read of a task's outcome.
     Read(TaskNo, Option<Outcome>),
@@ -35,7 +35,8 @@ pub enum Did {
 /// A step of a run.
 #[derive(Debug, Drop)]
 pub struct Step {
-    /// From 1. The first messages are published by 0, before any worker has a turn.
+    /// The number of the worker, from 1. Worker 0 publishes the first messages, before any other
+    /// has a turn.
     pub worker: u32,
     pub did: Did,
 }
@@ -44,13 +45,13 @@ pub struct Step {
 #[derive(Clone, Copy)]
 pub(crate) enum Keeps {
     Nothing,
-    /// Those that publish.
+    /// The steps that publish.
     Published,
     All,
 }
 
-/// The steps of a run that are noted so far. Their letters share what the run's own share, so that
-/// a text that all messages carry is there once.
+/// The steps of a run that are noted so far. Their letters share what the run's own share, so a
+/// text that all messages carry is there once.
 #[derive(Drop)]
 pub(crate) struct Notes {
     alloc: Global,
@@ -58,7 +59,7 @@ pub(crate) struct Notes {
     steps: Vec<Step>,
 }
 
-/// A copy of a letter that there may not be.
+/// Returns a clone of the letter, if there is one.
 fn copied(alloc: Global, letter: &Option<Letter>) -> Result<Option<Letter>, Memory>
     ensures { IfOk result (λ copy. copy ≡ letter.now) }
 {
@@ -69,7 +70,7 @@ fn copied(alloc: Global, letter: &Option<Letter>) -> Result<Option<Letter>, Memo
 }
 
 impl Notes {
-    /// Of a run that has done nothing yet.
+    /// Returns the notes of a run that has done nothing yet.
     pub(crate) fn new(alloc: Global, keeps: Keeps) -> Notes
         ensures keeps { result.keeps ≡ keeps }
         ensures none { result.steps.items ≡ [] }
@@ -127,7 +128,7 @@ impl Notes {
         }
     }
 
-    /// Notes that a letter is delivered again.
+    /// Notes the redelivery of a letter.
     pub(crate) fn redelivered(&mut self, worker: u32, letter: &Letter) -> Result<(), Memory>
         ensures { OnOk result (Noted self.old (redelivery worker letter.now ∷ []) self.new) }
     {
@@ -158,7 +159,7 @@ impl Notes {
     }
 }
 
-/// The letter that a step published, if it did.
+/// Returns the letter that a step published, if it did.
 fn published_in(did: Did) -> Option<Letter>
     ensures { option_to_list result ≡ sent_by (did_seen did).0 }
 {
@@ -168,7 +169,7 @@ fn published_in(did: Did) -> Option<Letter>
     }
 }
 
-/// Adds a letter that there may not be.
+/// Appends the letter, if there is one.
 fn push_some(letters: &mut Vec<Letter>, letter: Option<Letter>) -> Result<(), AllocError>
     ensures { OnOk result (letters.new.items ≡ letters.old.items ++ option_to_list letter) }
 {
@@ -178,7 +179,7 @@ fn push_some(letters: &mut Vec<Letter>, letter: Option<Letter>) -> Result<(), Al
     }
 }
 
-/// The letters that steps published, in their order.
+/// Returns the letters that steps published, in their order.
 pub(crate) fn letters_of(alloc: Global, steps: Vec<Step>) -> Result<Vec<Letter>, AllocError>
     ensures { IfOk result (λ letters. letters.items ≡ sent_in (map step_seen steps.items)) }
 {

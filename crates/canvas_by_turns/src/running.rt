@@ -6,17 +6,17 @@ ghost use Rattle.canvas_semantics.specs.States.{states};
 ghost use Rattle.canvas_history.specs.Table.{no_results};
 ghost use Rattle.canvas_backend.specs.Plain.{held};
 ghost use Rattle.canvas_history.specs.Roster.{roster_of};
-ghost use Rattle.canvas_turns.specs.Going.{most_steps};
+ghost use Rattle.canvas_turns.specs.Termination.{most_steps};
 ghost use Rattle.canvas_turns.specs.Turns.{Step, IsWorker};
 ghost use Rattle.canvas_by_turns.specs.Correct.{AreWorkers, AreTurns, IsAsked, IsWholeRun, IsWholeWithin, IsWholeAgain, IsRunFault, IsFaultWithin};
 ghost use Rattle.canvas_by_turns.specs.Noted.{IsStepped, step_seen};
 ghost use Rattle.canvas_by_turns.specs.Traced.{IsTraced};
 ghost use Rattle.canvas_by_turns.specs.steps.AgainRuns.{IsNotedWithin, IsAgainFault};
-ghost use Rattle.canvas_by_turns.specs.steps.Stages.{rows_of, Given, Reached, HasReached, IsNew, IsPartOfRound, IsHaltInRound, IsRunThrough, IsEarlyEnd};
+ghost use Rattle.canvas_by_turns.specs.steps.TurnRuns.{rows_of, Given, Reached, HasReached, IsNew, IsPartOfRound, IsHaltInRound, IsRunThrough, IsEarlyEnd};
 
 use crate::RunFault;
 use crate::notes::{Keeps, Step as NotedStep, letters_of};
-use crate::stage::Stage;
+use crate::turn_run::TurnRun;
 use canvas_core::Cause;
 use canvas_envelope::Letter;
 use canvas_report::Report;
@@ -26,27 +26,27 @@ use canvas_semantics::MOST_WORKERS;
 use canvas_task::{Fault, ListOf, Memory, Outcome, TaskNo, Tasks};
 use std::alloc::Global;
 
-/// A turn of each worker, from the first to the last. Whether an ask was answered.
+/// Takes a turn of each worker, from the first to the last. Returns whether an ask was answered.
 fn run_round<T: Tasks>(
     alloc: Global,
-    stage: &mut Stage,
+    turn_run: &mut TurnRun,
     plan: &Plan,
     tasks: &T,
     workers: u32,
 ) -> Result<bool, Cause>
     requires { (most : ℕ) × (given : Given) × (us : List ℕ)
-        × HasReached (T.behaviour tasks.now) plan.now workers most given us stage.old }
+        × HasReached (T.behaviour tasks.now) plan.now workers most given us turn_run.old }
     ensures ok { IfOk result (λ b. (most : ℕ) (given : Given) (us : List ℕ) (xs : List Step)
-        → Reached (T.behaviour tasks.now) plan.now workers most given us xs stage.old
+        → Reached (T.behaviour tasks.now) plan.now workers most given us xs turn_run.old
         → IsPartOfRound (T.behaviour tasks.now) b plan.now workers most given us xs workers
-        stage.old.steps stage.new) }
+        turn_run.old.steps turn_run.new) }
     ensures err { IfErr result (λ cause. (most : ℕ) (given : Given) (us : List ℕ) (xs : List Step)
-        → Reached (T.behaviour tasks.now) plan.now workers most given us xs stage.old
-        → IsHaltInRound (T.behaviour tasks.now) cause plan.now workers most given us stage.new) }
+        → Reached (T.behaviour tasks.now) plan.now workers most given us xs turn_run.old
+        → IsHaltInRound (T.behaviour tasks.now) cause plan.now workers most given us turn_run.new) }
 {
     let mut answered = false;
     for index in 0..workers {
-        match stage.turn(alloc, plan, tasks, index + 1) {
+        match turn_run.turn(alloc, plan, tasks, index + 1) {
             Ok(is_answered) => answered |= is_answered,
             Err(cause) => return Err(cause),
         }
@@ -54,28 +54,28 @@ fn run_round<T: Tasks>(
     Ok(answered)
 }
 
-/// The turns of a list.
+/// Takes the turns of a list.
 fn run_list<T: Tasks>(
     alloc: Global,
-    stage: &mut Stage,
+    turn_run: &mut TurnRun,
     plan: &Plan,
     tasks: &T,
     workers: u32,
     turns: &[u32],
 ) -> Result<(), Cause>
     requires reached { (most : ℕ) × (given : Given)
-        × Reached (T.behaviour tasks.now) plan.now workers most given [] [] stage.old }
+        × Reached (T.behaviour tasks.now) plan.now workers most given [] [] turn_run.old }
     requires turns { AreTurns workers turns.now }
     ensures ok { OnOk result ((most : ℕ) (given : Given)
-        → Reached (T.behaviour tasks.now) plan.now workers most given [] [] stage.old
-        → HasReached (T.behaviour tasks.now) plan.now workers most given turns.now stage.new) }
+        → Reached (T.behaviour tasks.now) plan.now workers most given [] [] turn_run.old
+        → HasReached (T.behaviour tasks.now) plan.now workers most given turns.now turn_run.new) }
     ensures err { IfErr result (λ cause. (most : ℕ) (given : Given)
-        → Reached (T.behaviour tasks.now) plan.now workers most given [] [] stage.old
+        → Reached (T.behaviour tasks.now) plan.now workers most given [] [] turn_run.old
         → IsEarlyEnd (T.behaviour tasks.now) cause plan.now workers most given turns.now
-        stage.new) }
+        turn_run.new) }
 {
     for worker in turns {
-        match stage.turn(alloc, plan, tasks, *worker) {
+        match turn_run.turn(alloc, plan, tasks, *worker) {
             Ok(_answered) => (),
             Err(cause) => return Err(cause),
         }
@@ -83,27 +83,27 @@ fn run_list<T: Tasks>(
     Ok(())
 }
 
-/// Turns in rotation, until all workers are at their ends.
+/// Takes turns in rotation, until all workers are at their ends.
 fn run_rounds<T: Tasks>(
     alloc: Global,
-    stage: &mut Stage,
+    turn_run: &mut TurnRun,
     plan: &Plan,
     tasks: &T,
     workers: u32,
     turns: &[u32],
 ) -> Result<(), Cause>
     requires { (most : ℕ) × (given : Given)
-        × HasReached (T.behaviour tasks.now) plan.now workers most given turns.now stage.old }
+        × HasReached (T.behaviour tasks.now) plan.now workers most given turns.now turn_run.old }
     ensures ok { OnOk result ((most : ℕ) (given : Given)
-        → HasReached (T.behaviour tasks.now) plan.now workers most given turns.now stage.old
-        → IsRunThrough (T.behaviour tasks.now) plan.now workers most given turns.now stage.new) }
+        → HasReached (T.behaviour tasks.now) plan.now workers most given turns.now turn_run.old
+        → IsRunThrough (T.behaviour tasks.now) plan.now workers most given turns.now turn_run.new) }
     ensures err { IfErr result (λ cause. (most : ℕ) (given : Given)
-        → HasReached (T.behaviour tasks.now) plan.now workers most given turns.now stage.old
+        → HasReached (T.behaviour tasks.now) plan.now workers most given turns.now turn_run.old
         → IsEarlyEnd (T.behaviour tasks.now) cause plan.now workers most given turns.now
-        stage.new) }
+        turn_run.new) }
 {
     loop {
-        match run_round(alloc, stage, plan, tasks, workers) {
+        match run_round(alloc, turn_run, plan, tasks, workers) {
             Ok(true) => (),
             Ok(false) => return Ok(()),
             Err(cause) => return Err(cause),
@@ -112,57 +112,59 @@ fn run_rounds<T: Tasks>(
 }
 
 /// Publishes the first messages, and runs.
-fn run_stage<T: Tasks>(
+fn run_through<T: Tasks>(
     alloc: Global,
-    stage: &mut Stage,
+    turn_run: &mut TurnRun,
     plan: &Plan,
     tasks: &T,
     workers: u32,
     turns: &[u32],
 ) -> Result<(), Cause>
     requires planned { IsPlan plan.now }
-    requires new { IsNew plan.now workers stage.old }
+    requires new { IsNew plan.now workers turn_run.old }
     requires turns { AreTurns workers turns.now }
-    ensures ok { OnOk result (IsRunThrough (T.behaviour tasks.now) plan.now workers stage.old.steps
-        (stage.old.again.items, stage.old.notes.keeps) turns.now stage.new) }
+    ensures ok { OnOk result (IsRunThrough (T.behaviour tasks.now) plan.now workers
+        turn_run.old.steps (turn_run.old.again.items, turn_run.old.notes.keeps) turns.now
+        turn_run.new) }
     ensures err { IfErr result (λ cause. IsEarlyEnd (T.behaviour tasks.now) cause plan.now workers
-        stage.old.steps (stage.old.again.items, stage.old.notes.keeps) turns.now stage.new) }
+        turn_run.old.steps (turn_run.old.again.items, turn_run.old.notes.keeps) turns.now
+        turn_run.new) }
 {
-    match stage.open(alloc, plan) {
-        Ok(()) => match run_list(alloc, stage, plan, tasks, workers, turns) {
-            Ok(()) => run_rounds(alloc, stage, plan, tasks, workers, turns),
+    match turn_run.open(alloc, plan) {
+        Ok(()) => match run_list(alloc, turn_run, plan, tasks, workers, turns) {
+            Ok(()) => run_rounds(alloc, turn_run, plan, tasks, workers, turns),
             Err(cause) => Err(cause),
         },
         Err(Memory) => Err(Cause::Memory),
     }
 }
 
-/// Rows that hold nothing yet, one for each task.
+/// Returns pending rows, one for each task.
 pub fn new_rows(alloc: Global, plan: &Plan) -> Result<Vec<Option<Outcome>>, Memory>
     ensures rows { IfOk result (λ rows. length rows.items ≡ count_line plan.now) }
     ensures pending { IfOk result (λ rows. All (λ s. s ≡ None) rows.items) }
     ensures planned { IsPlan plan.now }
 {
-    // A proof about rows is made only where the type of a failure's fault is named.
+    // A proof about rows is made only if the type of a failure's fault is named.
     let _none: Option<Fault> = None;
     Ok(Vec::from_elem(alloc, None, plan.tasks() as usize)?)
 }
 
-/// The report of a stage, whose rows were reserved.
-fn report_of(stage: &Stage, plan: &Plan, rows: Vec<Option<Outcome>>) -> Report
-    requires plan { stage.now.table.plan ≡ roster_of plan.now }
+/// Returns the report of a stage, whose rows were reserved.
+fn report_of(turn_run: &TurnRun, plan: &Plan, rows: Vec<Option<Outcome>>) -> Report
+    requires plan { turn_run.now.table.plan ≡ roster_of plan.now }
     requires rows { length rows.items ≡ count_line plan.now }
-    ensures { result.rows ≡ rows_of (count_line plan.now) (held stage.now.table) }
+    ensures { result.rows ≡ rows_of (count_line plan.now) (held turn_run.now.table) }
 {
     let mut rows = rows;
-    stage.read_rows(plan, &mut rows);
+    turn_run.read_rows(plan, &mut rows);
     Report {
         rows: ListOf::of(rows),
     }
 }
 
-/// What a run by turns leaves: its report, how many stores answered Again, and the steps that were
-/// to be noted.
+/// The result of a run by turns: its report, how many stores answered Again, and the steps that
+/// were to be noted.
 #[derive(Drop)]
 struct Ran {
     report: Report,
@@ -170,7 +172,7 @@ struct Ran {
     steps: Vec<NotedStep>,
 }
 
-/// Runs a plan, at most so many asks being answered.
+/// Runs a plan until `steps` asks are answered.
 fn run_steps<T: Tasks>(
     alloc: Global,
     plan: &Plan,
@@ -190,18 +192,18 @@ fn run_steps<T: Tasks>(
     let Ok(rows) = new_rows(alloc, plan) else {
         return Err(RunFault::halted(Cause::Memory));
     };
-    let Ok(mut stage) = Stage::new(alloc, plan, workers, again, steps, keeps) else {
+    let Ok(mut turn_run) = TurnRun::new(alloc, plan, workers, again, steps, keeps) else {
         return Err(RunFault::halted(Cause::Memory));
     };
-    match run_stage(alloc, &mut stage, plan, tasks, workers, turns) {
+    match run_through(alloc, &mut turn_run, plan, tasks, workers, turns) {
         Ok(()) => Ok(Ran {
-            report: report_of(&stage, plan, rows),
-            repeats: stage.repeats(),
-            steps: stage.into_steps(),
+            report: report_of(&turn_run, plan, rows),
+            repeats: turn_run.repeats(),
+            steps: turn_run.into_steps(),
         }),
         Err(cause) => Err(RunFault::Halted {
             cause,
-            rows: Some(report_of(&stage, plan, rows)),
+            rows: Some(report_of(&turn_run, plan, rows)),
         }),
     }
 }
@@ -212,7 +214,7 @@ fn are_turns(turns: &[u32], workers: u32) -> bool
     turns.iter().all(|turn| *turn >= 1 && *turn <= workers)
 }
 
-/// Checks what is asked for, then runs.
+/// Checks the workers and the turns, then runs.
 fn run_checked<T: Tasks>(
     alloc: Global,
     plan: &Plan,
@@ -239,7 +241,11 @@ fn run_checked<T: Tasks>(
     }
 }
 
-/// One more than the asks that a run of the plan may have.
+/// Returns one more than the most asks that a run of the plan may have.
+///
+/// With this bound no run is stopped: each task is published, taken, stored and its part returned
+/// at most once, and in rotation one of each two rounds has such a call, until all have ended. The
+/// bound is quadratic in the tasks, as `most_steps` is.
 fn more_than_all(plan: &Plan, workers: u32, turns: &[u32], again: &[(TaskNo, When)]) -> u128
     ensures value { result
         ≡ suc (most_steps plan.now workers (length turns.now) (length again.now)) }
@@ -251,7 +257,7 @@ fn more_than_all(plan: &Plan, workers: u32, turns: &[u32], again: &[(TaskNo, Whe
     turns.len() as u128 + product(2 * (calls + 1), workers as u128) + entries + 1
 }
 
-/// A function for its contract's sake: its bounds say that the product fits.
+/// Multiplies. It is a function for its contract's sake: its bounds say that the product fits.
 fn product(left: u128, right: u128) -> u128
     requires left { left < 2 ^ 80 }
     requires right { right < 2 ^ 40 }
@@ -261,9 +267,9 @@ fn product(left: u128, right: u128) -> u128
     left * right
 }
 
-/// Runs a plan with 1 to 16 workers on one thread. Each turn lets that worker have one ask
-/// answered; after the list the workers take turns in rotation from 1, until all are at their ends.
-/// A worker at its end skips its turn.
+/// Runs a plan with 1 to 16 workers on one thread. Each turn lets its worker have one ask answered;
+/// after the list the workers take turns in rotation from 1, until all are at their ends. A worker
+/// at its end skips its turn.
 pub fn run_turns<T: Tasks>(
     alloc: Global,
     plan: &Plan,
@@ -282,11 +288,11 @@ pub fn run_turns<T: Tasks>(
     }
 }
 
-/// As `run_turns`, but envelopes are delivered again where `again` says so: a worker whose message
-/// has come to a point, before its first store or before its acknowledgement, spends the first
-/// unspent entry for its task and that point, and has a copy of its envelope published within the
-/// same turn, before its ask is answered. An entry for a task that isn't run does nothing. With the
-/// report it tells how many stores answered Again.
+/// Like `run_turns`, but redelivers envelopes as `again` says: a worker whose message has reached a
+/// point, before its first store or before its acknowledgement, spends the first unspent entry for
+/// its task and that point, and publishes a clone of its envelope within the same turn, before its
+/// ask is answered. An entry for a task that isn't run does nothing. Also returns how many stores
+/// answered Again.
 pub fn run_turns_again<T: Tasks>(
     alloc: Global,
     plan: &Plan,
@@ -317,9 +323,9 @@ pub fn run_turns_again<T: Tasks>(
     }
 }
 
-/// As `run_turns`. With the report it gives a copy of each letter that was published, in the order
-/// in which they were: those of the tasks that start at once, and what each turn published. They
-/// share their texts as the run's own do.
+/// Like `run_turns`. Also returns a clone of each letter that was published, in their order: those
+/// of the tasks that start at once, and what each turn published. They share their texts as the
+/// run's own do.
 pub fn run_turns_traced<T: Tasks>(
     alloc: Global,
     plan: &Plan,
@@ -343,9 +349,9 @@ pub fn run_turns_traced<T: Tasks>(
     }
 }
 
-/// As `run_turns_again`. Behind the report and the number of stores that answered Again it gives
-/// the steps of the run, in their order: the first messages, which worker 0 publishes, and then
-/// what each step of a worker was. Their letters share their texts as the run's own do.
+/// Like `run_turns_again`. Also returns the steps of the run, in their order: the first messages,
+/// which worker 0 publishes, and then each step of a worker. Their letters share their texts as the
+/// run's own do.
 pub fn run_turns_stepped<T: Tasks>(
     alloc: Global,
     plan: &Plan,
@@ -367,8 +373,10 @@ pub fn run_turns_stepped<T: Tasks>(
     }
 }
 
-/// As `run_turns`, but halted, as stopped, once `steps` asks have been answered and some worker
-/// isn't at its end.
+/// Like `run_turns`, but is halted, as stopped, once `steps` asks have been answered and some
+/// worker isn't at its end.
+///
+/// Takes that find nothing and rests count, though no history has them.
 pub fn run_turns_within<T: Tasks>(
     alloc: Global,
     plan: &Plan,

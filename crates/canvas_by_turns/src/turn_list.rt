@@ -9,7 +9,7 @@ use canvas_lists::ListFault;
 use std::alloc::Global;
 
 /// Reads a list of turns: decimal numbers of workers with a single comma between two, without
-/// signs, spaces or leading zeros. The empty text is no turns. A refused growth is `Halted` with no
+/// signs, spaces or leading zeros. The empty text has no turns. Refused memory is `Halted` with no
 /// rows.
 pub fn read_turns(alloc: Global, text: &str, workers: u32) -> Result<Vec<u32>, RunFault>
     ensures ok { IfOk result (λ turns. IsTurnList workers text.now turns.items) }

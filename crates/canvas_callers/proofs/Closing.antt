@@ -11,14 +11,14 @@ use Rattle.canvas_runs.specs.Following.{Pass, Seat, Serves}
 use Rattle.canvas_runs.specs.Calls.{TableAnswered, backend_calls}
 use Rattle.canvas_history.specs.Lists.{Each}
 use Rattle.canvas_runs.specs.Run.{IsRead}
-use Rattle.canvas_callers.specs.Crew.{Ran, ReadsWhatIsHeld, first_seat}
+use Rattle.canvas_callers.specs.CallerRuns.{Ran, ReadsWhatIsHeld, first_seat}
 use Rattle.canvas_callers.proofs.Seats.{ledger}
 
 module _ (plan : Roster) where
   same_read : (x y : Option Outcome) → ◌≡◌ {A = TableReply} (found x) (found y) → x ≡ y
   same_read x y e = cc
 
-  -- alone, reads answer what is held, and leave it
+  -- if no other caller is live, reads answer what the table holds, and leave it
   reads_alone : (s t : Seat) (cs : List TableAnswered) → s.name ≡ 0 → Sole s.seen 0 → Each IsRead cs → Serves plan s cs t
       → (results plan t.seen ≡ results plan s.seen) × Each (ReadsWhatIsHeld (results plan s.seen)) cs
   reads_alone s t [] n a i m = (ap (λ (x : Seat). results plan x.seen) m, tt)
@@ -38,7 +38,7 @@ module _ (plan : Roster) where
 module _ (behaviour : Behaviour) (l : Line) (pass : Pass) (seat : Seat) (r : Ran behaviour l pass seat) where
   pub closing_held : Each (ReadsWhatIsHeld (results (roster_of l) seat.seen)) r.closing
   closing_held =
-      let own = ledger behaviour (roster_of l) (first_seat r.table) r.seat_parted r.seat_joined r.own.seat r.mates
+      let own = ledger behaviour (roster_of l) (first_seat r.table) r.seat_parted r.seat_joined r.own.seat r.callers
       (backend_calls r.works.run) refl refl r.seat_splits r.seat_joins r.works.serves in
       let both = reads_alone (roster_of l) r.own.seat seat r.closing own.0 own.1.sole r.closes r.ends in
       subst (λ w. Each (ReadsWhatIsHeld w) r.closing) (sym both.0) both.1

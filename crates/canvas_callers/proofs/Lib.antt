@@ -1,10 +1,10 @@
 pub mod Numbers
 pub mod Passes
 pub mod Seats
-pub mod FromCrew
+pub mod FromCallerRuns
 pub mod Closing
 pub mod Snoc
 pub mod Rows
 pub mod Tallies
-pub mod Mates
+pub mod CallerRunLists
 pub mod Witness

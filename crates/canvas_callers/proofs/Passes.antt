@@ -13,8 +13,8 @@ use Rattle.canvas_history.specs.Callers.{Owes}
 use Rattle.canvas_history.specs.Answers.{entries_by, splits_of, joins_of}
 use Rattle.canvas_runs.specs.Following.{Pass, Makes}
 use Rattle.canvas_runs.specs.Calls.{QueueAnswered}
-use Rattle.canvas_callers.specs.Accounts.{HasQueueCalls, QueueAccounts}
-use Rattle.canvas_callers.specs.Crew.{Mate, SplitPasses, JoinPasses, numbers_along}
+use Rattle.canvas_callers.specs.PerCaller.{HasQueueCalls, QueuePerCaller}
+use Rattle.canvas_callers.specs.CallerRuns.{CallerRun, SplitPasses, JoinPasses, numbers_along}
 use Rattle.canvas_callers.proofs.Numbers.{NoZero, starts_same, starts_then, others_start, live_splits, live_joins, named_splits, named_joins, off_joins, here_joins, number_of_split, one_more}
 
 made_none : (p : ℕ) (cs : List ℕ) (xs : List (Entries Envelope)) → In p cs → NoneBy cs xs → made_by p xs ≡ []
@@ -27,7 +27,7 @@ made_since p cs log seen i s =
     ap (λ l. made_by p l) s.1 ∙ (made_append p seen s.0 ∙ (ap (λ l. made_by p seen ++ l) (made_none p cs s.0 i s.2) ∙ append-nil (made_by p seen)))
 
 module _ (behaviour : Behaviour) where
-  abbrev names_of : {l : Roster} → List (Mate behaviour l) → List ℕ
+  abbrev names_of : {l : Roster} → List (CallerRun behaviour l) → List ℕ
   names_of [] = []
   names_of (h ∷ hs) = h.pass.name ∷ names_of hs
 
@@ -64,22 +64,23 @@ makes n p q es (c ∷ cs) a m =
     (makes n m.0 q (es ++ calls n c.0 c.1 ∷ []) cs two m.2)
 
 module _ (behaviour : Behaviour) where
-  abbrev pub passes_of : {l : Roster} → List (Mate behaviour l) → List Pass
-  passes_of {l} ms = map (λ (m : Mate behaviour l). m.pass) ms
+  abbrev pub passes_of : {l : Roster} → List (CallerRun behaviour l) → List Pass
+  passes_of {l} ms = map (λ (m : CallerRun behaviour l). m.pass) ms
 
-  abbrev pub left_of : {l : Roster} → List (Mate behaviour l) → List Pass
-  left_of {l} ms = map (λ (m : Mate behaviour l). m.ended.pass) ms
+  abbrev pub left_of : {l : Roster} → List (CallerRun behaviour l) → List Pass
+  left_of {l} ms = map (λ (m : CallerRun behaviour l). m.ended.pass) ms
 
 module _ (behaviour : Behaviour) (plan : Roster) where
   -- of a pass that was just made
-  abbrev Fresh : Mate behaviour plan → Type 0
+  abbrev Fresh : CallerRun behaviour plan → Type 0
   Fresh h = At h.pass.name h.pass [] × ((h.pass.name == 0) ≡ false)
 
-  abbrev AllFresh : List (Mate behaviour plan) → Type 0
+  abbrev AllFresh : List (CallerRun behaviour plan) → Type 0
   AllFresh [] = Unit {0}
   AllFresh (h ∷ hs) = Fresh h × AllFresh hs
 
-  parted : (p p' : Pass) (es : List (Entries Envelope)) (h : Mate behaviour plan) → At 0 p es → Parted p p' h.pass → At 0 p' (es ++ split 0 h.pass.name ∷ [])
+  parted : (p p' : Pass) (es : List (Entries Envelope)) (h : CallerRun behaviour plan) → At 0 p es → Parted p p' h.pass
+      → At 0 p' (es ++ split 0 h.pass.name ∷ [])
       × Fresh h
   parted p p' es h a s =
       let q : ℕ = h.pass.name in
@@ -104,7 +105,7 @@ module _ (behaviour : Behaviour) (plan : Roster) where
         ),
       )
 
-  splits : (p p' : Pass) (es : List (Entries Envelope)) (hs : List (Mate behaviour plan)) → At 0 p es → SplitPasses p (passes_of behaviour hs) p'
+  splits : (p p' : Pass) (es : List (Entries Envelope)) (hs : List (CallerRun behaviour plan)) → At 0 p es → SplitPasses p (passes_of behaviour hs) p'
       → At 0 p' (es ++ splits_of (names_of behaviour hs)) × AllFresh hs
   splits p p' es [] a s = (subst (λ x. At 0 x (es ++ [])) (sym s) (subst (λ l. At 0 p l) (sym (append-nil es)) a), tt)
   splits p p' es (h ∷ hs) a s =
@@ -113,11 +114,11 @@ module _ (behaviour : Behaviour) (plan : Roster) where
       (subst (λ l. At 0 p' l) (append_assoc es (split 0 h.pass.name ∷ []) (splits_of (names_of behaviour hs))) two.0, (one.1, two.1))
 
   -- worker 0 has taken in some, and owes their joins
-  abbrev Keeps : Pass → List (Mate behaviour plan) → Type 0
+  abbrev Keeps : Pass → List (CallerRun behaviour plan) → Type 0
   Keeps p [] = Unit {0}
   Keeps p (h ∷ hs) = In h.pass.name p.mine × (made_by h.pass.name p.seen ≡ entries_by h.pass.name h.followed.made) × Keeps p hs
 
-  record Held (p : Pass) (es : List (Entries Envelope)) (hs : List (Mate behaviour plan)) : Type 0 where
+  record Held (p : Pass) (es : List (Entries Envelope)) (hs : List (CallerRun behaviour plan)) : Type 0 where
     name : p.name ≡ 0
     here : In 0 p.mine
     owed : p.owed ≡ joins_of (names_of behaviour hs)
@@ -126,7 +127,8 @@ module _ (behaviour : Behaviour) (plan : Roster) where
     keeps : Keeps p hs
     history : IsLegal (p.seen ++ p.owed)
 
-  keeps_on : (p p' : Pass) (ds : List ℕ) (hs : List (Mate behaviour plan)) → Since p.mine p'.seen p.seen → p'.mine ≡ p.mine ++ ds → Keeps p hs → Keeps p' hs
+  keeps_on : (p p' : Pass) (ds : List ℕ) (hs : List (CallerRun behaviour plan)) → Since p.mine p'.seen p.seen → p'.mine ≡ p.mine ++ ds → Keeps p hs
+      → Keeps p' hs
   keeps_on p p' ds [] s m k = tt
   keeps_on p p' ds (h ∷ hs) s m k = (
     subst (λ l. In h.pass.name l) (sym m) (in_left h.pass.name p.mine ds k.0),
@@ -134,16 +136,16 @@ module _ (behaviour : Behaviour) (plan : Roster) where
     keeps_on p p' ds hs s m k.2,
   )
 
-  keeps_snoc : (p : Pass) (hs : List (Mate behaviour plan)) (h : Mate behaviour plan) → Keeps p hs → Keeps p (h ∷ []) → Keeps p (hs ++ h ∷ [])
+  keeps_snoc : (p : Pass) (hs : List (CallerRun behaviour plan)) (h : CallerRun behaviour plan) → Keeps p hs → Keeps p (h ∷ []) → Keeps p (hs ++ h ∷ [])
   keeps_snoc p [] h k l = l
   keeps_snoc p (g ∷ hs) h k l = (k.0, k.1, keeps_snoc p hs h k.2 l)
 
-  names_snoc : (hs : List (Mate behaviour plan)) (h : Mate behaviour plan)
+  names_snoc : (hs : List (CallerRun behaviour plan)) (h : CallerRun behaviour plan)
       → ◌≡◌ {A = List (Entries Envelope)} (joins_of (names_of behaviour (hs ++ h ∷ []))) (joins_of (names_of behaviour hs) ++ join 0 h.pass.name ∷ [])
   names_snoc [] h = refl
   names_snoc (g ∷ hs) h = ap (λ l. join 0 g.pass.name ∷ l) (names_snoc hs h)
 
-  joined : (p p' : Pass) (es : List (Entries Envelope)) (hs : List (Mate behaviour plan)) (h : Mate behaviour plan) → Held p es hs → Fresh h
+  joined : (p p' : Pass) (es : List (Entries Envelope)) (hs : List (CallerRun behaviour plan)) (h : CallerRun behaviour plan) → Held p es hs → Fresh h
       → Owes p h.ended.pass p' → IsHistory p' → Held p' es (hs ++ h ∷ [])
   joined p p' es hs h k f j y =
       let n : ℕ = h.pass.name in
@@ -168,7 +170,7 @@ module _ (behaviour : Behaviour) (plan : Roster) where
         history = y;
       }
 
-  joins : (p p' : Pass) (es : List (Entries Envelope)) (gs hs : List (Mate behaviour plan)) → Held p es gs → AllFresh hs
+  joins : (p p' : Pass) (es : List (Entries Envelope)) (gs hs : List (CallerRun behaviour plan)) → Held p es gs → AllFresh hs
       → JoinPasses p (left_of behaviour hs) p' → Held p' es (gs ++ hs)
   joins p p' es gs [] k f j = subst (λ l. Held p' es l) (sym (append-nil gs)) (subst (λ x. Held x es gs) (sym j) k)
   joins p p' es gs (h ∷ hs) k f j =
@@ -187,7 +189,7 @@ module _ (behaviour : Behaviour) (plan : Roster) where
   live_calls cs [] = refl
   live_calls cs (d ∷ ds) = live_calls cs ds
 
-  no_zero : (hs : List (Mate behaviour plan)) → AllFresh hs → NoZero (names_of behaviour hs)
+  no_zero : (hs : List (CallerRun behaviour plan)) → AllFresh hs → NoZero (names_of behaviour hs)
   no_zero [] f = tt
   no_zero (h ∷ hs) f = (f.0.1, no_zero hs f.1)
 
@@ -195,7 +197,7 @@ module _ (behaviour : Behaviour) (plan : Roster) where
   only_entries n [] = tt
   only_entries n (c ∷ cs) = only_entries n cs
 
-  quiet : (p : Pass) (hs : List (Mate behaviour plan)) → Keeps p hs → (c : ℕ) → In c (names_of behaviour hs) → OnlyCalls (made_by c p.seen)
+  quiet : (p : Pass) (hs : List (CallerRun behaviour plan)) → Keeps p hs → (c : ℕ) → In c (names_of behaviour hs) → OnlyCalls (made_by c p.seen)
   quiet p [] k c i = absurd (false≢true i)
   quiet p (h ∷ hs) k c i =
       ⊎_elim (λ (e : h.pass.name ≡ c). subst (λ x. OnlyCalls (made_by x p.seen)) e
@@ -203,11 +205,11 @@ module _ (behaviour : Behaviour) (plan : Roster) where
       (λ u. quiet p hs k.2 c u) (in_cases c h.pass.name (names_of behaviour hs) i)
 
   -- of each worker the list has just its calls
-  abbrev HasNamed : List (Entries Envelope) → List (Mate behaviour plan) → Type 0
+  abbrev HasNamed : List (Entries Envelope) → List (CallerRun behaviour plan) → Type 0
   HasNamed log [] = Unit {0}
   HasNamed log (h ∷ hs) = (made_by h.pass.name log ≡ entries_by h.pass.name h.followed.made) × HasNamed log hs
 
-  has_named : (p : Pass) (hs : List (Mate behaviour plan)) → Keeps p hs → HasNamed p.seen hs
+  has_named : (p : Pass) (hs : List (CallerRun behaviour plan)) → Keeps p hs → HasNamed p.seen hs
   has_named p [] k = tt
   has_named p (h ∷ hs) k = (k.1, has_named p hs k.2)
 
@@ -226,7 +228,7 @@ module _ (behaviour : Behaviour) (plan : Roster) where
   joins_start p p' (q ∷ qs) j = starts_then p'.seen j.0.seen p.seen (joins_start j.0 p' qs j.3) (j.1.4.0, j.1.4.1)
 
   -- the workers' numbers are those from 1 on
-  numbered : (whole : List (Entries Envelope)) (p p' : Pass) (es : List (Entries Envelope)) (hs : List (Mate behaviour plan)) → At 0 p es
+  numbered : (whole : List (Entries Envelope)) (p p' : Pass) (es : List (Entries Envelope)) (hs : List (CallerRun behaviour plan)) → At 0 p es
       → SplitPasses p (passes_of behaviour hs) p' → OthersCall whole → StartsWith whole p'.seen
       → names_of behaviour hs ≡ numbers_along (suc (length (split_off es))) hs
   numbered whole p p' es [] a s o f = refl
@@ -239,7 +241,7 @@ module _ (behaviour : Behaviour) (plan : Roster) where
       let rest = numbered whole s.0 p' (es ++ split 0 q ∷ []) hs one.0 s.2 o f in
       ap (λ k. k ∷ names_of behaviour hs) name ∙ ap (λ l. suc (length (split_off es)) ∷ l) (rest ∙ ap (λ n. numbers_along (suc n) hs) (one_more es q))
 
-  record Gathered (p : Pass) (hs : List (Mate behaviour plan)) (first : List (QueueAnswered Envelope)) : Type 0 where
+  record Gathered (p : Pass) (hs : List (CallerRun behaviour plan)) (first : List (QueueAnswered Envelope)) : Type 0 where
     name : p.name ≡ 0
     owed : p.owed ≡ joins_of (names_of behaviour hs)
     own : made_by 0 p.seen ≡ splits_of (names_of behaviour hs) ++ entries_by 0 first
@@ -250,8 +252,8 @@ module _ (behaviour : Behaviour) (plan : Roster) where
     numbers_are : names_of behaviour hs ≡ numbers_along 1 hs
     some : NoZero (names_of behaviour hs)
 
-  -- from the call clauses alone
-  gathered : (p0 p1 p2 p3 : Pass) (hs : List (Mate behaviour plan)) (first : List (QueueAnswered Envelope))
+  -- only from the call clauses
+  gathered : (p0 p1 p2 p3 : Pass) (hs : List (CallerRun behaviour plan)) (first : List (QueueAnswered Envelope))
       → p0.name ≡ 0 → p0.mine ≡ 0 ∷ [] → p0.seen ≡ [] → p0.owed ≡ []
       → SplitPasses p0 (passes_of behaviour hs) p1 → Makes p1 first p2 → JoinPasses p2 (left_of behaviour hs) p3 → Gathered p3 hs first
   gathered p0 p1 p2 p3 hs first n m s o sp mk jn =
@@ -289,7 +291,7 @@ module _ (behaviour : Behaviour) (plan : Roster) where
         some = no_zero hs made.1;
       }
 
-  -- alone, worker 0 adds its calls and nothing comes between
+  -- as the only live caller, worker 0 adds its calls and nothing comes between
   alone_on : (p q : Pass) (cs : List (QueueAnswered Envelope)) → p.name ≡ 0 → Sole (p.seen ++ p.owed) 0 → IsLegal (p.seen ++ p.owed) → Makes p cs q
       → (q.seen ++ q.owed ≡ (p.seen ++ p.owed) ++ entries_by 0 cs) × (q.name ≡ 0) × Sole (q.seen ++ q.owed) 0 × IsLegal (q.seen ++ q.owed)
   alone_on p q [] n s y m = (
@@ -324,7 +326,7 @@ module _ (behaviour : Behaviour) (plan : Roster) where
   here_entries (c ∷ cs) = made_here 0 (calls 0 c.0 c.1) (entries_by 0 cs) refl
       ∙ ap (λ l. calls 0 c.0 c.1 ∷ l) (here_entries cs)
 
-  each_still : (seen : List (Entries Envelope)) (qs : List ℕ) (cs : List (QueueAnswered Envelope)) (hs : List (Mate behaviour plan))
+  each_still : (seen : List (Entries Envelope)) (qs : List ℕ) (cs : List (QueueAnswered Envelope)) (hs : List (CallerRun behaviour plan))
       → NoZero (names_of behaviour hs) → HasNamed seen hs → HasNamed ((seen ++ joins_of qs) ++ entries_by 0 cs) hs
   each_still seen qs cs [] z h = tt
   each_still seen qs cs (g ∷ hs) z h =
@@ -335,7 +337,7 @@ module _ (behaviour : Behaviour) (plan : Roster) where
         each_still seen qs cs hs z.1 h.1,
       )
 
-  each_numbered : (log : List (Entries Envelope)) (k : ℕ) (hs : List (Mate behaviour plan)) → names_of behaviour hs ≡ numbers_along k hs → HasNamed log hs
+  each_numbered : (log : List (Entries Envelope)) (k : ℕ) (hs : List (CallerRun behaviour plan)) → names_of behaviour hs ≡ numbers_along k hs → HasNamed log hs
       → HasQueueCalls behaviour plan k hs log
   each_numbered log k [] e h = tt
   each_numbered log k (g ∷ hs) e h =
@@ -344,10 +346,10 @@ module _ (behaviour : Behaviour) (plan : Roster) where
       (subst (λ n. made_by n log ≡ entries_by n g.followed.made) same h.0, each_numbered log (suc k) hs more h.1)
 
   -- the whole list: worker 0 works on by itself
-  pub accounts : (p0 p1 p2 p3 q : Pass) (hs : List (Mate behaviour plan)) (first last : List (QueueAnswered Envelope))
+  pub accounts : (p0 p1 p2 p3 q : Pass) (hs : List (CallerRun behaviour plan)) (first last : List (QueueAnswered Envelope))
       → p0.name ≡ 0 → p0.mine ≡ 0 ∷ [] → p0.seen ≡ [] → p0.owed ≡ []
       → SplitPasses p0 (passes_of behaviour hs) p1 → Makes p1 first p2 → JoinPasses p2 (left_of behaviour hs) p3 → Makes p3 last q
-      → (q.name ≡ 0) × QueueAccounts behaviour plan hs first last (q.seen ++ q.owed)
+      → (q.name ≡ 0) × QueuePerCaller behaviour plan hs first last (q.seen ++ q.owed)
   accounts p0 p1 p2 p q hs first last n m s o sp mk jn mq =
       let k = gathered p0 p1 p2 p hs first n m s o sp mk jn in
       let a = alone_on p q last k.name k.sole k.history mq in

@@ -10,13 +10,13 @@ use Rattle.canvas_history.specs.Table.{Results, results}
 use Rattle.canvas_history.specs.Roster.{roster_of}
 use Rattle.canvas_runs.specs.Following.{Pass, Seat}
 use Rattle.canvas_history.specs.Lists.{Each}
-use Rattle.canvas_callers.specs.Crew.{ReadsWhatIsHeld}
+use Rattle.canvas_callers.specs.CallerRuns.{ReadsWhatIsHeld}
 use Rattle.canvas_callers.specs.Rows.{reads_from, RanTo, RanWell}
 use Rattle.canvas_semantics.specs.States.{EachMay}
 use Rattle.canvas_runs.proofs.Laws.FirstLaw.{first_part}
 use Rattle.canvas_runs.proofs.Laws.SecondLaw.{second_part}
 use Rattle.canvas_callers.proofs.Closing.{closing_held}
-use Rattle.canvas_callers.proofs.FromCrew.{the_run, the_closed}
+use Rattle.canvas_callers.proofs.FromCallerRuns.{the_run, the_closed}
 
 module _ (s : Results) (f : ℕ → State) where
   rows_are : ((t : ℕ) → s.outcomes t ≡ f t) → (k : ℕ) (rows : List State) → Each (ReadsWhatIsHeld s) (reads_from k rows)

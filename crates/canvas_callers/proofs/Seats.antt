@@ -12,23 +12,23 @@ use Rattle.canvas_history.specs.Callers.{Caller}
 use Rattle.canvas_history.specs.Answers.{entries_by, splits_of, joins_of}
 use Rattle.canvas_runs.specs.Following.{Seat, Serves}
 use Rattle.canvas_runs.specs.Calls.{TableAnswered, backend_calls}
-use Rattle.canvas_callers.specs.Accounts.{HasTableCalls, TableAccounts}
-use Rattle.canvas_callers.specs.Crew.{Mate, SplitSeats, JoinSeats, numbers_along}
+use Rattle.canvas_callers.specs.PerCaller.{HasTableCalls, TablePerCaller}
+use Rattle.canvas_callers.specs.CallerRuns.{CallerRun, SplitSeats, JoinSeats, numbers_along}
 use Rattle.canvas_callers.proofs.Numbers.{NoZero, starts_same, starts_then, others_start, joined_append, live_splits, live_joins, named_splits, named_joins, number_of_split, one_more, gone_quiet}
 
 abbrev Row : Type 0
 Row = Entry TableCall TableReply
 
 module _ (behaviour : Behaviour) where
-  abbrev names_of : {l : Roster} → List (Mate behaviour l) → List ℕ
+  abbrev names_of : {l : Roster} → List (CallerRun behaviour l) → List ℕ
   names_of [] = []
   names_of (h ∷ hs) = h.seat.name ∷ names_of hs
 
-  abbrev pub seats_of : {l : Roster} → List (Mate behaviour l) → List Seat
-  seats_of {l} ms = map (λ (m : Mate behaviour l). m.seat) ms
+  abbrev pub seats_of : {l : Roster} → List (CallerRun behaviour l) → List Seat
+  seats_of {l} ms = map (λ (m : CallerRun behaviour l). m.seat) ms
 
-  abbrev pub left_of : {l : Roster} → List (Mate behaviour l) → List Seat
-  left_of {l} ms = map (λ (m : Mate behaviour l). m.ended.seat) ms
+  abbrev pub left_of : {l : Roster} → List (CallerRun behaviour l) → List Seat
+  left_of {l} ms = map (λ (m : CallerRun behaviour l). m.ended.seat) ms
 
 module _ (plan : Roster) where
   -- the seat of caller n, whose own entries are these
@@ -108,18 +108,18 @@ module _ (behaviour : Behaviour) (plan : Roster) where
   abbrev P : Roster
   P = plan
 
-  abbrev its_calls : Mate behaviour plan → List TableAnswered
+  abbrev its_calls : CallerRun behaviour plan → List TableAnswered
   its_calls h = backend_calls h.followed.run
 
   -- of a seat that was just made
-  abbrev Fresh : Mate behaviour plan → Type 0
+  abbrev Fresh : CallerRun behaviour plan → Type 0
   Fresh h = At P h.seat.name h.seat [] × ((h.seat.name == 0) ≡ false)
 
-  abbrev AllFresh : List (Mate behaviour plan) → Type 0
+  abbrev AllFresh : List (CallerRun behaviour plan) → Type 0
   AllFresh [] = Unit {0}
   AllFresh (h ∷ hs) = Fresh h × AllFresh hs
 
-  parted : (s s' : Seat) (es : Log) (h : Mate behaviour plan) → At P 0 s es → Parted P s s' h.seat → At P 0 s' (es ++ split 0 h.seat.name ∷ []) × Fresh h
+  parted : (s s' : Seat) (es : Log) (h : CallerRun behaviour plan) → At P 0 s es → Parted P s s' h.seat → At P 0 s' (es ++ split 0 h.seat.name ∷ []) × Fresh h
   parted s s' es h a c =
       let q : ℕ = h.seat.name in
       let e : Row = split s.name q in
@@ -128,7 +128,8 @@ module _ (behaviour : Behaviour) (plan : Roster) where
       let legal : IsLegal P ((s.seen ++ x.0) ++ e ∷ []) = subst (λ l. IsLegal P l) shape x.3 in
       let ok = (legal_right no_results (reply_of P) next_of (May P) [] (s.seen ++ x.0) (e ∷ []) legal).0 in
       let apart : (s.name == q) ≡ false = ne_eqb s.name q (λ z. false≢true (sym ok.1 ∙ eq-eqb q 0 (sym z ∙ a.name))) in
-      let own : made_by q s'.seen ≡ [] = ap (λ l. made_by q l) shape ∙ fresh_at no_results (reply_of P) next_of (May P) s.name q (s.seen ++ x.0) legal apart in (
+      let own : made_by q s'.seen ≡ [] = ap (λ l. made_by q l) shape
+      ∙ fresh_at no_results (reply_of P) next_of (May P) s.name q (s.seen ++ x.0) legal apart in (
         subst (λ k. At P 0 s' (es ++ split k q ∷ [])) a.name (stands P 0 s s' es e a a.name c.0),
         (
           record {
@@ -140,7 +141,7 @@ module _ (behaviour : Behaviour) (plan : Roster) where
         ),
       )
 
-  splits : (s s' : Seat) (es : Log) (hs : List (Mate behaviour plan)) → At P 0 s es → SplitSeats P s (seats_of behaviour hs) s'
+  splits : (s s' : Seat) (es : Log) (hs : List (CallerRun behaviour plan)) → At P 0 s es → SplitSeats P s (seats_of behaviour hs) s'
       → At P 0 s' (es ++ splits_of (names_of behaviour hs)) × AllFresh hs
   splits s s' es [] a c = (subst (λ x. At P 0 x (es ++ [])) (sym c) (subst (λ l. At P 0 s l) (sym (append-nil es)) a), tt)
   splits s s' es (h ∷ hs) a c =
@@ -149,11 +150,11 @@ module _ (behaviour : Behaviour) (plan : Roster) where
       (subst (λ l. At P 0 s' l) (append_assoc es (split 0 h.seat.name ∷ []) (splits_of (names_of behaviour hs))) two.0, (one.1, two.1))
 
   -- worker 0 has taken in some
-  abbrev Keeps : Log → List (Mate behaviour plan) → Type 0
+  abbrev Keeps : Log → List (CallerRun behaviour plan) → Type 0
   Keeps log [] = Unit {0}
   Keeps log (h ∷ hs) = In h.seat.name (joined_of log) × (made_by h.seat.name log ≡ entries_by h.seat.name (its_calls h)) × Keeps log hs
 
-  keeps_on : (log more : Log) (hs : List (Mate behaviour plan)) → IsLegal P log → IsLegal P more → StartsWith more log → Keeps log hs → Keeps more hs
+  keeps_on : (log more : Log) (hs : List (CallerRun behaviour plan)) → IsLegal P log → IsLegal P more → StartsWith more log → Keeps log hs → Keeps more hs
   keeps_on log more [] l m s k = tt
   keeps_on log more (h ∷ hs) l m s k =
       let n : ℕ = h.seat.name in
@@ -164,11 +165,11 @@ module _ (behaviour : Behaviour) (plan : Roster) where
         keeps_on log more hs l m s k.2,
       )
 
-  keeps_snoc : (log : Log) (hs : List (Mate behaviour plan)) (h : Mate behaviour plan) → Keeps log hs → Keeps log (h ∷ []) → Keeps log (hs ++ h ∷ [])
+  keeps_snoc : (log : Log) (hs : List (CallerRun behaviour plan)) (h : CallerRun behaviour plan) → Keeps log hs → Keeps log (h ∷ []) → Keeps log (hs ++ h ∷ [])
   keeps_snoc log [] h k l = l
   keeps_snoc log (g ∷ hs) h k l = (k.0, k.1, keeps_snoc log hs h k.2 l)
 
-  joined : (s s' : Seat) (es : Log) (hs : List (Mate behaviour plan)) (h : Mate behaviour plan) → At P 0 s es → Keeps s.seen hs → Fresh h
+  joined : (s s' : Seat) (es : Log) (hs : List (CallerRun behaviour plan)) (h : CallerRun behaviour plan) → At P 0 s es → Keeps s.seen hs → Fresh h
       → Joined P s h.ended.seat s'
       → At P 0 s' (es ++ join 0 h.seat.name ∷ []) × Keeps s'.seen (hs ++ h ∷ [])
   joined s s' es hs h a k f j =
@@ -192,7 +193,8 @@ module _ (behaviour : Behaviour) (plan : Roster) where
         keeps_snoc s'.seen hs h (keeps_on s.seen s'.seen hs a.legal now.legal (stands_start P s s' e j.0) k) (there, own, tt),
       )
 
-  joins : (s s' : Seat) (es : Log) (gs hs : List (Mate behaviour plan)) → At P 0 s es → Keeps s.seen gs → AllFresh hs → JoinSeats P s (left_of behaviour hs) s'
+  joins : (s s' : Seat) (es : Log) (gs hs : List (CallerRun behaviour plan)) → At P 0 s es → Keeps s.seen gs → AllFresh hs
+      → JoinSeats P s (left_of behaviour hs) s'
       → At P 0 s' (es ++ joins_of (names_of behaviour hs)) × Keeps s'.seen (gs ++ hs)
   joins s s' es gs [] a k f j = (
     subst (λ x. At P 0 x (es ++ [])) (sym j) (subst (λ l. At P 0 s l) (sym (append-nil es)) a),
@@ -205,18 +207,18 @@ module _ (behaviour : Behaviour) (plan : Roster) where
         subst (λ l. Keeps s'.seen l) (append_assoc gs (h ∷ []) hs) two.1,
       )
 
-  no_zero : (hs : List (Mate behaviour plan)) → AllFresh hs → NoZero (names_of behaviour hs)
+  no_zero : (hs : List (CallerRun behaviour plan)) → AllFresh hs → NoZero (names_of behaviour hs)
   no_zero [] f = tt
   no_zero (h ∷ hs) f = (f.0.1, no_zero hs f.1)
 
-  quiet : (log : Log) (hs : List (Mate behaviour plan)) → Keeps log hs → (c : ℕ) → In c (names_of behaviour hs) → OnlyCalls (made_by c log)
+  quiet : (log : Log) (hs : List (CallerRun behaviour plan)) → Keeps log hs → (c : ℕ) → In c (names_of behaviour hs) → OnlyCalls (made_by c log)
   quiet log [] k c i = absurd (false≢true i)
   quiet log (h ∷ hs) k c i =
       ⊎_elim (λ (e : h.seat.name ≡ c). subst (λ x. OnlyCalls (made_by x log)) e (subst (λ l. OnlyCalls l) (sym k.1) (only_rows h.seat.name (its_calls h))))
       (λ u. quiet log hs k.2 c u) (in_cases c h.seat.name (names_of behaviour hs) i)
 
   -- the workers' numbers are those from 1 on
-  numbered : (whole : Log) (s s' : Seat) (es : Log) (hs : List (Mate behaviour plan)) → At P 0 s es → SplitSeats P s (seats_of behaviour hs) s'
+  numbered : (whole : Log) (s s' : Seat) (es : Log) (hs : List (CallerRun behaviour plan)) → At P 0 s es → SplitSeats P s (seats_of behaviour hs) s'
       → OthersCall whole → StartsWith whole s'.seen
       → names_of behaviour hs ≡ numbers_along (suc (length (split_off es))) hs
   numbered whole s s' es [] a c o f = refl
@@ -229,7 +231,7 @@ module _ (behaviour : Behaviour) (plan : Roster) where
       let rest = numbered whole c.0 s' (es ++ split 0 q ∷ []) hs one.0 c.2 o f in
       ap (λ k. k ∷ names_of behaviour hs) name ∙ ap (λ l. suc (length (split_off es)) ∷ l) (rest ∙ ap (λ n. numbers_along (suc n) hs) (one_more es q))
 
-  has_rows : (log : Log) (k : ℕ) (hs : List (Mate behaviour plan)) → names_of behaviour hs ≡ numbers_along k hs → Keeps log hs
+  has_rows : (log : Log) (k : ℕ) (hs : List (CallerRun behaviour plan)) → names_of behaviour hs ≡ numbers_along k hs → Keeps log hs
       → HasTableCalls behaviour plan k hs log
   has_rows log k [] e h = tt
   has_rows log k (g ∷ hs) e h =
@@ -237,10 +239,10 @@ module _ (behaviour : Behaviour) (plan : Roster) where
       let more : names_of behaviour hs ≡ numbers_along (suc k) hs = cc in
       (subst (λ n. made_by n log ≡ entries_by n (its_calls g)) same h.1, has_rows log (suc k) hs more h.2)
 
-  -- the whole list, from the call clauses alone: worker 0 works on by itself
-  pub ledger : (s0 s1 s2 t : Seat) (hs : List (Mate behaviour plan)) (last : List TableAnswered)
+  -- the whole list, only from the call clauses: worker 0 works on as the only caller
+  pub ledger : (s0 s1 s2 t : Seat) (hs : List (CallerRun behaviour plan)) (last : List TableAnswered)
       → s0.name ≡ 0 → s0.seen ≡ [] → SplitSeats P s0 (seats_of behaviour hs) s1 → JoinSeats P s1 (left_of behaviour hs) s2 → Serves P s2 last t
-      → (t.name ≡ 0) × TableAccounts behaviour plan hs last t.seen
+      → (t.name ≡ 0) × TablePerCaller behaviour plan hs last t.seen
   ledger s0 s1 s2 t hs last n s sp jn sv =
       let qs : List ℕ = names_of behaviour hs in
       let start : At P 0 s0 [] = record { name = n; legal = subst (λ l. IsLegal P l) (sym s) tt; own = ap (λ l. made_by 0 l) s } in

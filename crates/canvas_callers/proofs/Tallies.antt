@@ -26,9 +26,9 @@ use Rattle.canvas_runs.proofs.Objects.Histories.{GoodPublish, GoodTake, follows_
 use Rattle.canvas_runs.proofs.Runs.Right.{IsRunSealed, publishes_right}
 use Rattle.canvas_runs.proofs.Lists.Sums.{total-append}
 use Rattle.canvas_runs.proofs.Lists.Words.{each_right}
-use Rattle.canvas_callers.specs.Accounts.{HasQueueCalls, HasTableCalls}
-use Rattle.canvas_callers.specs.Crew.{PlanWorker, HasFollowed, Mate, Ran, EndedWell, OwnTally}
-use Rattle.canvas_callers.proofs.FromCrew.{the_run, the_queue, sent as opening_calls, passes, seats, queue_zero, table_zero}
+use Rattle.canvas_callers.specs.PerCaller.{HasQueueCalls, HasTableCalls}
+use Rattle.canvas_callers.specs.CallerRuns.{PlanWorker, HasFollowed, CallerRun, Ran, EndedWell, OwnTally}
+use Rattle.canvas_callers.proofs.FromCallerRuns.{the_run, the_queue, sent as opening_calls, passes, seats, queue_zero, table_zero}
 
 -- ---- calls
 
@@ -114,10 +114,10 @@ module _ (behaviour : Behaviour) (l : Line) (plan : IsPlan l) (pass : Pass) (sea
       (publishes_right (X behaviour l plan) (form behaviour l plan) (Does behaviour l plan) (order behaviour l plan) (value behaviour l plan)
       (inner_run behaviour l plan its_run))))
 
-  mates_count : (k : ℕ) (ms : List (Mate behaviour P)) → HasQueueCalls behaviour P k ms queued → HasTableCalls behaviour P k ms seat.seen
-      → Each (λ (m : Mate behaviour P). IsDone m.ended) ms → EachCounts queued seat.seen k (map (λ (m : Mate behaviour P). m.ended.tally) ms)
-  mates_count k [] h t d = tt
-  mates_count k (m ∷ ms) h t d =
+  callers_count : (k : ℕ) (ms : List (CallerRun behaviour P)) → HasQueueCalls behaviour P k ms queued → HasTableCalls behaviour P k ms seat.seen
+      → Each (λ (m : CallerRun behaviour P). IsDone m.ended) ms → EachCounts queued seat.seen k (map (λ (m : CallerRun behaviour P). m.ended.tally) ms)
+  callers_count k [] h t d = tt
+  callers_count k (m ∷ ms) h t d =
       let f = m.followed in
       let calls : by k (queue_calls queued) ≡ f.made = queue_own k queued f.made f.follows (own_calls k queued [] f.made refl h.0) in
       let replies : by k (answered_calls seat.seen) ≡ backend_calls f.run = own_calls k seat.seen [] (backend_calls f.run) refl t.0 in
@@ -134,7 +134,7 @@ module _ (behaviour : Behaviour) (l : Line) (plan : IsPlan l) (pass : Pass) (sea
               (sym (ap (λ x. total returning x) replies)),
           no_count (total (dropping P) (broker_calls f.run)) m.ended.tally.dropped c.dropped lost,
         ),
-        mates_count (suc k) ms h.1 t.1 d.1,
+        callers_count (suc k) ms h.1 t.1 d.1,
       )
 
   more_sent : (n k a t : ℕ) → CountsMore 0 k a → CountsMore n a t → CountsMore 0 (n + k) t
@@ -177,5 +177,5 @@ module _ (behaviour : Behaviour) (l : Line) (plan : IsPlan l) (pass : Pass) (sea
       )
 
   pub tallies_count : (own : Tally) → OwnTally behaviour l pass seat r own
-      → EachCounts queued seat.seen 0 (own ∷ map (λ (m : Mate behaviour P). m.ended.tally) r.mates)
-  tallies_count own o = (own_counts own o, mates_count 1 r.mates (passes behaviour l pass seat r).1.each (seats behaviour l pass seat r).each w.each)
+      → EachCounts queued seat.seen 0 (own ∷ map (λ (m : CallerRun behaviour P). m.ended.tally) r.callers)
+  tallies_count own o = (own_counts own o, callers_count 1 r.callers (passes behaviour l pass seat r).1.each (seats behaviour l pass seat r).each w.each)

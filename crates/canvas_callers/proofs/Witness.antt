@@ -10,7 +10,7 @@ use Rattle.canvas_runs.specs.Core.{to_queue, rest, from_queue, rested, over}
 use Rattle.canvas_runs.specs.Following.{Pass, Seat}
 use Rattle.canvas_runs.specs.Calls.{scripts_all}
 use Rattle.canvas_runs.specs.Tally.{none_yet}
-use Rattle.canvas_callers.specs.Crew.{PlanWorker, Mate, Ran, EndedWell}
+use Rattle.canvas_callers.specs.CallerRuns.{PlanWorker, CallerRun, Ran, EndedWell}
 use Rattle.canvas_callers.specs.Rows.{empty_group}
 
 module _ (behaviour : Behaviour) (b : QueueId) (d : TableId) where
@@ -26,7 +26,7 @@ module _ (behaviour : Behaviour) (b : QueueId) (d : TableId) where
   abbrev one_left : PlanWorker
   one_left = record { pass = pass_one; seat = seat_one; left = over; current = None; held = []; tally = none_yet }
 
-  one : Mate behaviour P
+  one : CallerRun behaviour P
   one = record {
     pass = pass_one;
     seat = seat_one;
@@ -62,7 +62,7 @@ module _ (behaviour : Behaviour) (b : QueueId) (d : TableId) where
   abbrev ran : Ran behaviour empty_group joined seat_joined
   unfolding one
   ran = record {
-    mates = one ∷ [];
+    callers = one ∷ [];
     opening = [];
     unsent = [];
     opens = refl;

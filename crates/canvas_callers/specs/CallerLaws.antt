@@ -19,14 +19,14 @@ use Rattle.canvas_runs.specs.Law.{its_state, publications}
 use Rattle.canvas_history.specs.Lists.{Each}
 use Rattle.canvas_runs.specs.Run.{Run, Closed, published_all}
 use Rattle.canvas_runs.specs.Worker.{sealed}
-use Rattle.canvas_callers.specs.Accounts.{QueueAccounts, TableAccounts}
-use Rattle.canvas_callers.specs.Crew.{Ran, EndedWell, ReadsWhatIsHeld}
+use Rattle.canvas_callers.specs.PerCaller.{QueuePerCaller, TablePerCaller}
+use Rattle.canvas_callers.specs.CallerRuns.{Ran, EndedWell, ReadsWhatIsHeld}
 
 -- what a pass has seen, with the joins that it owes
 abbrev pub broker_calls_seen : Pass → List (Entries Envelope)
 broker_calls_seen p = told p
 
--- the state of a task by what a seat has seen
+-- the state of a task in what a seat has seen
 abbrev pub held_state : Line → Seat → ℕ → State
 held_state l seat t = (results (roster_of l) seat.seen).outcomes t
 
@@ -34,23 +34,23 @@ held_state l seat t = (results (roster_of l) seat.seen).outcomes t
 abbrev pub OneQueue : Type 0
 OneQueue =
     (behaviour : Behaviour) (l : Line) (pass : Pass) (seat : Seat) (r : Ran behaviour l pass seat)
-    → QueueAccounts behaviour (roster_of l) r.mates (published_all (map sealed r.opening))
+    → QueuePerCaller behaviour (roster_of l) r.callers (published_all (map sealed r.opening))
     r.works.made (broker_calls_seen pass)
 
 abbrev pub OneTable : Type 0
 OneTable =
     (behaviour : Behaviour) (l : Line) (pass : Pass) (seat : Seat) (r : Ran behaviour l pass seat)
-    → TableAccounts behaviour (roster_of l) r.mates (backend_calls r.works.run ++ r.closing)
+    → TablePerCaller behaviour (roster_of l) r.callers (backend_calls r.works.run ++ r.closing)
     seat.seen
 
--- they are those of a run, which is closed where all ended well
+-- they are those of a run, which is closed if all ended well
 abbrev pub IsARun : Type 0
 IsARun =
     (behaviour : Behaviour) (l : Line) (pass : Pass) (seat : Seat) (r : Ran behaviour l pass seat)
     → (h : Run behaviour l) × (h.queue ≡ broker_calls_seen pass) × (h.table ≡ seat.seen)
     × (EndedWell behaviour l pass seat r → Closed behaviour l h)
 
--- the reads at the end answer what is held
+-- the reads at the end answer what the table holds
 abbrev pub ReadsHeld : Type 0
 ReadsHeld =
     (behaviour : Behaviour) (l : Line) (pass : Pass) (seat : Seat) (r : Ran behaviour l pass seat)
@@ -71,7 +71,7 @@ RowsAre =
     → EndedWell behaviour l pass seat r
     → (t : ℕ) → held_state l seat t ≡ its_state behaviour l t
 
--- the same by the canvas from which the plan was made
+-- the same for the canvas from which the plan was made
 abbrev pub IsPlanOf : Tree → Line → Type 0
 IsPlanOf c l = IsFull c × IsPlan l × (tree_of l ≡ numbered (normal c))
 
@@ -89,8 +89,8 @@ CanvasRowsAre =
     → EndedWell behaviour l pass seat r
     → (t : ℕ) → held_state l seat t ≡ state_in t (meaning behaviour c)
 
--- each publish is by the caller that brought its event about: that of a body's first message by the
--- caller of the completing part
+-- each publish is by the caller that brought its event about: a body's first message by the caller
+-- of the completing part
 abbrev pub PublishesByCause : Type 0
 PublishesByCause =
     (behaviour : Behaviour) (l : Line) → IsPlan l → (pass : Pass) (seat : Seat)

@@ -1,4 +1,4 @@
-pub mod Crew
-pub mod Accounts
+pub mod CallerRuns
+pub mod PerCaller
 pub mod CallerLaws
 pub mod Rows

@@ -1,4 +1,4 @@
--- In every run a task's message is published behind the ends of the tasks that it comes behind.
+-- In every run a task's message is published after the ends of the tasks that it comes after.
 use Rattle.std.proofs.Common.{◌≡◌, ◌⊎◌, ◌∙◌, ℕ, suc, ◌+◌, ◌≤◌, Bool, true, false, List, [], ◌∷◌, ◌++◌, Option, Some, refl, sym, ap, subst, inl, inr, arith}
 use Rattle.std.specs.Prelude.{IsTrue}
 use Rattle.canvas_task.specs.Apply.{Behaviour}

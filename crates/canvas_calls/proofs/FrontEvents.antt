@@ -173,9 +173,9 @@ module _ (behaviour : Behaviour) (members : ℕ → List ℕ) (all : Items) (fat
         ap₂ (λ a b. a ++ b) (line_uncalled m x p 0 v [] none fault (λ y i. sub y (in_left _ _ y i)))
         (lines_uncalled ms x p v none fault (λ y i. sub y (in_right (items behaviour m x p 0 v) _ y i)))
 
-  -- ---- where a line's last task has ended, so have the tasks that its end comes behind
+  -- ---- if a line's last task has ended, the tasks that its end comes after have ended too
 
-  -- each member of a header, behind this
+  -- each member of a header, after this
   abbrev AllEnds : List ℕ → Lines → Type 0
   AllEnds before no_lines = Unit {0}
   AllEnds before (and_line m ms) = Each Ended (line_end fates m before) × AllEnds before ms
@@ -263,7 +263,7 @@ module _ (behaviour : Behaviour) (members : ℕ → List ℕ) (all : Items) (fat
 
   -- ---- each message by its front
 
-  -- where its event was brought about, what its task comes behind has ended; the first front is that of the task low
+  -- if its event was brought about, what its task comes after has ended; the first front is that of the task low
   abbrev pub Sound : Items → List Front → ℕ → Type 0
   Sound is fs low = (v : Event) (m : Message) → In (v, publish m) is → (f : Front) × FrontAt fs low m.no f × Ready v f.after
 

@@ -1,4 +1,4 @@
--- The fates and the fronts of a plan's tasks stand at the places of their numbers.
+-- The fates and the fronts of a plan's tasks are at the indices of their numbers.
 use Rattle.std.proofs.Common.{◌≡◌, ◌∙◌, ℕ, zero, suc, ◌+◌, ◌≤◌, true, List, [], ◌∷◌, ◌++◌, length, length-append, slice_get, Option, Some, None, option_map, refl, sym, ap, subst, inl, inr, arith}
 use Rattle.canvas_task.specs.Apply.{Behaviour}
 use Rattle.canvas_semantics.specs.Evaluation.{Flow, state, task_meaning, to_errbacks, to_links}
@@ -53,7 +53,7 @@ numbered_append : (low : ℕ) (xs ys : Fates) → Numbered low xs → Numbered (
 numbered_append low [] ys a b = subst (λ n. Numbered n ys) (omega arith) b
 numbered_append low (x ∷ xs) ys a b = (a.0, numbered_append (suc low) xs ys a.1 (subst (λ n. Numbered n ys) (omega arith) b))
 
--- so many
+-- n fates, numbered from low on
 abbrev Counted : ℕ → Fates → ℕ → Type 0
 Counted low fs n = Numbered low fs × (length fs ≡ n)
 

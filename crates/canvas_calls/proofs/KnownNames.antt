@@ -40,7 +40,7 @@ pub end_ok : {E : Type 0} (r : Result (Unit {0}) E) (old mid new : Written) (us 
 end_ok (Ok x) old mid new us all is same second = (second.0 ∙ is, second.1 ∙ same)
 end_ok (Err e) old mid new us all is same second = tt
 
--- ---- what a task comes behind, by its number
+-- ---- the front of a task, by its number
 
 pub front_found : (found : List Front) (k n : ℕ) → n ≡ k → 1 ≤ n → known_front (slice_get found (n - 1)) ≡ front_of found k
 front_found found zero n same some = absurd (omega (arith, same, some))

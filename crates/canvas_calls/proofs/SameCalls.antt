@@ -1,4 +1,4 @@
--- A message hangs on the answers of those tasks alone whose messages carry it.
+-- A message depends only on the answers of those tasks whose messages carry it.
 use Rattle.std.proofs.Common.{◌≡◌, ◌∙◌, ◌⊎◌, ℕ, Bool, true, false, List, [], ◌∷◌, ◌++◌, refl, ap, subst, inl, inr}
 use Rattle.canvas_task.specs.Apply.{Behaviour}
 use Rattle.canvas_task.specs.declared.outcome.Outcome.{Outcome}
@@ -76,7 +76,7 @@ in_chosen x (Success n) xs ys i = inl i
 in_chosen x (Failure f) xs ys i = inr i
 
 module _ (b : Behaviour) (w : Event) (c : Content) where
-  -- what is published is of a task that stands there
+  -- what is published is the message of a task that is there
   mutual
     ran_has : (t : Task) (x : Input) (v : Event) (rest : Line) (p : PPlace) → Publishes w c (ran b t x v rest p)
         → HasTask (number_of c.own) (bare_task t)
@@ -129,7 +129,7 @@ module _ (b : Behaviour) (w : Event) (c : Content) where
         either (λ j. inl (line_has m x p 0 v j)) (λ j. inr (items_have ms x p v j))
         (in_parts (w, publish c) (events_in_file b m x p 0 v) (items_all b ms x p v) i)
 
--- ---- what stands in lines with places
+-- ---- the tasks in lines with places
 
 task_placed : (t : Task) (p : PPlace) (rest : Line) (n : ℕ) → HasTask n (bare_task t) → HasTask n (last_at p (bare_task t) (bare rest))
 task_placed (task k call ls es) p rest n (inl e) = inl e
@@ -328,7 +328,7 @@ module _ (one other : Behaviour) (n : ℕ) where
     here_it_is : (l : Line) (x : LineFlow) (p : PPlace) (k : ℕ) (v : Event) → Publishes w c (events_in_file one l x p k v) → HasLine n (bare l)
     here_it_is l x p k v i = subst (λ q. HasLine q (bare l)) its (line_has one w c l x p k v i)
 
-    -- the place of a header, behind which the message is published, or an exception flows
+    -- the place of a header, after which the message is published, or an exception flows
     header_kept : (g : ℕ) (ms : Lines) (body : Line) (x : LineFlow) (p : PPlace) → HasLine n (bare body) → Kept (header_place x g ms body p) x
     header_kept g ms body (run x) p h = inl (line_placed body p n h)
     header_kept g ms body (skips f) p h = inr tt

@@ -1,4 +1,4 @@
--- What a line's tasks come behind, by the parts of the line.
+-- The fronts of a line's tasks, by the parts of the line.
 use Rattle.std.proofs.Common.{◌≡◌, ◌∙◌, ◌+◌, ◌<◌, ◌≤◌, ℕ, List, [], ◌∷◌, ◌++◌, map, drop, length, get_or, Option, Some, None, Box, Global, refl, sym, ap, append_assoc, append-nil}
 use Rattle.std.proofs.lemmas.List.{at_drop_all}
 use Rattle.canvas_task.proofs.Turns.{item_first}

@@ -1,4 +1,4 @@
--- Which answers a message depends on, and what it waits for.
+-- The answers that a message depends on, and the ends that it waits for.
 use Rattle.std.specs.Prelude.{◌≡◌, ◌⊎◌, ℕ, Option, Some}
 use Rattle.canvas_task.specs.Apply.{Behaviour}
 use Rattle.canvas_task.specs.declared.outcome.Outcome.{Outcome}
@@ -20,7 +20,7 @@ use Rattle.canvas_runs.specs.Run.{Run}
 use Rattle.canvas_runs.specs.Worker.{opened}
 use Rattle.canvas_calls.specs.Fronts.{front_of, fronts}
 
--- ---- what a message carries
+-- ---- the contents of a message
 
 -- the task of number n is among these
 abbrev mutual
@@ -54,22 +54,22 @@ Carries c n =
     HasTasks n (links_of c.own)
     ⊎ (HasTasks n (errbacks_of c.own) ⊎ (HasPlace n (place_of c.own) ⊎ HasLine n c.rest))
 
--- ---- which answers it depends on
+-- ---- the answers that it depends on
 
--- Two behaviours that answer alike whichever messages carry task n, where evaluation with the first
--- publishes them.
+-- Two behaviours answer alike for all messages that carry task n and that evaluation with the first
+-- publishes.
 abbrev pub AgreeBefore : Behaviour → Behaviour → Line → ℕ → Type 0
 AgreeBefore one other l n =
     (v : Event) (c : Content) → DoesIn one l v (publish c) → Carries c n
     → outcome_of one c ≡ outcome_of other c
 
--- They give it the same message, by the same event.
+-- Such behaviours give the task the same message, by the same event.
 abbrev pub GiveTheSame : Behaviour → Behaviour → Line → Type 0
 GiveTheSame one other l =
     (v : Event) (c : Content) → DoesIn one l v (publish c)
     → AgreeBefore one other l (number_of c.own) → DoesIn other l v (publish c)
 
--- ---- what it waits for
+-- ---- the ends that it waits for
 
 -- In every run, closed or not, and so at each moment of one: if a task's message is published, each
 -- task that it comes after has ended, so that its outcome is stored.

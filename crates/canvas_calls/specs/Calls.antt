@@ -1,5 +1,5 @@
--- A message as the call that it asks for: a JSON object in a line (RFC 8259), whose members stand
--- in the byte order of their names.
+-- A message as the call that it asks for: a JSON object in a line (RFC 8259), whose members are in
+-- the byte order of their names.
 use Rattle.std.specs.Prelude.{ℕ, List, [], ◌∷◌, ◌++◌, Option, Some, None, unwrap_or, codes}
 use Rattle.serde_json.specs.Data.{Data, null, string, array, object, Items, no_items, item, no_members, member}
 use Rattle.serde_json.specs.Written.{compact_text}
@@ -18,7 +18,7 @@ abbrev pub header_wire : Option (List ℕ) → Data
 header_wire None = null
 header_wire (Some ks) = array (identifiers_wire ks)
 
--- of a task of this name, that comes behind this
+-- the object of a call of a task with this name and front
 abbrev pub call_wire : Front → Text → Content → Data
 call_wire front name c =
     object (member (codes "after") (array (identifiers_wire front.after))
@@ -37,11 +37,11 @@ abbrev pub names_wire : List Text → Items
 names_wire [] = no_items
 names_wire (n ∷ ns) = item (string n) (names_wire ns)
 
--- the names of all tasks, also of those that aren't called, the i-th being that of task i
+-- the names of all tasks, also of those that aren't called; the i-th is that of task i
 abbrev pub known_wire : Line → Data
 known_wire l = object (member (codes "names") (array (names_wire (names l))) no_members)
 
--- Tasks have the names of a plan's line, and come behind these fronts.
+-- Tasks have the names of a plan's line, and these fronts.
 module _ (fronts : List Front) (shown : Line) where
   abbrev pub call_line : Content → Text
   call_line c =
@@ -49,11 +49,11 @@ module _ (fronts : List Front) (shown : Line) where
       (call_wire (front_of fronts (number_of c.own)) (known_name shown (number_of c.own)) c)
       ++ codes "\n"
 
-  -- what the envelopes say, one after another
+  -- the calls of the envelopes, one after another
   abbrev pub call_lines : List Envelope → Text
   call_lines [] = []
   call_lines (e ∷ es) = call_line (content_said e.headers e.body) ++ call_lines es
 
-  -- a last line has the names
+  -- the last line has the names
   abbrev pub calls_text : List Envelope → Text
   calls_text es = call_lines es ++ compact_text (known_wire shown) ++ codes "\n"

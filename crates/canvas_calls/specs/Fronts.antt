@@ -1,9 +1,9 @@
--- What each task of a run comes behind: the tasks whose ends its message waits for. A message
+-- What each task of a run comes after: the tasks whose ends its message waits for. A message
 -- carries all that follows its task (Celery's task message protocol, version 2: `chain`,
 -- `callbacks`, `errbacks` and `chord` of the body's embed), so a message is carried by all that
--- comes before it. Here are the last of these that are called: the task before it on its line, the
--- task whose link or error callback it is, and of a header each member's last one. All others are
--- those that these come behind themselves: of a chain of n tasks there are n - 1 in all.
+-- comes before it. A front has the last of these that are called: the task before it on its line,
+-- the task whose link or error callback it is, and each last task of a header's members. All others
+-- are those that these come after themselves: a chain of n tasks has n - 1 in all.
 use Rattle.std.specs.Prelude.{ℕ, zero, suc, Bool, true, false, if◌then◌else◌, List, [], ◌∷◌, ◌++◌, Option, Some, None, slice_get}
 use Rattle.canvas_task.specs.Apply.{Behaviour}
 use Rattle.canvas_semantics.specs.Tree.{Task, task, Tasks, no_tasks, and_task}
@@ -23,33 +23,33 @@ has_run (Some Idle) = false
 abbrev pub was_called : Fates → ℕ → Bool
 was_called fates k = has_run (fate_at fates k)
 
--- what a run starts with
+-- the front of the tasks that a run starts with
 abbrev pub first_front : Front
 first_front = record { after = []; header_after = None }
 
 abbrev pub at_end : ℕ → Front
 at_end k = record { after = k ∷ []; header_after = None }
 
--- these, or where there are none the others
+-- these, or the others if there are none
 abbrev pub or_else : List ℕ → List ℕ → List ℕ
 or_else [] before = before
 or_else (k ∷ ks) before = k ∷ ks
 
--- behind a header that itself comes behind this, and whose members end behind these tasks: none of
--- an empty header and of one that isn't called
+-- after a header that has this front, and whose members end after these tasks: none for an empty
+-- header and for one that isn't called
 abbrev pub beyond : List ℕ → Front → Front
 beyond [] front = front
 beyond (k ∷ ks) front = record { after = k ∷ ks; header_after = Some front.after }
 
 module _ (fates : Fates) where
-  -- behind task k, which itself comes behind this
+  -- after task k, which has this front
   abbrev pub behind : ℕ → Front → Front
   behind k front = if was_called fates k then at_end k else front
 
   abbrev pub own_end : ℕ → List ℕ → List ℕ
   own_end k before = if was_called fates k then k ∷ [] else before
 
-  -- the tasks behind whose ends the end of a line comes, where the line comes behind these
+  -- the tasks after whose ends the end of a line comes, if the line comes after these
   abbrev mutual
     pub line_end : Line → List ℕ → List ℕ
     line_end stop before = before
@@ -61,7 +61,7 @@ module _ (fates : Fates) where
     lines_end no_lines = []
     lines_end (and_line m ms) = line_end m [] ++ lines_end ms
 
-  -- of a task, its links and its error callbacks, in the order of the file
+  -- the fronts of a task, its links and its error callbacks, in the order of the file
   abbrev mutual
     pub task_fronts : Task → Front → List Front
     task_fronts (task k call links errbacks) front =
@@ -71,7 +71,7 @@ module _ (fates : Fates) where
     tasks_fronts no_tasks front = []
     tasks_fronts (and_task t ts) front = task_fronts t front ++ tasks_fronts ts front
 
-  -- of the tasks of a line that comes behind this
+  -- the fronts of the tasks of a line that has this front
   abbrev mutual
     pub line_fronts : Line → Front → List Front
     line_fronts stop front = []
@@ -85,11 +85,11 @@ module _ (fates : Fates) where
     lines_fronts no_lines front = []
     lines_fronts (and_line m ms) front = line_fronts m front ++ lines_fronts ms front
 
--- of a plan's tasks, the i-th being that of task i
+-- the fronts of a plan's tasks; the i-th is that of task i
 abbrev pub fronts : Behaviour → Line → List Front
 fronts behaviour l = line_fronts (fates behaviour l) l first_front
 
--- that of a task
+-- the front of a task
 abbrev pub front_at : List Front → ℕ → Option Front
 front_at found zero = None
 front_at found (suc k) = slice_get found k

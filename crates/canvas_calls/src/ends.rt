@@ -1,4 +1,4 @@
-//! The walk over a line that finds behind whose ends its own end comes.
+//! The walk over a line that finds after which tasks' ends its own end comes.
 ghost use Rattle.std.specs.Prelude.{◌≡◌, ◌++◌, [], IfOk, OnOk, map};
 ghost use Rattle.canvas_rewrite.specs.FrozenView.{end_in, line_in, task_in};
 ghost use Rattle.canvas_calls.specs.Fronts.{line_end, or_else};
@@ -10,7 +10,7 @@ use canvas_rewrite::{FrozenEnd, FrozenLine, FrozenTask};
 use canvas_task::TaskNo;
 use std::alloc::{AllocError, Global};
 
-/// The end of the tasks in front of a line's group or chord.
+/// Returns the end of the tasks before a line's group or chord.
 fn tasks_end(
     alloc: Global,
     tasks: &[FrozenTask],
@@ -27,7 +27,7 @@ fn tasks_end(
     Ok(ends)
 }
 
-/// These ends; where there are none, the others.
+/// Returns these ends, or the others if there are none.
 fn or_else(ends: Vec<TaskNo>, before: Vec<TaskNo>) -> Vec<TaskNo>
     ensures { result.items ≡ or_else ends.items before.items }
 {
@@ -69,7 +69,7 @@ fn tail_end(
     }
 }
 
-/// The ends of a group's or header's members, in their order.
+/// Returns the ends of a group's or header's members, in their order.
 #[cycle(lines)]
 pub(crate) fn lines_end(
     alloc: Global,

@@ -1,4 +1,4 @@
-//! What a task comes behind.
+//! The tasks that a task comes after.
 ghost use Rattle.std.specs.Prelude.{◌≡◌, ◌∷◌, [], IfOk};
 ghost use Rattle.canvas_calls.specs.Fronts.{at_end, behind, beyond, first_front, own_end, was_called};
 
@@ -6,13 +6,13 @@ use canvas_report::Fate;
 use canvas_task::{ListOf, TaskNo};
 use std::alloc::{AllocError, Global};
 
-/// The tasks behind whose ends a task comes. Their messages carry its message, and so do those of
-/// the tasks that they come behind themselves.
+/// The tasks after whose ends a task comes. Their messages carry its message, and so do those of
+/// the tasks that they come after themselves.
 #[derive(Drop)]
 pub struct Front {
-    /// In the order of their numbers. None of a task that a run starts with.
+    /// The tasks in the order of their numbers. It is empty for a task that a run starts with.
     pub after: ListOf<TaskNo>,
-    /// Where a header's completion publishes the message: those behind which its chord comes.
+    /// If a header's completion publishes the message: the tasks that its chord comes after.
     pub header_after: Option<ListOf<TaskNo>>,
 }
 
@@ -26,7 +26,7 @@ fn copy_of(tasks: &Option<ListOf<TaskNo>>) -> Result<Option<ListOf<TaskNo>>, All
 }
 
 impl Front {
-    /// That of what a run starts with.
+    /// Returns the front of the tasks that a run starts with.
     pub(crate) fn first(alloc: Global) -> Front
         ensures { result ≡ first_front }
     {
@@ -45,7 +45,7 @@ impl Front {
         })
     }
 
-    /// Behind the end of a task that is called.
+    /// Returns the front after the end of a task that is called.
     fn at_end(alloc: Global, task: TaskNo) -> Result<Front, AllocError>
         ensures { IfOk result (λ front. front ≡ at_end task) }
     {
@@ -55,7 +55,7 @@ impl Front {
         })
     }
 
-    /// What comes behind a task that comes behind this.
+    /// Returns the front of what follows a task with this front.
     pub(crate) fn behind(
         &self,
         alloc: Global,
@@ -71,7 +71,7 @@ impl Front {
         }
     }
 
-    /// What comes behind a header that comes behind this, and ends behind these.
+    /// Returns the front of what follows a header with this front and these ends.
     pub(crate) fn beyond(&self, ends: Vec<TaskNo>) -> Result<Front, AllocError>
         ensures { IfOk result (λ front. front ≡ beyond ends.items self.now) }
     {
@@ -85,7 +85,7 @@ impl Front {
     }
 }
 
-/// Whether a task was called.
+/// Returns whether a task was called.
 fn was_called(fates: &[(TaskNo, Fate)], task: TaskNo) -> bool
     ensures { result ≡ was_called fates.now task }
 {
@@ -103,7 +103,7 @@ fn only(alloc: Global, task: TaskNo) -> Result<Vec<TaskNo>, AllocError>
     Ok(tasks)
 }
 
-/// The end of a task that comes behind these ends.
+/// Returns the end of a task that comes after these ends.
 pub(crate) fn own_end(
     alloc: Global,
     fates: &[(TaskNo, Fate)],

@@ -1,4 +1,4 @@
-//! The calls that a run's messages ask for, a JSON line each, with what each comes behind.
+//! The calls that a run's messages ask for, a JSON line each, with the tasks that each comes after.
 #![tactic(auto)]
 
 mod ends;

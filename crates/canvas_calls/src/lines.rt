@@ -38,7 +38,7 @@ fn write_task_id(out: &mut Writer, task: TaskNo) -> Result<(), AllocError>
     write_id(out, &task_text(task))
 }
 
-/// The rest of a list of identifiers.
+/// Writes the rest of a list of identifiers.
 fn write_tasks(out: &mut Writer, tasks: &[TaskNo]) -> Result<(), AllocError>
     ensures { Appends result out.old out.new (rest_tokens (identifiers_wire tasks.now)) }
 {
@@ -121,7 +121,7 @@ fn write_own(out: &mut Writer, task: TaskNo) -> Result<(), AllocError>
     write_task_id(out, task)
 }
 
-/// The members up to the keyword arguments.
+/// Writes the members up to the keyword arguments.
 fn write_front(out: &mut Writer, front: &Front, args: &[Arg]) -> Result<(), AllocError>
     ensures { Appends result out.old out.new (begin_object
         ∷ (named_tokens (codes "after") (array (identifiers_wire front.now.after))
@@ -134,7 +134,7 @@ fn write_front(out: &mut Writer, front: &Front, args: &[Arg]) -> Result<(), Allo
     write_header_after(out, front)
 }
 
-/// The members behind the keyword arguments, and the closing brace.
+/// Writes the members after the keyword arguments, and the closing brace.
 fn write_back(
     out: &mut Writer,
     name: &str,
@@ -165,7 +165,7 @@ fn write_call(
     write_back(out, name, message.parent, message.task)
 }
 
-/// The object of a message.
+/// Returns the object of a message.
 fn call_text(
     alloc: Global,
     front: &Front,
@@ -180,7 +180,8 @@ fn call_text(
     Ok(out.into_inner())
 }
 
-/// What a letter says. A run publishes none that can't be read, unless memory is refused.
+/// Reads the message of a letter. A run publishes none that can't be read, unless memory is
+/// refused.
 fn message_of(alloc: Global, letter: &Letter) -> Result<Message, Memory>
     ensures { IfOk result
         (λ m. content_said letter.now.headers letter.now.body ≡ m) }
@@ -198,14 +199,14 @@ fn front_in(fronts: &[Front], place: usize) -> Option<&Front>
     fronts.get(place)
 }
 
-/// What a task comes behind. Nothing comes before one that isn't there.
+/// Returns the front of a task. A task that isn't in the list has no front.
 fn front_at(fronts: &[Front], task: TaskNo) -> Option<&Front>
     ensures { known_front (option_map (λ f. f.now) result) ≡ front_of fronts.now task }
 {
     front_in(fronts, task.get() as usize - 1)
 }
 
-/// The object of a message, whose task, of this number, comes behind what the list says.
+/// Returns the object of the message of the task of this number, whose front is in the list.
 fn known_text(
     alloc: Global,
     fronts: &[Front],
@@ -222,7 +223,7 @@ fn known_text(
     }
 }
 
-/// The line of a message whose task has this name.
+/// Returns the line of a message whose task has this name.
 fn named_line(
     alloc: Global,
     fronts: &[Front],
@@ -252,7 +253,7 @@ fn line_of(
     }
 }
 
-/// A message's line, put behind the others.
+/// Appends a message's line.
 fn push_line(
     text: &mut Vec<u8>,
     alloc: Global,
@@ -268,7 +269,7 @@ fn push_line(
     Ok(text.extend_from_slice(&line)?)
 }
 
-/// The name of a task of a plan.
+/// Writes the name of a task of a plan.
 fn write_known_name(out: &mut Writer, plan: &Plan, task: TaskNo) -> Result<(), AllocError>
     ensures { Appends result out.old out.new (data_tokens (string (known_name plan.now task))) }
 {
@@ -278,7 +279,7 @@ fn write_known_name(out: &mut Writer, plan: &Plan, task: TaskNo) -> Result<(), A
     }
 }
 
-/// The rest of a list of the names of a plan's tasks.
+/// Writes the rest of a list of the names of a plan's tasks.
 fn write_names(out: &mut Writer, plan: &Plan) -> Result<(), AllocError>
     ensures { Appends result out.old out.new (rest_tokens (names_wire (names plan.now))) }
 {
@@ -288,7 +289,7 @@ fn write_names(out: &mut Writer, plan: &Plan) -> Result<(), AllocError>
     out.end_array()
 }
 
-/// An object with the names of a plan's tasks.
+/// Writes an object with the names of a plan's tasks.
 fn write_known(out: &mut Writer, plan: &Plan) -> Result<(), AllocError>
     ensures { Appends result out.old out.new (data_tokens (known_wire plan.now)) }
 {
@@ -307,7 +308,7 @@ fn known_line(alloc: Global, plan: &Plan) -> Result<Vec<u8>, AllocError>
     Ok(out.into_inner())
 }
 
-/// The lines of messages.
+/// Returns the lines of messages.
 fn lines_of(
     alloc: Global,
     fronts: &[Front],
@@ -323,8 +324,8 @@ fn lines_of(
     Ok(text)
 }
 
-/// The calls that messages ask for, a line each, where tasks come behind these fronts, which stand
-/// in the order of their numbers, and have the names of a plan. A last line has all names.
+/// Returns the calls that messages ask for, a line each. Tasks have these fronts, in the order of
+/// their numbers, and the names of a plan. The last line has all names.
 pub fn calls_text(
     alloc: Global,
     fronts: &[Front],

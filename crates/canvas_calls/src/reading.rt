@@ -1,4 +1,4 @@
-//! What each task of a run comes behind.
+//! The front of each task of a run.
 ghost use Rattle.std.specs.Prelude.{◌≡◌, IfOk};
 ghost use Rattle.canvas_task.specs.Apply.{Behaviour};
 ghost use Rattle.canvas_semantics.specs.Line.{tree_of};
@@ -13,7 +13,7 @@ use canvas_rewrite::Plan;
 use canvas_task::Memory;
 use std::alloc::Global;
 
-/// What each task of a plan comes behind in the run that gave the report, in the order of the
+/// Returns the front of each task of a plan in the run that gave the report, in the order of the
 /// tasks' numbers.
 pub fn fronts(alloc: Global, plan: &Plan, report: &Report) -> Result<Vec<Front>, Memory>
     ensures { (behaviour : Behaviour)

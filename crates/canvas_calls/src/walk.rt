@@ -1,4 +1,4 @@
-//! The walk over a plan's line that finds what each task comes behind.
+//! The walk over a plan's line that finds the front of each task.
 ghost use Rattle.std.specs.Prelude.{◌≡◌, ◌++◌, IfOk, OnOk, map};
 ghost use Rattle.canvas_rewrite.specs.FrozenView.{end_in, line_in, task_in};
 ghost use Rattle.canvas_calls.specs.Fronts.{line_fronts, task_fronts};
@@ -11,7 +11,7 @@ use canvas_rewrite::{FrozenEnd, FrozenLine, FrozenTask};
 use canvas_task::TaskNo;
 use std::alloc::{AllocError, Global};
 
-/// A task, its links and its error callbacks.
+/// Appends the fronts of a task, its links and its error callbacks.
 #[cycle(tasks)]
 fn push_task(
     alloc: Global,
@@ -46,7 +46,8 @@ fn push_callbacks(
     Ok(())
 }
 
-/// The tasks in front of a line's group or chord. It answers what comes behind them.
+/// Appends the fronts of the tasks before a line's group or chord. Returns the front of what
+/// follows them.
 fn push_tasks(
     alloc: Global,
     tasks: &[FrozenTask],
@@ -82,7 +83,7 @@ pub(crate) fn push_line(
     push_tail(alloc, &line.tail, &behind, fates, found)
 }
 
-/// The group or chord that a line ends in, if it is one.
+/// Appends the fronts of the group or chord that a line ends in, if it does.
 #[cycle(lines)]
 fn push_tail(
     alloc: Global,

@@ -9,7 +9,7 @@ use Rattle.std.proofs.lemmas.Bool.Decides.{nat_tests}
 use Rattle.canvas_celery.specs.Run.{is_digit, all_digits, piece, in_run}
 use Rattle.canvas_celery.specs.Keys.{key_line, result_keys}
 
--- so many elements, from a place on
+-- count elements, from an index on
 abbrev pub seen : (from count : ℕ) → List ℕ → List ℕ
 seen from zero xs = []
 seen from (suc n) xs = slice_index_or xs from 0 ∷ seen (suc from) n xs
@@ -42,7 +42,7 @@ one_more run prefix i =
     let e : i + 1 ≡ suc i = omega arith in
     rw e refl
 
--- what was written, said otherwise
+-- what was written, in another form
 pub ok_as : {E A : Type 0} (r : Result (Unit {0}) E) (new a b : List A) → a ≡ b → OnOk r (new ≡ a) → OnOk r (new ≡ b)
 ok_as (Ok x) new a b e h = h ∙ e
 ok_as (Err x) new a b e h = tt

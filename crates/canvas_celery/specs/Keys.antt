@@ -1,7 +1,7 @@
 -- Keys of Celery's Redis backend: `celery-task-meta-ID` has a task's result,
--- `celery-taskset-meta-ID.s`
--- how many members the header of a chord has (Celery 5: celery/backends/base.py, redis.py); and the
--- marker that a run was started, which is this program's own.
+-- `celery-taskset-meta-ID.s` the number of members of a chord's header (Celery 5:
+-- celery/backends/base.py, redis.py); and the marker that a run was started, which is this
+-- program's own.
 use Rattle.std.specs.Prelude.{ℕ, zero, suc, [], ◌++◌, codes}
 use Rattle.canvas_task.specs.Text.{Text}
 use Rattle.canvas_celery.specs.Run.{run_task, run_group}

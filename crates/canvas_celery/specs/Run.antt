@@ -1,5 +1,5 @@
 -- Identifiers of one run: UUIDs of version 8 (RFC 9562), whose bits that are free beside the number
--- hold the run.
+-- have the run.
 use Rattle.std.specs.Prelude.{ℕ, Bool, nat_le, ◌==◌, ◌&&◌, ◌||◌, ◌++◌, length, take, drop, codes}
 use Rattle.std.specs.List.{list_all}
 use Rattle.canvas_task.specs.Text.{Text}
@@ -16,12 +16,12 @@ all_digits text = list_all is_digit text
 abbrev pub is_run_number : Text → Bool
 is_run_number text = (length text == 22) && all_digits text
 
--- so many bytes of a text, from a place on
+-- count bytes of a text, from an index on
 abbrev pub piece : (from count : ℕ) → Text → Text
 piece from count text = take count (drop from text)
 
--- an identifier with a run's 22 digits in the places of its zero digits: between them stand the
--- version, the mark of tasks or of groups, and at the end the number
+-- an identifier with a run's 22 digits instead of its zero digits: between them are the version,
+-- the mark of tasks or of groups, and at the end the number
 abbrev pub in_run : (run id : Text) → Text
 in_run run id =
     piece 0 8 run ++ codes "-" ++ piece 8 4 run ++ codes "-8" ++ piece 12 3 run
@@ -35,7 +35,7 @@ run_task run k = in_run run (task_text k)
 abbrev pub run_group : (run : Text) → ℕ → Text
 run_group run g = in_run run (group_text g)
 
--- the run that stands in an identifier
+-- the run in an identifier
 abbrev pub run_in : Text → Text
 run_in text =
     piece 0 8 text ++ piece 9 4 text ++ piece 15 3 text ++ piece 20 3 text ++ piece 24 4 text

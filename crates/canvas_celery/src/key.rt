@@ -15,7 +15,7 @@ fn push_named(out: &mut Vec<u8>, word: &[u8], id: &[u8], end: &[u8]) -> Result<(
     out.extend_from_slice(end)
 }
 
-/// A key, put behind other bytes: a prefix, a word of Celery's, an identifier, and an end.
+/// Appends a key: a prefix, a word of Celery's, an identifier, and an end.
 pub(crate) fn push_key(
     out: &mut Vec<u8>,
     prefix: &[u8],
@@ -30,7 +30,7 @@ pub(crate) fn push_key(
     push_named(out, word, id, end)
 }
 
-/// The key of a chord's size.
+/// Returns the key of a chord's size.
 pub fn size_key(
     alloc: Global,
     run: &Run,
@@ -51,7 +51,7 @@ pub fn size_key(
     Ok(key)
 }
 
-/// The key that is there once the run was started.
+/// Returns the key that is set once the run was started.
 pub fn marker_key(alloc: Global, run: &Run, prefix: &str) -> Result<Vec<u8>, AllocError>
     ensures { IfOk result (λ key. key.items ≡ marker_key run.now.digits prefix.now) }
 {

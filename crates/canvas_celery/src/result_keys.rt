@@ -18,7 +18,7 @@ fn push_task(out: &mut Vec<u8>, run: &Run, prefix: &str, task: TaskNo) -> Result
     push_key(out, prefix.as_bytes(), b"celery-task-meta-", &id, b"\n")
 }
 
-/// The keys of all tasks in the order of their numbers, each with a line feed.
+/// Returns the keys of all tasks in the order of their numbers, each with a line feed.
 pub fn keys(alloc: Global, plan: &Plan, run: &Run, prefix: &str) -> Result<Vec<u8>, Memory>
     ensures { IfOk result (λ text. text.items
         ≡ result_keys run.now.digits prefix.now (count_line plan.now)) }

@@ -6,8 +6,8 @@ ghost use Rattle.canvas_celery.specs.Run.{is_digit, all_digits, is_run_number, i
 
 use canvas_task::{GroupNo, TaskNo, group_text, task_text};
 
-/// A run's number: 22 lower-case hexadecimal digits, 88 bits. They stand in each identifier where
-/// it has zero bits otherwise, so that runs on one Redis don't meet.
+/// A run's number: 22 lower-case hexadecimal digits, 88 bits. Each identifier has them instead of
+/// its free zero bits, so that runs on one Redis don't collide.
 #[derive(Clone, Copy)]
 pub struct Run {
     digits: [u8; 22],
@@ -27,7 +27,7 @@ fn are_digits(text: &[u8]) -> bool
 }
 
 impl Run {
-    /// The run that a text names; none where it isn't 22 digits.
+    /// Parses the run that a text names; None if it isn't 22 digits.
     pub fn of_text(text: &str) -> Option<Run>
         ensures digits { IfSome result (λ run. run.digits ≡ text.now) }
         ensures none { result ≡ None → is_run_number text.now ≡ false }
@@ -41,14 +41,14 @@ impl Run {
         Some(Run { digits })
     }
 
-    /// Its digits.
+    /// Returns its digits.
     pub fn digits(&self) -> [u8; 22]
         ensures { result ≡ self.now.digits }
     {
         self.digits
     }
 
-    /// An identifier with the run's digits in place of its 22 zero digits.
+    /// Returns an identifier with the run's digits instead of its 22 zero digits.
     fn put_into(&self, id: [u8; 36]) -> [u8; 36]
         ensures value { result ≡ in_run self.now.digits id }
         ensures run { run_in result ≡ self.now.digits }
@@ -121,7 +121,7 @@ impl Run {
         ]
     }
 
-    /// A task's identifier in this run.
+    /// Returns a task's identifier in this run.
     pub fn task_text(&self, task: TaskNo) -> [u8; 36]
         ensures value { result ≡ run_task self.now.digits task }
         ensures run { run_in result ≡ self.now.digits }
@@ -129,7 +129,7 @@ impl Run {
         self.put_into(task_text(task))
     }
 
-    /// A group's or chord's identifier in this run.
+    /// Returns a group's or chord's identifier in this run.
     pub fn group_text(&self, group: GroupNo) -> [u8; 36]
         ensures value { result ≡ run_group self.now.digits group }
         ensures run { run_in result ≡ self.now.digits }

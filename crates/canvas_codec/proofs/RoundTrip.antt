@@ -211,9 +211,23 @@ record Found (size : Option ℕ) (call : Call) (k : ℕ) (l e : Items) (g c : Da
 
 found : (size : Option ℕ) (call : Call) (k : ℕ) (l e : Items) (g c : Data) → Found size call k l e g c
 found None call k l e g c =
-    record { id = id_found k l e g c; group = group_found k l e g c; body = chord_found k l e g c; links = link_found k l e g c; errbacks = errbacks_found k l e g c }
+    record {
+      id = id_found k l e g c;
+      group = group_found k l e g c;
+      body = chord_found k l e g c;
+      links = link_found k l e g c;
+      errbacks = errbacks_found k
+          l e g c;
+    }
 found (Some n) call k l e g c =
-    record { id = id_found k l e g c; group = group_found k l e g c; body = chord_found k l e g c; links = link_found k l e g c; errbacks = errbacks_found k l e g c }
+    record {
+      id = id_found k l e g c;
+      group = group_found k l e g c;
+      body = chord_found k l e g c;
+      links = link_found k l e g c;
+      errbacks = errbacks_found k
+          l e g c;
+    }
 
 read_with : (size : Option ℕ) (call : Call) (k : ℕ) (links errbacks : PTasks) (place : PPlace) (t : Data → Result PTask SigFault) (f : Data
     → Result PLine SigFault)

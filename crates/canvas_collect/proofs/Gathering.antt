@@ -25,7 +25,7 @@ back_value n (id k) h = tt
 back_value n (skip f) h = absurd h
 back_value n (raised f) h = absurd h
 
--- a failure stays, whatever stands behind it
+-- a failure stays, with anything after it
 stays : (es more : Rows) → ¬ IsValue (gathered es) → gathered (es ++ more) ≡ gathered es
 stays [] more h = absurd (h tt)
 stays ((k, Some (Success n)) ∷ es) more h = ap (in_front n) (stays es more (λ v. h (front_value n (gathered es) v)))

@@ -28,7 +28,7 @@ after-no p b bs e =
     let more : 1 + position_or_len p bs + 1 ≡ suc (position_or_len p bs + 1) = omega arith in
     rw e (rw more refl)
 
--- the first line stands before the first line feed
+-- the first line ends before the first line feed
 abbrev IsFirst : Text → Type 0
 IsFirst text = lines_in text ≡ before_first ends text ∷ lines_in (after_first ends text)
 

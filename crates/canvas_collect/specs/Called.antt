@@ -1,7 +1,7 @@
 -- The rows of the tasks that evaluating a canvas calls: those into which a result flows, with the
 -- links of the ones that succeed and the error callbacks of the ones that fail (Celery user guide,
 -- Canvas). A task that an exception skips isn't called, nor is one in which a failed header raises
--- its own; these rows follow from those of the called.
+-- its own; these rows follow from those of the called tasks.
 use Rattle.std.specs.Prelude.{ℕ, [], ◌∷◌, ◌++◌, Option, Some, None}
 use Rattle.canvas_task.specs.Apply.{Behaviour}
 use Rattle.canvas_semantics.specs.Tree.{Task, task, Tasks, no_tasks, and_task}

@@ -1,7 +1,7 @@
--- Which failure each task has that Celery leaves pending behind one. Behind a task that failed the
--- next of its line has the same failure, and so on. The body of a chord has a ChordError, which
--- names the first of the header's last tasks that failed, and with which class. Links and error
--- callbacks stay as they are (Celery user guide, Canvas).
+-- The failure of each task that Celery leaves pending after a failed one. After a task that failed
+-- the next of its line has the same failure, and so on. The body of a chord has a ChordError, which
+-- names the first of the header's last tasks that failed, with its class. Links and error callbacks
+-- stay as they are (Celery user guide, Canvas).
 use Rattle.std.specs.Prelude.{◌-◌, ℕ, List, [], ◌∷◌, slice_index_or, slice_set, Some, None}
 use Rattle.canvas_task.specs.declared.outcome.Fault.TheVariants as fault
 use Rattle.canvas_task.specs.declared.outcome.Why.TheVariants as why
@@ -13,7 +13,7 @@ use Rattle.canvas_collect.specs.Looks.{Look, known, value, raised, blamed, look_
 use Rattle.canvas_collect.specs.declared.completing.Flow.{Flow}
 use Rattle.canvas_collect.specs.declared.completing.Flow.TheVariants.{Value, Skip, Raise, Pending}
 
--- What flows out of task k that shows this: a result, its failure, or nothing yet.
+-- The flow out of task k that shows this: a result, its failure, or nothing yet.
 abbrev pub passed : ℕ → Look → Flow
 passed k (known None) = Pending
 passed k (known (Some (Success n))) = Value
@@ -22,12 +22,12 @@ passed k (value json) = Value
 passed k (raised name) = Skip k
 passed k (blamed dep name) = Skip k
 
--- What flows behind task k: nothing where nothing came to it yet, whatever it shows.
+-- The flow after task k: nothing if nothing came to it yet, for any outcome of its own.
 abbrev pub after : Flow → ℕ → Look → Flow
 after Pending k x = Pending
 after flow k x = passed k x
 
--- ---- which failure
+-- ---- the failures
 
 -- the failure that a task shows; a task that shows none leaves others pending
 abbrev pub same_failure : Look → Look
@@ -51,7 +51,7 @@ abbrev pub put_by : Look → List Look → ℕ → Look → List Look
 put_by (known None) ls i x = slice_set ls i x
 put_by y ls i x = ls
 
--- this at place i, from 0, where what stands there is pending
+-- this at index i, if the element there is pending
 abbrev pub put : List Look → ℕ → Look → List Look
 put ls i x = put_by (slice_index_or ls i (known None)) ls i x
 
@@ -64,8 +64,8 @@ reached Pending k ls = ls
 
 -- ---- what flows into a body
 
--- by what the last tasks of the members before it give, and what flows out of the next: one that is
--- pending leaves all pending, and the first failure is told
+-- given the flow of the last tasks of the members before, and that of the next: a pending one
+-- leaves all pending, and the first failure counts
 abbrev pub gathered_on : Flow → Flow → Flow
 gathered_on flow Pending = Pending
 gathered_on flow Value = flow
@@ -78,14 +78,14 @@ gathered_from flow [] ls = flow
 gathered_from flow (k ∷ ks) ls =
     gathered_from (gathered_on flow (passed k (look_at ls k))) ks ls
 
--- behind a header with these last tasks, into which this flowed
+-- after a header with these last tasks, into which this flowed
 abbrev pub into_body : Flow → List ℕ → List Look → Flow
 into_body flow [] ls = flow
 into_body (Skip d) ks ls = Skip d
 into_body Pending ks ls = Pending
 into_body flow ks ls = gathered_from Value ks ls
 
--- ---- a line, whose groups and chords have the members' last tasks that the table says
+-- ---- a line, given a table of the last tasks of groups' and chords' members
 
 module _ (table : ℕ → List ℕ) where
   abbrev mutual
@@ -103,6 +103,6 @@ module _ (table : ℕ → List ℕ) where
     all_completed no_lines flow ls = ls
     all_completed (and_line m ms) flow ls = all_completed ms flow (completed m flow ls)
 
--- what the rows of a plan show that is completed
+-- the rows of a plan that is completed
 abbrev pub plan_completed : Line → List Look → List Look
 plan_completed l ls = completed (λ g. members l g) l Value ls

@@ -1,4 +1,4 @@
--- What completing leaves of rows of any kind: each is as it was, or was pending and is a failure.
+-- The rows that completing leaves, of any kind: each is as it was, or was pending and is a failure.
 use Rattle.std.specs.Prelude.{◌≡◌, ◌⊎◌, ℕ, List, get_or, Some, None}
 use Rattle.canvas_task.specs.declared.outcome.Outcome.TheVariants.{Success, Failure}
 use Rattle.canvas_report.specs.declared.row.Row.{Row}

@@ -1,4 +1,4 @@
--- The lines of a text: what stands between its line feeds, and behind the last where that is not
+-- The lines of a text: the texts between its line feeds, and the one after the last if it is not
 -- empty.
 use Rattle.std.specs.Prelude.{ℕ, Bool, ◌==◌, if◌then◌else◌, List, [], ◌∷◌}
 use Rattle.std.specs.List.{onto_first}

@@ -1,4 +1,5 @@
-//! The rows of a report from the results that Celery stored, whatever the tasks return and raise.
+//! The rows of a report from the results that Celery stored, for tasks that return or raise
+//! anything.
 
 ghost use Rattle.std.specs.Prelude.{◌≡◌, [], length, IfOk, IfErr, OnOk};
 ghost use Rattle.canvas_semantics.specs.Line.{count_line};
@@ -17,21 +18,21 @@ use canvas_task::TaskNo;
 use std::alloc::Global;
 use thiserror::Error;
 
-/// Why the results are none of a plan's run.
+/// Why the results are not those of a plan's run.
 #[derive(Clone, Copy, Debug, Drop, PartialEq, Eq, Error)]
 pub enum CollectFault {
-    /// Fewer or more lines than tasks.
+    /// The number of lines is not the number of tasks.
     #[error("BadCount")]
     BadCount,
     /// A task's result is refused.
     #[error("{fault}")]
     Stored { task: TaskNo, fault: StoredFault },
-    /// A growth was refused.
+    /// An allocation failed.
     #[error("memory refused")]
     Memory,
 }
 
-/// The row of a task's line, put behind the others.
+/// Appends the row of a task's line.
 fn push_row(
     alloc: Global,
     plan: &Plan,
@@ -55,7 +56,7 @@ fn push_row(
     }
 }
 
-/// The rows of all tasks, put into an empty list, from a text with a line for each.
+/// Appends the rows of all tasks to an empty list, from a text with a line for each.
 fn push_rows(
     alloc: Global,
     plan: &Plan,
@@ -80,12 +81,16 @@ fn push_rows(
     Ok(())
 }
 
-/// The rows of a plan's tasks from a text with a line for each, in the order of their numbers. Each
-/// row is what its own line says, so no outcome is made up, and none that is final is overlooked: a
-/// result that is no whole number, or past 2^60, is shown as it is stored, and an exception that
-/// the engine's own tasks don't raise by its class. Where there are as many lines as tasks, only a
-/// line that can't be read is refused, the first of them: no JSON, another task's, an unknown
-/// state, or a failure that names no exception. JSON's numbers past 64 bits are read as floats.
+/// Returns the rows of a plan's tasks from a text with a line for each, in the order of their
+/// numbers. Each row is the one that its own line gives, so no outcome is made up, and no final one
+/// is overlooked: a result that isn't a whole number, or past 2^60, is shown as it is stored, and
+/// an exception that the engine's own tasks don't raise by its class. If there are as many lines as
+/// tasks, only a line that can't be read is refused, the first of them: invalid JSON, another
+/// task's, an unknown state, or a failure that names no exception. JSON's numbers past 64 bits are
+/// read as floats.
+///
+/// The lines are counted before one is read, so a wrong number of lines is `BadCount` for any
+/// content.
 pub fn collect(alloc: Global, plan: &Plan, run: &Run, text: &[u8]) -> Result<Vec<Row>, CollectFault>
     ensures count { IfOk result (λ rows. length rows.items ≡ count_line plan.now) }
     ensures said { IfOk result

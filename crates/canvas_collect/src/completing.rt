@@ -1,5 +1,10 @@
-//! The failure rules over what Celery stored: tasks that a failure reaches and that Celery leaves
-//! pending.
+//! The failure rules for results that Celery stored: tasks that a failure reaches and that Celery
+//! leaves pending.
+//!
+//! Only lines, groups and chords are walked: no failure skips a link or an error callback, so
+//! nothing after them has to be filled in. A failure flows as the number of the task that has it,
+//! and its row is cloned for each row that it fills. So one walk serves the engine's own outcomes
+//! and exceptions of any class. An exception of another class is known only by its class.
 
 ghost use Rattle.std.specs.Prelude.{◌≡◌, ◌≢◌, ◌<◌, ◌-◌, ℕ, List, length, map, get_or, Some};
 ghost use Rattle.std.specs.Prelude.{MatchBool, IfOk, OnOk};
@@ -22,7 +27,7 @@ use canvas_rewrite::{FrozenEnd, FrozenLine, FrozenTask, Plan};
 use canvas_task::{Fault, GroupNo, Memory, Outcome, TaskNo, Why};
 use std::alloc::AllocError;
 
-/// What flows into the next element of a line.
+/// The flow into the next element of a line.
 #[derive(Clone, Copy)]
 enum Flow {
     /// A result: what follows was called.
@@ -35,7 +40,7 @@ enum Flow {
     Pending,
 }
 
-/// What flows out of a task that has this row.
+/// Returns the flow out of a task that has this row.
 fn flow_of(row: &Row, task: TaskNo) -> Flow
     ensures { result ≡ passed task (look row.now) }
 {
@@ -49,14 +54,14 @@ fn flow_of(row: &Row, task: TaskNo) -> Flow
     }
 }
 
-/// The row of a task, if it is there.
+/// Returns the row of a task, if it is there.
 fn row_at(rows: &[Row], task: TaskNo) -> Option<&Row>
     ensures { look_of result ≡ look_at (looks rows.now) task }
 {
     rows.get(task.get() as usize - 1)
 }
 
-/// What flows out of a task, by its row.
+/// Returns the flow out of a task, by its row.
 fn passed_on(rows: &[Row], task: TaskNo) -> Flow
     ensures { result ≡ passed task (look_at (looks rows.now) task) }
 {
@@ -66,7 +71,7 @@ fn passed_on(rows: &[Row], task: TaskNo) -> Flow
     }
 }
 
-/// The failure of a row, again; pending where it has none.
+/// Returns a clone of the failure of a row; pending if it has none.
 fn same_row(row: &Row) -> Result<Row, AllocError>
     ensures { IfOk result (λ made. look made ≡ same_failure (look row.now)) }
 {
@@ -100,7 +105,7 @@ fn why_of(fault: &Fault) -> Why
     }
 }
 
-/// The ChordError that names a task with this row; pending where it has no failure.
+/// Returns the ChordError that names a task with this row; pending if it has no failure.
 fn chord_row(dep: TaskNo, row: &Row) -> Result<Row, AllocError>
     ensures { IfOk result (λ made. look made ≡ chord_failure dep (look row.now)) }
 {
@@ -117,7 +122,7 @@ fn chord_row(dep: TaskNo, row: &Row) -> Result<Row, AllocError>
     }
 }
 
-/// The failure that a task has, for those behind it.
+/// Returns the failure that a task passes on to those after it.
 fn skipping(rows: &[Row], task: TaskNo) -> Result<Row, AllocError>
     ensures { IfOk result (λ made. look made ≡ same_failure (look_at (looks rows.now) task)) }
 {
@@ -127,7 +132,7 @@ fn skipping(rows: &[Row], task: TaskNo) -> Result<Row, AllocError>
     }
 }
 
-/// The ChordError of a body whose header failed in this task.
+/// Returns the ChordError of a body whose header failed in this task.
 fn raising(rows: &[Row], task: TaskNo) -> Result<Row, AllocError>
     ensures { IfOk result
         (λ made. look made ≡ chord_failure task (look_at (looks rows.now) task)) }
@@ -144,7 +149,7 @@ fn is_pending(row: &Row) -> bool
     matches!(row, Row::Known(None))
 }
 
-/// Whether a task has a row that is pending.
+/// Returns whether a task has a row that is pending.
 fn is_open(rows: &[Row], task: TaskNo) -> bool
     ensures { MatchBool result
         ((task - 1 < length rows.now) × (get_or rows.now (task - 1) pending ≡ pending))
@@ -158,7 +163,7 @@ fn is_open(rows: &[Row], task: TaskNo) -> bool
     }
 }
 
-/// Gives a task whose row is pending another.
+/// Replaces the row of a task that is pending.
 #[tactic(auto, using(crate::proofs::FilledRows::filled))]
 fn put_row(rows: &mut [Row], task: TaskNo, row: Row)
     requires there { task - 1 < length rows.now }
@@ -170,7 +175,7 @@ fn put_row(rows: &mut [Row], task: TaskNo, row: Row)
     rows[task.get() as usize - 1] = row;
 }
 
-/// Gives a task into which this flows its failure, where its row is pending.
+/// Gives a task into which this flows its failure, if its row is pending.
 #[tactic(auto, using(crate::proofs::FilledRows::filled))]
 fn fill(rows: &mut [Row], task: TaskNo, flow: &Flow) -> Result<(), AllocError>
     ensures filled { AreFilled rows.old rows.new }
@@ -194,7 +199,7 @@ fn fill(rows: &mut [Row], task: TaskNo, flow: &Flow) -> Result<(), AllocError>
     }
 }
 
-/// What flows behind a task into which this flowed.
+/// Returns the flow after a task into which this flowed.
 fn behind(rows: &[Row], task: TaskNo, flow: &Flow) -> Flow
     ensures { result ≡ after flow.now task (look_at (looks rows.now) task) }
 {
@@ -206,7 +211,7 @@ fn behind(rows: &[Row], task: TaskNo, flow: &Flow) -> Flow
     }
 }
 
-/// What flows out of a task into which this flows, which has its row then.
+/// Fills the row of a task into which this flows. Returns the flow out of it.
 #[tactic(auto, using(crate::proofs::FilledRows::filled))]
 fn complete_task(rows: &mut [Row], task: &FrozenTask, flow: &Flow) -> Result<Flow, AllocError>
     ensures filled { AreFilled rows.old rows.new }
@@ -220,7 +225,7 @@ fn complete_task(rows: &mut [Row], task: &FrozenTask, flow: &Flow) -> Result<Flo
     }
 }
 
-/// What flows behind some tasks.
+/// Fills the rows of some tasks. Returns the flow after them.
 #[tactic(auto, using(crate::proofs::FilledRows::filled))]
 fn complete_tasks(rows: &mut [Row], tasks: &[FrozenTask], flow: Flow) -> Result<Flow, AllocError>
     ensures filled { AreFilled rows.old rows.new }
@@ -238,7 +243,7 @@ fn complete_tasks(rows: &mut [Row], tasks: &[FrozenTask], flow: Flow) -> Result<
     Ok(last)
 }
 
-/// What a member makes of what those before it give.
+/// Returns the flow of some members and one more.
 fn gathered_on(flow: Flow, next: Flow) -> Flow
     ensures { result ≡ gathered_on flow next }
 {
@@ -250,7 +255,7 @@ fn gathered_on(flow: Flow, next: Flow) -> Flow
     }
 }
 
-/// What a member that failed makes of what those before it give.
+/// Returns the flow of some members and one more that failed.
 fn first_failure(flow: Flow, task: TaskNo) -> Flow
     ensures { result ≡ gathered_on flow (Skip task) }
 {
@@ -262,7 +267,7 @@ fn first_failure(flow: Flow, task: TaskNo) -> Flow
     }
 }
 
-/// What the last tasks of a header's members give.
+/// Returns the flow of the last tasks of a header's members.
 fn gathered(rows: &[Row], lasts: &[TaskNo]) -> Flow
     ensures { result ≡ gathered_from Value lasts.now (looks rows.now) }
 {
@@ -347,10 +352,10 @@ fn complete_line(
     }
 }
 
-/// Gives each task that a failure reaches, and that is pending, its failure: that of the task to
-/// blame, or in the body of a chord a ChordError that names the first member that failed, with its
-/// class. Of outcomes that the engine's own tasks have these are what evaluating the canvas gives,
-/// where each task that was called has its row. Where memory is refused, some rows may be filled.
+/// Gives each pending task that a failure reaches its failure: that of the task to blame, or in the
+/// body of a chord a ChordError that names the first member that failed, with its class. For
+/// outcomes that the engine's own tasks have, these are what evaluating the canvas gives, if each
+/// task that was called has its row. If memory is refused, some rows may be filled.
 #[tactic(auto, using(crate::proofs::FilledRows::filled))]
 pub fn complete(plan: &Plan, rows: &mut [Row]) -> Result<(), Memory>
     ensures filled { AreFilled rows.old rows.new }

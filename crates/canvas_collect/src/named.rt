@@ -23,7 +23,7 @@ fn digit_of(byte: u8) -> Option<u32>
     }
 }
 
-/// What two digits stand for.
+/// Returns the value of two digits.
 fn byte_of(high: u8, low: u8) -> Option<u32>
     ensures below { IfSome result (λ n. n < 256) }
     ensures reads { (n : ℕ) → n < 256 → high ≡ hex_digit lower (n / 16 % 16)
@@ -32,7 +32,7 @@ fn byte_of(high: u8, low: u8) -> Option<u32>
     Some(digit_of(high)? * 16 + digit_of(low)?)
 }
 
-/// What eight digits stand for.
+/// Returns the value of eight digits.
 fn number_of(digits: &[u8]) -> Option<u32>
     ensures { (k : ℕ) → k < 2 ^ 32 → digits.now ≡ number_digits k → result ≡ Some k }
 {
@@ -48,7 +48,7 @@ fn number_of(digits: &[u8]) -> Option<u32>
     }
 }
 
-/// The number at an identifier's end.
+/// Returns the number at an identifier's end.
 fn number_in(id: &[u8]) -> Option<u32>
     ensures { (run : Text) (k : ℕ) → length run ≡ 22 → k < 2 ^ 32 → id.now ≡ run_task run k
         → result ≡ Some k }
@@ -60,14 +60,15 @@ fn number_in(id: &[u8]) -> Option<u32>
     number_of(digits)
 }
 
-/// The task of the plan that an identifier names in this run.
+/// Returns the task of the plan that an identifier names in this run.
 pub(crate) fn task_named(plan: &Plan, run: &Run, id: &[u8]) -> Option<TaskNo>
     ensures { MatchOption result
         ((k : ℕ) → 1 ≤ k → k ≤ count_line plan.now → id.now ≢ run_task run.now.digits k)
         (λ task. (id.now ≡ run_task run.now.digits task)
         × (1 ≤ task) × (task ≤ count_line plan.now)) }
 {
-    // The range of the plan's numbers, and the length of the run's, are known by their types.
+    // The types of the plan and of the run give the range of the numbers and the length of the
+    // digits.
     let tasks = plan.tasks();
     let _digits = run.digits();
     let task = TaskNo::new(number_in(id)?)?;

@@ -1,10 +1,10 @@
-//! A text on both sides of a byte, and its lines.
+//! The parts of a text before and after a byte, and its lines.
 
 ghost use Rattle.std.specs.Prelude.{◌≡◌, ◌==◌, ◌<◌, ◌∷◌, length};
 ghost use Rattle.std.specs.List.{position_or_len, before_first, after_first};
 ghost use Rattle.canvas_collect.specs.Pieces.{lines_in};
 
-/// Where a byte stands first, or the text's length.
+/// Returns the index of the first such byte, or the text's length.
 fn place_of(text: &[u8], byte: u8) -> usize
     ensures { result ≡ position_or_len (λ b. b == byte) text.now }
 {
@@ -16,7 +16,8 @@ fn place_of(text: &[u8], byte: u8) -> usize
     text.len()
 }
 
-/// What stands before the first such byte and behind it: all and nothing, where there is none.
+/// Returns the text before the first such byte and the text after it: all and nothing if there is
+/// none.
 pub(crate) fn split_at_byte(text: &[u8], byte: u8) -> (&[u8], &[u8])
     ensures before { result.0.now ≡ before_first (λ b. b == byte) text.now }
     ensures behind { result.1.now ≡ after_first (λ b. b == byte) text.now }
@@ -29,7 +30,7 @@ pub(crate) fn split_at_byte(text: &[u8], byte: u8) -> (&[u8], &[u8])
     }
 }
 
-/// The first line of a text that isn't empty, and what follows it.
+/// Returns the first line of a text that isn't empty, and what follows it.
 pub(crate) fn split_line(text: &[u8]) -> (&[u8], &[u8])
     requires { 0 < length text.now }
     ensures line { lines_in text.now ≡ result.0.now ∷ lines_in result.1.now }
@@ -38,7 +39,7 @@ pub(crate) fn split_line(text: &[u8]) -> (&[u8], &[u8])
     split_at_byte(text, b'\n')
 }
 
-/// How many lines there are.
+/// Returns how many lines there are.
 pub(crate) fn count_lines(text: &[u8]) -> usize
     ensures { result ≡ length (lines_in text.now) }
 {

@@ -1,4 +1,4 @@
-//! One result as Celery stores it, whatever the task returned or raised.
+//! One result as Celery stores it, for a task that returned or raised anything.
 
 ghost use Rattle.std.specs.Prelude.{◌≡◌, ◌≤◌, IfOk, IsUtf8, MatchResult, string_bytes};
 ghost use Rattle.serde_json.specs.Data.{depth};
@@ -22,7 +22,7 @@ use serde_json::Value;
 use std::alloc::{AllocError, Global};
 use std::str;
 
-/// A value as JSON; one that is missing is null.
+/// Returns a value as JSON; one that is missing is null.
 fn json_text(alloc: Global, found: Option<&Value>) -> Result<String, AllocError>
     requires { depth (value_at found) ≤ max_depth }
     ensures { IfOk result (λ text. IsJsonOf (string_bytes text) (value_at found.entry)) }
@@ -33,7 +33,7 @@ fn json_text(alloc: Global, found: Option<&Value>) -> Result<String, AllocError>
     }
 }
 
-/// A row with a value.
+/// Returns a row with a value.
 fn value_row(alloc: Global, found: Option<&Value>) -> Result<Row, StoredFault>
     requires { depth (value_at found) ≤ max_depth }
     ensures { MatchResult result (HasJson (value_at found.entry)) IsRefused }
@@ -44,7 +44,7 @@ fn value_row(alloc: Global, found: Option<&Value>) -> Result<Row, StoredFault>
     }
 }
 
-/// The class of an exception, empty where it is none.
+/// Returns the class of an exception, empty if it is none.
 fn class_in(found: Option<&Value>) -> &str
     ensures { result.now ≡ class_of (value_at found.entry) }
 {
@@ -54,7 +54,7 @@ fn class_in(found: Option<&Value>) -> &str
     }
 }
 
-/// The message of an exception, empty where it has none.
+/// Returns the message of an exception, empty if it has none.
 fn said_in(found: Option<&Value>) -> &str
     ensures { result.now ≡ message_of (value_at found.entry) }
 {
@@ -64,7 +64,7 @@ fn said_in(found: Option<&Value>) -> &str
     }
 }
 
-/// A row with the class of an exception.
+/// Returns a row with the class of an exception.
 fn raised_row(alloc: Global, class: &str) -> Result<Row, StoredFault>
     ensures { MatchResult result (HasClass class.now) (LacksClass class.now) }
 {
@@ -77,7 +77,7 @@ fn raised_row(alloc: Global, class: &str) -> Result<Row, StoredFault>
     }
 }
 
-/// A row with the task that a ChordError names, and the class that this raised.
+/// Returns a row with the task that a ChordError names, and the class of that task's exception.
 fn blamed_row(alloc: Global, dep: TaskNo, class: &[u8]) -> Result<Row, StoredFault>
     requires { IsUtf8 class.now }
     ensures { MatchResult result (HasBlame dep class.now) IsRefused }
@@ -91,7 +91,7 @@ fn blamed_row(alloc: Global, dep: TaskNo, class: &[u8]) -> Result<Row, StoredFau
     }
 }
 
-/// The row of a ChordError, which has its class alone where it names no task of the run.
+/// Returns the row of a ChordError, which has only its class if it names no task of the run.
 fn chord_row(
     alloc: Global,
     plan: &Plan,
@@ -103,7 +103,7 @@ fn chord_row(
     ensures { MatchResult result
         (IsChordRow run.now.digits (count_line plan.now) (value_at found.entry)) IsRefused }
 {
-    // The length of the run's number is known by its type.
+    // The type of the run's number gives its length.
     let _digits = run.digits();
     match blame_in(plan, run, said_in(found).as_bytes()) {
         Some(blame) => blamed_row(alloc, blame.dep, blame.class),
@@ -111,7 +111,7 @@ fn chord_row(
     }
 }
 
-/// The row of a result that is no outcome of the engine's own tasks.
+/// Returns the row of a result that is not an outcome of the engine's own tasks.
 fn other_row(
     alloc: Global,
     plan: &Plan,
@@ -144,7 +144,7 @@ fn row_of(alloc: Global, plan: &Plan, run: &Run, meta: &Value) -> Result<Row, St
     }
 }
 
-/// The row of a stored result, pending where the text is empty, or its state isn't final.
+/// Returns the row of a stored result, pending if the text is empty, or its state isn't final.
 pub(crate) fn read_row(
     alloc: Global,
     plan: &Plan,

@@ -28,40 +28,40 @@ use serde_json::Value;
 use std::alloc::Global;
 use thiserror::Error;
 
-/// Why a stored result is none of the plan's task.
+/// Why a stored result is not one of the plan's task.
 #[derive(Clone, Copy, Debug, Drop, PartialEq, Eq, Error)]
 pub enum StoredFault {
-    /// No JSON text in UTF-8, as where another serializer, or compression, is set.
+    /// Not a JSON text in UTF-8, for example if another serializer, or compression, is set.
     #[error("NotJson")]
     NotJson,
-    /// Another task's, or of another run.
+    /// The result of another task, or of another run.
     #[error("OtherTask")]
     OtherTask,
-    /// A state beside PENDING, RECEIVED, STARTED, RETRY, SUCCESS and FAILURE.
+    /// A state other than PENDING, RECEIVED, STARTED, RETRY, SUCCESS and FAILURE.
     #[error("UnknownState")]
     UnknownState,
-    /// Of a failure: an exception that has no class.
+    /// For a failure: an exception that has no class.
     #[error("UnknownException")]
     UnknownException,
-    /// A growth was refused.
+    /// An allocation failed.
     #[error("memory refused")]
     Memory,
 }
 
-/// Why a stored result is no outcome that the engine's own tasks have.
+/// Why a stored result is not an outcome that the engine's own tasks have.
 #[derive(Clone, Copy, Debug, Drop, PartialEq, Eq)]
 pub(crate) enum Lack {
-    /// Its state is none that is known.
+    /// Its state is unknown.
     State,
-    /// Of a success: no whole number from -2^60 to 2^60.
+    /// For a success: not a whole number from -2^60 to 2^60.
     Number,
-    /// Of a failure: an exception that is none of the built-in tasks'.
+    /// For a failure: an exception that is none of the built-in tasks'.
     Exception,
     /// A ChordError that names no task of the run, or a class that is none of these.
     Dependency,
 }
 
-/// The text of a value, empty where it is none.
+/// Returns the text of a value, empty if it is none.
 pub(crate) fn text_in(found: Option<&Value>) -> &str
     ensures { result.now ≡ text_of (value_at found.entry) }
 {
@@ -71,7 +71,7 @@ pub(crate) fn text_in(found: Option<&Value>) -> &str
     }
 }
 
-/// An exception's message: a text, or the first of a list.
+/// Returns an exception's message: a text, or the first of a list.
 pub(crate) fn message_in(found: Option<&Value>) -> &str
     ensures { result.now ≡ message_in (value_at found.entry) }
 {
@@ -111,7 +111,7 @@ fn why_of(name: &[u8]) -> Option<Why>
     }
 }
 
-/// What stands behind a beginning.
+/// Returns the rest of a text after a beginning.
 fn behind<'a>(text: &'a [u8], start: &[u8]) -> Option<&'a [u8]>
     ensures { MatchOption result ((rest : Text) → text.now ≢ start.now ++ rest)
         (λ rest. text.now ≡ start.now ++ rest.now) }
@@ -119,21 +119,21 @@ fn behind<'a>(text: &'a [u8], start: &[u8]) -> Option<&'a [u8]>
     text.strip_prefix(start)
 }
 
-/// What a ChordError's message says: `Dependency ID raised CLASS(..)`.
+/// The parts of a ChordError's message: `Dependency ID raised CLASS(..)`.
 #[derive(Drop)]
 pub(crate) struct Blame<'m> {
     pub(crate) dep: TaskNo,
     pub(crate) class: &'m [u8],
 }
 
-/// The task of the run that a message names, with the class that it raised.
+/// Returns the task of the run that a message names, with the class of its exception.
 pub(crate) fn blame_in<'m>(plan: &Plan, run: &Run, message: &'m [u8]) -> Option<Blame<'m>>
     ensures { MatchOption result
         ((dep : ℕ) (name : Text)
         → ¬ Names run.now.digits (count_line plan.now) message.now dep name)
         (λ b. Names run.now.digits (count_line plan.now) message.now b.dep b.class.now) }
 {
-    // The length of the run's number is known by its type.
+    // The type of the run's number gives its length.
     let _digits = run.digits();
     let text = behind(message, b"Dependency ")?;
     if text.len() < 36 {
@@ -146,14 +146,14 @@ pub(crate) fn blame_in<'m>(plan: &Plan, run: &Run, message: &'m [u8]) -> Option<
     Some(Blame { dep, class })
 }
 
-/// The same, where the class is one of the built-in tasks' exceptions, or a ChordError.
+/// Like `blame_in`, if the class is one of the built-in tasks' exceptions, or a ChordError.
 fn dependency_of(plan: &Plan, run: &Run, message: &[u8]) -> Option<(TaskNo, Why)>
     ensures { MatchOption result
         ((dep : ℕ) (why : Why)
         → ¬ Blames run.now.digits (count_line plan.now) message.now dep why)
         (λ p. Blames run.now.digits (count_line plan.now) message.now p.0 p.1) }
 {
-    // The length of the run's number is known by its type.
+    // The type of the run's number gives its length.
     let _digits = run.digits();
     match blame_in(plan, run, message) {
         Some(blame) => match why_of(blame.class) {
@@ -254,7 +254,7 @@ pub(crate) fn outcome_of(plan: &Plan, run: &Run, meta: &Value) -> Result<Option<
     }
 }
 
-/// The JSON value of a text.
+/// Parses a text as JSON.
 pub(crate) fn parsed(alloc: Global, text: &[u8]) -> Result<Value, StoredFault>
     ensures { MatchResult result (λ meta. json_of text.now ≡ Some (view meta))
         (λ e. IsUnread text.now e) }
@@ -269,7 +269,7 @@ pub(crate) fn parsed(alloc: Global, text: &[u8]) -> Result<Value, StoredFault>
     }
 }
 
-/// Whether the value names the task in this run.
+/// Returns whether the value names the task in this run.
 pub(crate) fn is_of(run: &Run, task: TaskNo, meta: &Value) -> bool
     ensures { IsTrue result ↔ (named_in (view meta.now) ≡ run_task run.now.digits task) }
 {

@@ -1,4 +1,4 @@
--- Texts behind each other.
+-- Texts after each other.
 use Rattle.std.proofs.Common.{◌≡◌, ◌∙◌, ◌++◌, append_assoc, ap}
 use Rattle.canvas_task.specs.Text.{Text}
 

@@ -11,15 +11,15 @@ use Rattle.canvas_answer.specs.Inputs.{IsCanvasRead}
 use Rattle.canvas_answer.specs.Stubbing.{AreAnswers, added_by, standing}
 use Rattle.canvas_answer.specs.Wanted.{AreAnswersOf, AreAsked, IsAskedBy}
 use Rattle.canvas_answer.specs.declared.answer.Answer.{Answer}
-use Rattle.canvas_answer.specs.declared.asked.Asked.{Asked}
-use Rattle.canvas_answer.specs.declared.asked.Request.{Request}
-use Rattle.canvas_answer.specs.declared.asked.Work.{Work}
-use Rattle.canvas_answer.specs.declared.asked.Work.TheVariants.{One, Each, Failures, Page}
+use Rattle.canvas_answer.specs.declared.command_line.CommandLine.{CommandLine}
+use Rattle.canvas_answer.specs.declared.command_line.Request.{Request}
+use Rattle.canvas_answer.specs.declared.command_line.Action.{Action}
+use Rattle.canvas_answer.specs.declared.command_line.Action.TheVariants.{One, Each, Failures, Page}
 use Rattle.canvas_answer.specs.declared.refusal.Refusal.{Refusal}
 use Rattle.canvas_answer.specs.declared.refusal.Refusal.TheVariants.{Memory}
 use Rattle.canvas_answer.specs.declared.stubs.Answers.{Answers}
 use Rattle.canvas_answer.specs.declared.stubs.AskedStubs.{AskedStubs}
-use Rattle.canvas_command.specs.Worded.{IsAnswerToWords, IsAnswerWith, IsRefused, IsToldAs, IsWorkDone}
+use Rattle.canvas_command.specs.Worded.{IsAnswerToWords, IsAnswerWith, IsRefused, IsToldAs, IsActionDone}
 
 still : (after : Answer) (refusal : Refusal) → IsKept (Some refusal) after.refusal → bytes_in after.out ≡ [] → IsRefused after
 still after refusal (inl same) out = (refusal, same, out)
@@ -46,13 +46,13 @@ of_text Read Answers bytes (Ok a) read h = (bytes, read, h)
 of_text Read Answers bytes (Err e) read h = h
 
 module _ (before after : Option Text) where
-  work_moved : (behaviour : Behaviour) (its : Asking) (file : Text) → (file ≡ codes "-" → after ≡ before) → (work : Work) (a : Answer) → IsWorkDone behaviour after its file work a
-      → IsWorkDone behaviour before its file work a
-  work_moved behaviour its file same (One verb) a (bytes, read, h) = (bytes, λ is. subst (λ input. IsCanvasRead file input bytes) (same is) read is, h)
-  work_moved behaviour its file same (Each each) a h = h
-  work_moved behaviour its file same (Failures failures) a (bytes, read, h) =
+  action_moved : (behaviour : Behaviour) (its : Asking) (file : Text) → (file ≡ codes "-" → after ≡ before) → (action : Action) (a : Answer) → IsActionDone behaviour after its file action a
+      → IsActionDone behaviour before its file action a
+  action_moved behaviour its file same (One verb) a (bytes, read, h) = (bytes, λ is. subst (λ input. IsCanvasRead file input bytes) (same is) read is, h)
+  action_moved behaviour its file same (Each each) a h = h
+  action_moved behaviour its file same (Failures failures) a (bytes, read, h) =
       (bytes, λ is. subst (λ input. IsCanvasRead file input bytes) (same is) read is, h)
-  work_moved behaviour its file same (Page failures) a (bytes, read, h) =
+  action_moved behaviour its file same (Page failures) a (bytes, read, h) =
       (bytes, λ is. subst (λ input. IsCanvasRead file input bytes) (same is) read is, h)
 
   -- an answer by an input that is as it was, if that is the canvas
@@ -60,12 +60,12 @@ module _ (before after : Option Text) where
       → (request.file.now ≡ codes "-" → after ≡ before) → AreAnswersOf stubs answers → IfOk r (IsAnswerWith behaviour after request answers)
       → IfOk r (λ a. (x : Answers) × AreAnswersOf stubs x × IsAnswerWith behaviour before request x a)
   with_stubs behaviour request stubs answers (Ok a) same are h =
-      (answers, are, work_moved behaviour (asked_of request.adapts answers) request.file.now same request.work a h)
+      (answers, are, action_moved behaviour (asked_of request.adapts answers) request.file.now same request.action a h)
   with_stubs behaviour request stubs answers (Err e) same are h = h
 
 -- ---- what words ask for
 
--- what is answered before it is told in JSON
+-- the answer before it is put into JSON
 abbrev pub IsAskedDone : Behaviour → (input : Option Text) → Request → AskedStubs → Answer → Type 0
 IsAskedDone behaviour input request stubs a = (x : Answers) × AreAnswersOf stubs x × IsAnswerWith behaviour input request x a
 
@@ -88,7 +88,7 @@ module _ (behaviour : Behaviour) (input : Option Text) (request : Request) (stub
   told_done before after told (inl refused) = inl (refused_still request.is_json before after refused told)
   told_done before after told (inr (x, are, done)) = inr (x, are, (before, done, told))
 
-pub words_answered : (behaviour : Behaviour) (input : Option Text) (words : List Text) (asked : Asked) (a : Answer) → IsAskedBy words asked
+pub words_answered : (behaviour : Behaviour) (input : Option Text) (words : List Text) (asked : CommandLine) (a : Answer) → IsAskedBy words asked
     → IsToldDone behaviour input asked.request asked.stubs a → IsAnswerToWords behaviour input words a
 words_answered behaviour input words asked a by (inl refused) = inl refused
 words_answered behaviour input words asked a (command, given, is, its) (inr (answers, are, (before, done, told))) =

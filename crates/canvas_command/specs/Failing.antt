@@ -1,5 +1,5 @@
--- What `canvas run --failures` answers: a line for the canvas as it stands, then one for each of
--- its tasks that fails alone, and a status.
+-- The answer of `canvas run --failures`: a line for the canvas without a failure, then one for each
+-- task, in which only that task fails, and a status.
 use Rattle.std.specs.Prelude.{◌≡◌, ℕ, zero, suc, Bool, List, [], ◌∷◌, ◌++◌, None}
 use Rattle.canvas_task.specs.Apply.{Behaviour}
 use Rattle.canvas_task.specs.Text.{Text}
@@ -27,7 +27,7 @@ module _ (its : Asking) (behaviour : Behaviour) (word : Text) (c : Tree) (shown 
       (front : List Text) × (line : Text) × (lines ≡ front ++ line ∷ [])
       × AreCaseLines n front × IsCaseLine its behaviour word c shown before (suc n) line
 
--- where tasks that have no stub are called so
+-- the lines if tasks that have no stub behave so
 pub record AreFailureLines (its : Asking) (behaviour : Behaviour) (word : Text) (c : Tree)
     (lines : List Text) : Type 0 where
   pub shown : Line
@@ -42,15 +42,15 @@ pub record AreFailureLines (its : Asking) (behaviour : Behaviour) (word : Text) 
   pub each : AreCaseLines its behaviour word c shown before (count_line shown) cases
   pub are : lines ≡ case_line before (tree_of shown) None rows ∷ cases
 
--- whether the result of a canvas is a failure as it stands
+-- whether the result of a canvas is a failure already
 abbrev pub IsFailedAs : Behaviour → Asking → Tree → (failed : Bool) → Type 0
 IsFailedAs behaviour its c failed =
     (shown : Line) × (run : Line) × IsPlanOf c shown × IsPlanOf (renamed its.renames c) run
     × (failed
     ≡ any_failed (with_states (rows_from 1 (states behaviour (tree_of run))) (ends_of shown)))
 
--- Nothing is left to be printed. Where failures count, the status says whether the canvas fails as
--- it stands.
+-- Nothing is left to be printed. If failures count, the status says whether the canvas fails
+-- already.
 abbrev pub IsFailuresDone : Behaviour → Asking → Tree → (counts : Bool) → Answer → Type 0
 IsFailuresDone behaviour its c counts a =
     (failed : Bool) × IsFailedAs behaviour its c failed

@@ -1,4 +1,4 @@
--- What `canvas messages` answers: what a run publishes, a line each (Celery's task message
+-- The answer of `canvas messages`: what a run publishes, a line each (Celery's task message
 -- protocol, version 2).
 use Rattle.std.specs.Prelude.{◌≡◌, ℕ, Bool, true, false, List}
 use Rattle.canvas_task.specs.Apply.{Behaviour}
@@ -13,7 +13,7 @@ use Rattle.canvas_answer.specs.Answers.{AnswersAll}
 use Rattle.canvas_answer.specs.Letters.{message_lines}
 use Rattle.canvas_answer.specs.declared.answer.Answer.{Answer}
 
--- of a run of the plan's line by n workers that take these turns
+-- what a run of the plan's line by n workers that take these turns publishes
 abbrev pub IsPublished : Behaviour → Line → ℕ → List ℕ → List Envelope → Type 0
 IsPublished behaviour l n turns sent =
     (rows : List State) × IsTraced behaviour l n turns rows sent
@@ -33,7 +33,7 @@ abbrev pub AreCalls : Behaviour → (shown run : Line) → ℕ → List ℕ → 
 AreCalls behaviour shown run n turns a =
     (lines : Text) × AreCallLines behaviour shown run n turns lines × AnswersAll lines 0 a
 
--- the one, or where calls are asked for the other
+-- the messages, or the calls if these are asked for
 abbrev pub ArePublished : Behaviour → (shown run : Line) → ℕ → List ℕ → (calls : Bool) → Answer
     → Type 0
 ArePublished behaviour shown run n turns false a = AreMessages behaviour run n turns a

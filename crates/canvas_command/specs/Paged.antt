@@ -1,6 +1,6 @@
--- What `canvas page` answers: an HTML page around a block of what the program answers to other
--- words, in lines of JSON: `normal --numbers`; `run --failures`; and `turns --steps`, of some runs,
--- each after a line that says which it is.
+-- The answer of `canvas page`: an HTML page around a block of the program's answers to other words,
+-- in lines of JSON: `normal --numbers`; `run --failures`; and `turns --steps`, for some runs, each
+-- after a line that says which it is.
 use Rattle.std.specs.Prelude.{◌≡◌, ◌++◌, ◌&&◌, [], ℕ, Bool, true, false, List, None, codes, decimal, flat_map, if◌then◌else◌, length, nat_le}
 use Rattle.canvas_task.specs.Apply.{Behaviour}
 use Rattle.canvas_task.specs.Text.{Text}
@@ -36,7 +36,7 @@ run_head workers again =
     ++ codes ",\"workers\":" ++ decimal workers ++ codes "}\n"
 
 module _ (behaviour : Behaviour) (its : Asking) (bytes : Text) where
-  -- what `turns --steps` prints of a run by so many workers that take turns from 1
+  -- the output of `turns --steps` for a run by this number of workers that take turns from 1
   abbrev pub IsRunShown : (workers : ℕ) → (again : Bool) → Text → Type 0
   IsRunShown workers again text =
       (a : Answer) × IsSteppedOf behaviour its bytes workers [] false a
@@ -53,7 +53,7 @@ module _ (behaviour : Behaviour) (its : Asking) (bytes : Text) where
 
 -- ---- the block
 
--- where tasks that have no stub are called so, and the tasks of the cases fail with this word
+-- tasks that have no stub behave so, and the tasks of the cases fail with this word
 pub record IsBlock (behaviour : Behaviour) (its : Asking) (word : Text) (bytes : Text)
     (text : Text) : Type 0 where
   pub canvas : Tree

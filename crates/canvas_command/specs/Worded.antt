@@ -1,4 +1,4 @@
--- What the program answers to words, where its parser takes them.
+-- The program's answer to words, if its parser accepts them.
 use Rattle.std.specs.Prelude.{◌≡◌, ◌⊎◌, Bool, true, false, List, [], Option, Some}
 use Rattle.clap.specs.Walk.{Row}
 use Rattle.canvas_task.specs.Apply.{Behaviour}
@@ -14,9 +14,9 @@ use Rattle.canvas_answer.specs.Plans.{IsCanvasOf}
 use Rattle.canvas_answer.specs.Requests.{IsRequest}
 use Rattle.canvas_answer.specs.Stubbing.{AreAnswers}
 use Rattle.canvas_answer.specs.declared.answer.Answer.{Answer}
-use Rattle.canvas_answer.specs.declared.asked.Request.{Request}
-use Rattle.canvas_answer.specs.declared.asked.Work.{Work}
-use Rattle.canvas_answer.specs.declared.asked.Work.TheVariants.{One, Each, Failures, Page}
+use Rattle.canvas_answer.specs.declared.command_line.Request.{Request}
+use Rattle.canvas_answer.specs.declared.command_line.Action.{Action}
+use Rattle.canvas_answer.specs.declared.command_line.Action.TheVariants.{One, Each, Failures, Page}
 use Rattle.canvas_answer.specs.declared.refusal.Refusal.{Refusal}
 use Rattle.canvas_answer.specs.declared.stubs.Answers.{Answers}
 use Rattle.canvas_command.specs.Asked.{IsAnswerTo}
@@ -24,41 +24,41 @@ use Rattle.canvas_command.specs.Each.{IsEachDone}
 use Rattle.canvas_command.specs.Failing.{IsFailuresDone}
 use Rattle.canvas_command.specs.Paged.{IsPaged}
 
--- why there is nothing
+-- only a refusal, and nothing else
 abbrev pub IsRefused : Answer → Type 0
 IsRefused a = (refusal : Refusal) × (a.refusal ≡ Some refusal) × (bytes_in a.out ≡ [])
 
--- the same answer, whose refusal is told in JSON where that is asked for
+-- the same answer, with its refusal as JSON if that is asked for
 abbrev pub IsToldAs : (json : Bool) → (before after : Answer) → Type 0
 IsToldAs false before after = after ≡ before
 IsToldAs true before after =
     (after.out ≡ before.out) × (after.status ≡ before.status)
     × IsKept before.refusal after.refusal
 
--- Tasks that have no stub are called so; the input has these bytes, if they are known.
+-- Tasks that have no stub behave so; the input has these bytes, if they are known.
 module _ (behaviour : Behaviour) (input : Option Text) where
-  -- of the bytes of one text, which is the input if the file is `-`; or of many texts
-  abbrev pub IsWorkDone : Asking → (file : Text) → Work → Answer → Type 0
-  IsWorkDone its file (One verb) a =
+  -- the work on the bytes of one text, which is the input if the file is `-`; or of many texts
+  abbrev pub IsActionDone : Asking → (file : Text) → Action → Answer → Type 0
+  IsActionDone its file (One verb) a =
       (bytes : Text) × IsCanvasRead file input bytes
       × IsAnswerTo (stubs_behaviour its.stubs behaviour) its bytes verb a
-  IsWorkDone its file (Each each) a = IsEachDone each.fails a
-  IsWorkDone its file (Failures failures) a =
+  IsActionDone its file (Each each) a = IsEachDone each.fails a
+  IsActionDone its file (Failures failures) a =
       (bytes : Text) × IsCanvasRead file input bytes
       × ((c : Tree) × IsCanvasOf its.adapts bytes c
       × IsFailuresDone (stubs_behaviour its.stubs behaviour) its c failures.fails a)
-  IsWorkDone its file (Page failures) a =
+  IsActionDone its file (Page failures) a =
       (bytes : Text) × IsCanvasRead file input bytes
       × IsPaged behaviour its failures.word.now bytes a
 
 module _ (behaviour : Behaviour) (input : Option Text) where
-  -- where some tasks answer so
+  -- the answer if some tasks answer so
   abbrev pub IsAnswerWith : Request → Answers → Answer → Type 0
   IsAnswerWith request answers a =
-      IsWorkDone behaviour input (asked_of request.adapts answers) request.file.now
-      request.work a
+      IsActionDone behaviour input (asked_of request.adapts answers) request.file.now
+      request.action a
 
-  -- what the words ask for is done
+  -- the request of the words is done
   abbrev pub IsDoneFor : (words : List Text) → Answer → Type 0
   IsDoneFor words a =
       (command : Subcommand) × (given : List Row) × IsAsked words command given

@@ -1,4 +1,4 @@
-//! `canvas check`: the figures of a canvas and what may surprise of it, or where it is refused.
+//! `canvas check`: the statistics and warnings of a canvas, or where it is refused.
 
 use crate::messages::messages_of;
 use canvas_answer::answer::Answer;
@@ -6,7 +6,7 @@ use canvas_answer::figures::Figures;
 use canvas_answer::plan::lasting;
 use canvas_answer::prepared::Spelled;
 use canvas_answer::refusal::Refusal;
-use canvas_answer::reporting::Manner;
+use canvas_answer::reporting::OutputOptions;
 use canvas_answer::source::Source;
 use canvas_answer::warnings::warnings_of;
 use canvas_finding::{Reading, Signature, read};
@@ -15,7 +15,7 @@ use canvas_sig::Canvas;
 use canvas_task::Tasks;
 use std::alloc::Global;
 
-/// The figures of a canvas, of which each name that the words say is that of a task.
+/// Returns the statistics of a canvas. Each name in the words must be that of a task.
 fn figures_of<T: Tasks>(
     alloc: Global,
     source: &Source<'_, T>,
@@ -28,38 +28,38 @@ fn figures_of<T: Tasks>(
     Ok(Figures::of(alloc, &plan, depths, &messages)?)
 }
 
-/// What is said of a canvas that is accepted and has these signatures.
+/// Answers for a canvas that is accepted and has these signatures.
 fn checked<T: Tasks>(
     alloc: Global,
-    manner: Manner,
+    output: OutputOptions,
     source: &Source<'_, T>,
     canvas: Canvas,
     signatures: &[Signature],
 ) -> Result<Answer, Refusal> {
     let warnings = warnings_of(alloc, source, &canvas, signatures)?;
     let figures = figures_of(alloc, source, canvas)?;
-    figures.answer(alloc, manner, &warnings)
+    figures.answer(alloc, output, &warnings)
 }
 
-/// What is said of the canvas that a text spells, or where it is refused.
+/// Answers for the canvas that a text spells, or says where it is refused.
 fn answer_spelled<T: Tasks>(
     alloc: Global,
-    manner: Manner,
+    output: OutputOptions,
     source: &Source<'_, T>,
 ) -> Result<Answer, Refusal> {
     match read(alloc, source.text)? {
         Reading::Canvas { canvas, signatures } => {
-            checked(alloc, manner, source, canvas, &signatures)
+            checked(alloc, output, source, canvas, &signatures)
         }
         Reading::Refused(finding) => Err(Refusal::Found(finding)),
     }
 }
 
-/// What is said of a canvas. Where it is adapted first, that is of the adapted text, since it tells
-/// places in that.
+/// Answers for a canvas. If it is adapted first, the answer is about the adapted text, since it
+/// names places in that.
 pub(crate) fn answer_check<T: Tasks>(
     alloc: Global,
-    manner: Manner,
+    output: OutputOptions,
     source: &Source<'_, T>,
 ) -> Result<Answer, Refusal> {
     let spelled = Spelled::of(alloc, source.text, source.setting.adapts)?;
@@ -68,5 +68,5 @@ pub(crate) fn answer_check<T: Tasks>(
         setting: source.setting,
         tasks: source.tasks,
     };
-    answer_spelled(alloc, manner, &source)
+    answer_spelled(alloc, output, &source)
 }

@@ -1,5 +1,5 @@
-//! `canvas run --failures`: a JSON line for the canvas as it is, and one for each task that fails
-//! alone. Each is printed before the next one is made.
+//! `canvas run --failures`: a JSON line for the canvas as it is, and one for each task, in which
+//! only that task fails. Each is printed before the next one is made.
 
 ghost use Rattle.std.specs.Prelude.{◌≡◌, IfOk, List, OnOk, flat_map, map, string_bytes};
 ghost use Rattle.std.specs.Io.KnownBytes.{Appends};
@@ -60,7 +60,7 @@ pub(crate) fn print_cases<T: Tasks, W: Write>(
     Ok(())
 }
 
-/// Prints a line for the canvas as it stands, and then one for each task.
+/// Prints a line for the canvas without a failure, and then one for each task.
 fn print_all<T: Tasks, W: Write>(
     alloc: Global,
     cases: &Cases<'_, T>,
@@ -87,8 +87,8 @@ pub(crate) fn status_of(counts: bool, failed: bool) -> u8
     if counts && failed { FAILED } else { 0 }
 }
 
-/// Answers what `--failures` asks for. If that is asked for, the status is that of a failure if the
-/// canvas's result is one as it stands.
+/// Answers `--failures`. If that is asked for, the status is that of a failure if the canvas's
+/// result is one already.
 pub(crate) fn answer_failures<T: Tasks, W: Write>(
     alloc: Global,
     cases: Cases<'_, T>,

@@ -7,12 +7,12 @@ ghost use Rattle.canvas_command.specs.Runs.{IsEarlyReport, refusal_of, rows_in};
 use canvas_answer::answer::Answer;
 use canvas_answer::prepared::Plans;
 use canvas_answer::refusal::Refusal;
-use canvas_answer::reporting::Manner;
+use canvas_answer::reporting::OutputOptions;
 use canvas_answer::source::Source;
 use canvas_engine::{Cause, Report, RunFault};
 use std::alloc::Global;
 
-/// Why a run has no whole report, as the program says it.
+/// Returns the refusal for a run that has no whole report.
 pub fn refused(fault: &RunFault) -> Refusal
     ensures { result ≡ refusal_of fault.now }
 {
@@ -26,7 +26,7 @@ pub fn refused(fault: &RunFault) -> Refusal
     }
 }
 
-/// What a run stored that ended early.
+/// Returns the outcomes that a run stored which ended early.
 fn stored(fault: &RunFault) -> Option<&Report>
     ensures { option_map (λ r. r.now) result ≡ rows_in fault.now }
 {
@@ -39,16 +39,16 @@ fn stored(fault: &RunFault) -> Option<&Report>
     }
 }
 
-/// The answer to what is asked of a run that ended early.
+/// Answers for a run that ended early.
 pub(crate) fn early<T>(
     alloc: Global,
-    manner: Manner,
+    output: OutputOptions,
     plans: &Plans,
     source: &Source<'_, T>,
     fault: &RunFault,
 ) -> Answer
     ensures { IsEarlyReport (asking source.now.setting) (run_line plans.now) plans.now.shown
-        manner.form fault.now result }
+        output.form fault.now result }
 {
-    manner.early(alloc, plans, source, stored(fault), refused(fault))
+    output.early(alloc, plans, source, stored(fault), refused(fault))
 }

@@ -1,4 +1,4 @@
-//! `canvas page`: an HTML page of what the program answers of a canvas to other words.
+//! `canvas page`: an HTML page of the program's answers about a canvas to other words.
 
 ghost use Rattle.std.specs.Prelude.{◌≡◌, ◌++◌, IfOk, OnOk, List, flat_map, map, string_bytes, true};
 ghost use Rattle.canvas_semantics.specs.Line.{count_line};
@@ -30,20 +30,21 @@ use canvas_stubs::Stubbed;
 use canvas_task::Tasks;
 use std::alloc::{AllocError, Global};
 
-/// The most tasks of a canvas whose cases and runs are in its page, and the most bytes of its line.
-/// The cases of a chain grow with the square of its length, and each is evaluated by itself.
+/// The most tasks of a canvas whose cases and runs are in its page; `MOST_BYTES` is the most bytes
+/// of its line. The cases of a chain grow with the square of its length, and each is evaluated
+/// separately.
 const MOST_TASKS: u32 = 200;
 
 const MOST_BYTES: usize = 65_536;
 
-/// Whether a page has the cases and runs of a plan with this line.
+/// Returns whether a page has the cases and runs of a plan with this line.
 fn is_short(plan: &Plan, line: &str) -> bool
     ensures { line.now ≡ numbered_line plan.now → result ≡ is_short plan.now }
 {
     plan.tasks() <= MOST_TASKS && line.len() <= MOST_BYTES
 }
 
-/// Adds what an answer prints.
+/// Appends what an answer prints.
 fn put_answer(alloc: Global, answer: &Answer, lines: &mut Vec<u8>) -> Result<(), Refusal>
     ensures { OnOk result (lines.new.items ≡ lines.old.items ++ printed_out answer.now) }
 {
@@ -53,7 +54,7 @@ fn put_answer(alloc: Global, answer: &Answer, lines: &mut Vec<u8>) -> Result<(),
     }
 }
 
-/// The line before the steps of a run.
+/// Returns the line before the steps of a run.
 fn run_head(alloc: Global, workers: u32, again: bool) -> Result<String, AllocError>
     ensures { IfOk result (λ text. string_bytes text ≡ run_head workers again) }
 {
@@ -63,7 +64,7 @@ fn run_head(alloc: Global, workers: u32, again: bool) -> Result<String, AllocErr
     Ok(text)
 }
 
-/// Adds the steps of a run.
+/// Appends the steps of a run.
 fn put_run<T: Tasks>(
     alloc: Global,
     workers: u32,
@@ -83,7 +84,7 @@ fn put_run<T: Tasks>(
     put_answer(alloc, &answer, lines)
 }
 
-/// Adds the steps of the runs that a page shows.
+/// Appends the steps of the runs that a page shows.
 fn put_runs<T: Tasks>(
     alloc: Global,
     plans: &Plans,
@@ -102,7 +103,7 @@ fn put_runs<T: Tasks>(
     put_run(alloc, 4, false, plans, source, lines)
 }
 
-/// The same of the canvas of cases.
+/// Like `put_runs`, for the canvas of cases.
 fn put_runs_of<T: Tasks>(
     alloc: Global,
     cases: &Cases<'_, T>,
@@ -151,7 +152,7 @@ fn put_runs_of<T: Tasks>(
     Ok(Ready { plans, answers })
 }
 
-/// Adds the runs, and the lines of the cases, if a page has those of the canvas.
+/// Appends the runs, and the lines of the cases, if a page has those of the canvas.
 fn put_short<T: Tasks>(
     alloc: Global,
     cases: &Cases<'_, T>,
@@ -181,7 +182,7 @@ fn put_short<T: Tasks>(
     Ok(())
 }
 
-/// The block of a page.
+/// Returns the block of a page.
 fn block<T: Tasks>(
     alloc: Global,
     cases: &Cases<'_, T>,
@@ -203,7 +204,7 @@ fn block<T: Tasks>(
     Ok(lines)
 }
 
-/// The page of a canvas.
+/// Answers with the page of a canvas.
 pub(crate) fn answer_page<T: Tasks>(
     alloc: Global,
     cases: Cases<'_, T>,

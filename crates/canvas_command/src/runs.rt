@@ -14,7 +14,7 @@ use canvas_answer::answer::{Answer, Remark};
 use canvas_answer::plan::lasting;
 use canvas_answer::prepared::Plans;
 use canvas_answer::refusal::Refusal;
-use canvas_answer::reporting::{Form, Manner};
+use canvas_answer::reporting::{Format, OutputOptions};
 use canvas_answer::source::Source;
 use canvas_engine::{
     OpenGate, Report, RunFault, Stop, When, run, run_turns_again, run_turns_stepped,
@@ -27,7 +27,7 @@ use std::random::RandomSource;
 use std::sync::Wait;
 use std::thread::Threads;
 
-/// The report of a plan's run on threads.
+/// Returns the report of a plan's run on threads.
 fn report_of<S, T>(rt: &S, plan: &Plan, tasks: &T, workers: u32) -> Result<Report, RunFault>
 where
     S: Threads + Wait + RandomSource + AllocGlobal + Sync,
@@ -44,7 +44,7 @@ where
     }
 }
 
-/// The same, or why there is none.
+/// Returns the report of a plan's run on threads, or the refusal if there is none.
 pub(crate) fn whole_report<S, T>(
     rt: &S,
     plan: &Plan,
@@ -63,39 +63,39 @@ where
     }
 }
 
-/// The report of a run on threads.
+/// Answers with the report of a run on threads.
 pub(crate) fn answer_run<S, T>(
     rt: &S,
     workers: u32,
-    manner: Manner,
+    output: OutputOptions,
     source: &Source<'_, T>,
 ) -> Result<Answer, Refusal>
 where
     S: Threads + Wait + RandomSource + AllocGlobal + Sync,
     T: Tasks + Sync,
     ensures { IfOk result (IsRunOf (T.behaviour source.now.tasks.now)
-        (asking source.now.setting) source.now.text.now (IsThreadFault workers) manner.form
-        manner.fails None) }
+        (asking source.now.setting) source.now.text.now (IsThreadFault workers) output.form
+        output.fails None) }
 {
     let plans = lasting(source.checked_plans(rt.alloc())?);
     match report_of(rt, plans.run(), source.tasks, workers) {
-        Ok(report) => manner.whole(rt.alloc(), &plans, &report, source, None),
-        Err(fault) => Ok(early(rt.alloc(), manner, &plans, source, &fault)),
+        Ok(report) => output.whole(rt.alloc(), &plans, &report, source, None),
+        Err(fault) => Ok(early(rt.alloc(), output, &plans, source, &fault)),
     }
 }
 
-/// A run by turns, as it is asked for.
+/// A request for a run by turns.
 #[derive(Clone, Copy)]
 struct ByTurns<'a> {
     workers: u32,
     turns: &'a [u32],
-    /// What is delivered again.
+    /// The redeliveries.
     again: &'a [(TaskNo, When)],
-    /// Whether it is told how many stores answered Again.
+    /// Whether the report says how many stores answered Again.
     counts: bool,
-    /// Whether its steps are shown, and not the report.
+    /// Whether the steps are shown instead of the report.
     steps: bool,
-    manner: Manner,
+    output: OutputOptions,
 }
 
 impl ByTurns<'_> {
@@ -106,7 +106,7 @@ impl ByTurns<'_> {
         answer.with_remark(self.counts.then_some(Remark::Repeats(repeats)))
     }
 
-    /// The steps.
+    /// Answers with the steps.
     fn stepped<T: Tasks>(
         &self,
         alloc: Global,
@@ -117,21 +117,21 @@ impl ByTurns<'_> {
             (run_line plans.now)
             → IfOk result (IsSteppedOf (T.behaviour source.now.tasks.now)
             (asking source.now.setting) source.now.text.now self.now.workers self.now.turns.now
-            self.now.manner.fails) }
+            self.now.output.fails) }
     {
         let (plan, tasks) = (plans.run(), source.tasks);
         match run_turns_stepped(alloc, plan, tasks, self.workers, self.turns, self.again) {
             Ok((report, repeats, steps)) => {
                 let rows = source.whole_rows(alloc, plans, &report)?;
                 let lines = steps_text(alloc, plan, &rows, &steps)?;
-                let answer = self.manner.answer(lines, &plans.shown, &report);
+                let answer = self.output.answer(lines, &plans.shown, &report);
                 Ok(self.counted(answer, repeats))
             }
             Err(fault) => Err(refused(&fault)),
         }
     }
 
-    /// The report.
+    /// Answers with the report.
     fn shown<T: Tasks>(
         &self,
         alloc: Global,
@@ -143,20 +143,20 @@ impl ByTurns<'_> {
             → IfOk result (λ a. (again : Option ℕ)
             × IsRunOf (T.behaviour source.now.tasks.now) (asking source.now.setting)
             source.now.text.now (IsRunFault self.now.workers self.now.turns.now)
-            self.now.manner.form self.now.manner.fails again a) }
+            self.now.output.form self.now.output.fails again a) }
     {
         let (plan, tasks) = (plans.run(), source.tasks);
         match run_turns_again(alloc, plan, tasks, self.workers, self.turns, self.again) {
             Ok((report, repeats)) => {
                 let again = self.counts.then_some(repeats);
-                let answer = self.manner.whole(alloc, plans, &report, source, again)?;
+                let answer = self.output.whole(alloc, plans, &report, source, again)?;
                 Ok(self.counted(answer, repeats))
             }
-            Err(fault) => Ok(early(alloc, self.manner, plans, source, &fault)),
+            Err(fault) => Ok(early(alloc, self.output, plans, source, &fault)),
         }
     }
 
-    /// The one, or if they are asked for the other.
+    /// Answers with the report, or with the steps if they are asked for.
     fn told<T: Tasks>(
         &self,
         alloc: Global,
@@ -167,7 +167,7 @@ impl ByTurns<'_> {
             (run_line plans.now)
             → IfOk result (IsByTurns (T.behaviour source.now.tasks.now)
             (asking source.now.setting) source.now.text.now self.now.workers self.now.turns.now
-            self.now.steps self.now.manner.form self.now.manner.fails) }
+            self.now.steps self.now.output.form self.now.output.fails) }
     {
         match self.steps {
             true => self.stepped(alloc, plans, source),
@@ -175,7 +175,7 @@ impl ByTurns<'_> {
         }
     }
 
-    /// The same, with what is delivered again by names where there is a list of these.
+    /// Like `told`, with what is redelivered by names if there is a list of these.
     fn told_named<T: Tasks>(
         &self,
         alloc: Global,
@@ -187,7 +187,7 @@ impl ByTurns<'_> {
             (run_line plans.now)
             → IfOk result (IsByTurns (T.behaviour source.now.tasks.now)
             (asking source.now.setting) source.now.text.now self.now.workers self.now.turns.now
-            self.now.steps self.now.manner.form self.now.manner.fails) }
+            self.now.steps self.now.output.form self.now.output.fails) }
     {
         let Some(list) = names else {
             return self.told(alloc, plans, source);
@@ -199,7 +199,7 @@ impl ByTurns<'_> {
             again: &again,
             counts: true,
             steps: self.steps,
-            manner: self.manner,
+            output: self.output,
         };
         by.told(alloc, plans, source)
     }
@@ -212,15 +212,15 @@ impl ByTurns<'_> {
     ) -> Result<Answer, Refusal>
         ensures { IfOk result (IsByTurns (T.behaviour source.now.tasks.now)
             (asking source.now.setting) source.now.text.now self.now.workers self.now.turns.now
-            self.now.steps self.now.manner.form self.now.manner.fails) }
+            self.now.steps self.now.output.form self.now.output.fails) }
     {
         let plans = lasting(source.checked_plans(alloc)?);
         self.told_named(alloc, names, &plans, source)
     }
 }
 
-/// The steps of a run by some workers that take turns from 1, where all is delivered again if that
-/// is asked for.
+/// Answers with the steps of a run by some workers that take turns from 1, in which all is
+/// redelivered if that is asked for.
 pub(crate) fn answer_steps<T: Tasks>(
     alloc: Global,
     workers: u32,
@@ -239,15 +239,15 @@ pub(crate) fn answer_steps<T: Tasks>(
         again: &[],
         counts: false,
         steps: true,
-        manner: Manner {
-            form: Form::Json,
+        output: OutputOptions {
+            form: Format::Json,
             fails: false,
         },
     };
     by.told_named(alloc, again.then_some("all"), plans, source)
 }
 
-/// The report of a run by turns, with what is delivered again, where that is asked for; or its
+/// Answers with the report of a run by turns, with redeliveries if these are asked for; or with its
 /// steps.
 pub(crate) fn answer_turns<T: Tasks>(
     alloc: Global,
@@ -255,12 +255,12 @@ pub(crate) fn answer_turns<T: Tasks>(
     turns: &[u32],
     again: &Again<'_>,
     steps: bool,
-    manner: Manner,
+    output: OutputOptions,
     source: &Source<'_, T>,
 ) -> Result<Answer, Refusal>
     ensures { IfOk result (IsByTurns (T.behaviour source.now.tasks.now)
-        (asking source.now.setting) source.now.text.now workers turns.now steps manner.form
-        manner.fails) }
+        (asking source.now.setting) source.now.text.now workers turns.now steps output.form
+        output.fails) }
 {
     let once = ByTurns {
         workers,
@@ -268,7 +268,7 @@ pub(crate) fn answer_turns<T: Tasks>(
         again: &[],
         counts: false,
         steps,
-        manner,
+        output,
     };
     match again {
         Again::Nothing => once.answer(alloc, None, source),

@@ -13,7 +13,7 @@ use std::thread::{Threads, yield_now};
 /// How often a call looks, and lets other threads run, before it gives up: some seconds.
 const MOST: u32 = 3_000_000;
 
-/// The built-in tasks, of which each call waits until so many have begun.
+/// The built-in tasks, each call of which waits until this number has begun.
 #[derive(Drop)]
 struct Meeting {
     all: u32,
@@ -83,7 +83,7 @@ fn calls_for(alloc: Global, line: &str) -> Result<String, AllocError> {
     }
 }
 
-/// Whether a call of all workers meets those of the others, where the words start so many.
+/// Whether each worker's call meets those of the others, if the words start this number.
 fn meets<S>(rt: &S, line: &str, workers: u32) -> bool
 where
     S: Files + Threads + Wait + RandomSource + AllocGlobal + Sync,

@@ -4,7 +4,7 @@ use crate::program::ADD_THEN_MUL;
 use canvas_answer::answer::Answer;
 use canvas_answer::errors::OtherError;
 use canvas_answer::refusal::Refusal;
-use canvas_answer::reporting::{Form, Manner};
+use canvas_answer::reporting::{Format, OutputOptions};
 use canvas_answer::setting::Setting;
 use canvas_answer::source::Source;
 use canvas_engine::Report;
@@ -31,7 +31,7 @@ const OUT_OF_STOCK: &str = concat!(
     "result -\n"
 );
 
-/// The rows of a run of which the first task alone has ended.
+/// The rows of a run of which only the first task has ended.
 fn first_alone(alloc: Global, outcome: Outcome) -> Result<Report, AllocError> {
     let mut rows = Vec::new(alloc);
     rows.push(Some(outcome))?;
@@ -62,7 +62,7 @@ fn setting_of<'a>(stubs: &'a [Stub], errors: &'a [OtherError]) -> Setting<'a> {
 }
 
 /// Whether an early report has these rows in this form.
-fn tells(alloc: Global, setting: Setting<'_>, report: &Report, form: Form, wanted: &str) -> bool {
+fn tells(alloc: Global, setting: Setting<'_>, report: &Report, form: Format, wanted: &str) -> bool {
     let source = Source {
         text: ADD_THEN_MUL.as_bytes(),
         setting,
@@ -70,8 +70,8 @@ fn tells(alloc: Global, setting: Setting<'_>, report: &Report, form: Form, wante
     };
     match source.plans(alloc) {
         Ok(plans) => {
-            let manner = Manner { form, fails: false };
-            let answer = manner.early(alloc, &plans, &source, Some(report), Refusal::Memory);
+            let output = OutputOptions { form, fails: false };
+            let answer = output.early(alloc, &plans, &source, Some(report), Refusal::Memory);
             prints(alloc, &answer, wanted)
         }
         Err(_) => false,
@@ -81,7 +81,7 @@ fn tells(alloc: Global, setting: Setting<'_>, report: &Report, form: Form, wante
 #[test]
 fn an_early_report_has_what_was_stored(rt: HostRuntime) -> Result<(), Fail> {
     let report = first_alone(rt.alloc(), Outcome::Success(8))?;
-    for &(form, wanted) in &[(Form::Plain, PLAIN), (Form::Explained, EXPLAINED)] {
+    for &(form, wanted) in &[(Format::Plain, PLAIN), (Format::Explained, EXPLAINED)] {
         let setting = setting_of(&[], &[]);
         assert!(rt;
             tells(rt.alloc(), setting, &report, form, wanted),
@@ -111,6 +111,6 @@ fn an_early_report_has_the_classes_that_stubs_raise(rt: HostRuntime) -> Result<(
     let (stub, error) = out_of_stock(rt.alloc())?;
     let (stubs, errors) = ([stub], [error]);
     let setting = setting_of(&stubs, &errors);
-    assert!(rt; tells(rt.alloc(), setting, &report, Form::Plain, OUT_OF_STOCK));
+    assert!(rt; tells(rt.alloc(), setting, &report, Format::Plain, OUT_OF_STOCK));
     Ok(())
 }

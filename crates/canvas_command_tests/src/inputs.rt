@@ -1,11 +1,11 @@
-//! Readers that fail behind a long text, are interrupted, or give a byte a read.
+//! Readers that fail after a long text, are interrupted, or give a byte a read.
 
 use crate::program::{ADD_THEN_MUL, REPORT, answers_to};
 use std::alloc::{AllocError, Global};
 use std::io::{self, Read};
 use std::test::Fail;
 
-/// A reader that fails behind its text.
+/// A reader that fails after its text.
 #[derive(Drop)]
 struct Broken<'a>(&'a [u8]);
 

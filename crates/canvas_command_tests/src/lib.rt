@@ -1,5 +1,5 @@
-//! Tests of the program by calls: readers and refusals that no run of it meets, and tasks handed
-//! in. What it prints is tested in `tests/program`.
+//! Tests of the program by calls: readers and refusals that no run of it meets, and tasks that the
+//! caller passes. What it prints is tested in `tests/program`.
 #![tactic(auto)]
 
 #[cfg(test)]

@@ -1,4 +1,4 @@
--- What a book knows, and what is said of it.
+-- The knowledge of a book, and facts about it.
 pub mod KnownLines
 pub mod FirstKnown
 pub mod Sendable

@@ -17,7 +17,7 @@ Asked = C.Ask Envelope
 abbrev pub Answer : Type 0
 Answer = C.Reply Envelope
 
--- by kind alone, and nothing suits the end
+-- a reply suits an ask by its kind, and nothing suits the end
 abbrev pub suits : Ask → Reply → Bool
 suits Take (R.Taken x) = true
 suits Publish R.Published = true
@@ -33,7 +33,7 @@ abbrev pub to_send : Asked → Option Envelope
 to_send (C.to_queue (queue.publish e)) = Some e
 to_send a = None
 
--- a reply as the machine has it
+-- a reply in terms of the machine
 abbrev pub replied : Reply → Answer
 replied (R.Taken x) = C.from_queue x
 replied R.Published = C.from_queue None
@@ -54,12 +54,12 @@ abbrev pub FoundInRange : Reply → Type 0
 FoundInRange (R.Found t (Some o)) = IsInRange o
 FoundInRange r = Unit {0}
 
--- what is found is found of the task that the book has at the place that was asked
+-- what is found belongs to the task that the book has at the place that was asked for
 abbrev pub FoundOf : Book → Reply → Ask → Type 0
 FoundOf book (R.Found t x) (Read g i) = book.member g i ≡ Some t
 FoundOf book r a = Unit {0}
 
--- a reply for whose answer a core may have to grow: an envelope, or a member's outcome
+-- a reply whose answer may need memory: an envelope, or a member's outcome
 abbrev pub Grows : Reply → Type 0
 Grows (R.Taken (Some e)) = Unit {0}
 Grows (R.Found t (Some o)) = Unit {0}

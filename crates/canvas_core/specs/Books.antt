@@ -1,8 +1,8 @@
--- What holds of each book that a worker may have, and the book of nothing.
+-- Properties of each book that a worker may have, and the empty book.
 use Rattle.std.specs.Prelude.{◌≡◌, ◌<◌, ℕ, false, Some, None, IsSome}
 use Rattle.canvas_runs.specs.Book.{Book}
 
--- that of nothing
+-- the empty book
 abbrev pub no_book : Book
 no_book =
     record {

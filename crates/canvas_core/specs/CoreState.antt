@@ -26,34 +26,34 @@ use Rattle.canvas_core.specs.declared.ask.Reply.TheVariants as R
 abbrev pub Left : Type 0
 Left = CoreState Applied PCarried
 
--- how far a worker is whose core keeps messages as their envelopes; and that from w on it followed
--- a core run of its plan, and was v then
+-- the progress of a worker whose core keeps messages as their envelopes; and that from w on it
+-- followed a core run of its plan, and was v then
 abbrev pub Progress : Type 0
 Progress = Working Applied PCarried
 
 abbrev pub HasFollowed : Behaviour → Roster → Progress → Progress → Type 0
 HasFollowed behaviour plan w v = Followed (enveloped behaviour plan) plan w v
 
--- What is left to do, where the task that is read is the one that a book has at the member's place.
+-- What is left to do, if the task that is read is the one that a book has at the member's place.
 abbrev pub located : Book → Left → Left
 located book (reading g c t fs) = reading g c (unwrap_or (book.member g (length fs)) 0) fs
 located book s = s
 
--- the same as a core has it, which knows the places alone
+-- the same as a core has it, which knows only the places
 abbrev pub placed : Left → Left
 placed = located no_book
 
 -- what is left to do, whether the envelope that is to be published was handed out, how many
 -- envelopes were dropped, the envelope of the open script once its message's outcome is stored, and
 -- the task of that message
-pub record Standing : Type 0 where
+pub record CoreView : Type 0 where
   pub left : Left
   pub is_out : Bool
   pub dropped : ℕ
   pub kept : Option Envelope
   pub task : Option ℕ
 
--- an ask is the same whatever the tasks and the book
+-- an ask is the same for any tasks and any book
 abbrev pub asked : Left → Asked
 asked = ask (enveloped_by no_tasks no_book)
 
@@ -62,8 +62,8 @@ next_job (store t o) = Store t o
 next_job (publish m) = Publish
 next_job (part g t c) = Part g t
 
--- what a core asks for that has this left to do: it names no envelope that it publishes, of a
--- member that it reads the place, and of the envelope that it acknowledges the task
+-- What a core asks for that has this left to do. It names no envelope that it publishes; for a
+-- member that it reads it names the place, and for the envelope that it acknowledges the task.
 abbrev pub next_in : Left → Option ℕ → Ask
 next_in taking x = Take
 next_in resting x = Rest
@@ -75,7 +75,7 @@ next_in (doing (j ∷ js) b) x = next_job j
 next_in (reading g c t fs) x = Read g (length fs)
 next_in acking x = Ack x
 
-abbrev pub next : Standing → Ask
+abbrev pub next : CoreView → Ask
 next s = next_in s.left s.task
 
 abbrev pub unread : Option Content → ℕ
@@ -91,7 +91,7 @@ abbrev pub drops : Book → Left → Answer → ℕ
 drops book taking r = drops_taken book r
 drops book s r = 0
 
-abbrev pub begun : Standing
+abbrev pub begun : CoreView
 begun = record { left = taking; is_out = false; dropped = 0; kept = None; task = None }
 
 abbrev pub kept_taken : Option Content → Envelope → Option Envelope → Option Envelope
@@ -117,17 +117,17 @@ abbrev pub open_of : Left → Option Envelope → Option Envelope
 open_of (owning m) h = Some m.envelope
 open_of s h = h
 
-abbrev pub held : Standing → Option Envelope
+abbrev pub held : CoreView → Option Envelope
 held s = open_of s.left s.kept
 
--- The point to which the open script has come, with the task of its message: before the message's
+-- The point that the open script has reached, with the task of its message: before the message's
 -- first store, or before the acknowledgement. The script of an envelope that was dropped has none.
 abbrev pub point_in : Left → Option ℕ → Option (ℕ × When)
 point_in (owning m) x = option_map (λ k. (k, Early)) x
 point_in acking x = option_map (λ k. (k, Late)) x
 point_in s x = None
 
-abbrev pub point_at : Standing → Option (ℕ × When)
+abbrev pub point_at : CoreView → Option (ℕ × When)
 point_at s = point_in s.left s.task
 
 -- the member that was read is of this task
@@ -138,7 +138,7 @@ taught s r = s
 abbrev pub left_told : Behaviour → Book → Left → Reply → Left
 left_told behaviour book s r = answered (by_place behaviour book) (taught s r) (replied r)
 
-abbrev pub after_reply : Behaviour → Book → Standing → Reply → Standing
+abbrev pub after_reply : Behaviour → Book → CoreView → Reply → CoreView
 after_reply behaviour book s r =
     record {
       left = left_told behaviour book s.left r;
@@ -148,22 +148,21 @@ after_reply behaviour book s r =
       task = task_next book s.left s.task (replied r);
     }
 
--- where memory was refused
-abbrev pub failing : Standing → Standing
+-- memory was refused
+abbrev pub failing : CoreView → CoreView
 failing s =
     record { left = failed; is_out = false; dropped = s.dropped; kept = s.kept; task = s.task }
 
 -- the envelope that can be handed out
-abbrev pub held_out : Standing → Option Envelope
+abbrev pub held_out : CoreView → Option Envelope
 held_out s = if s.is_out then None else to_send (asked s.left)
 
--- the core no longer has the texts of an envelope that was handed out, and still waits for its
--- publish
+-- the core waits for its publish, but no longer has the texts of the envelope that was handed out
 abbrev pub unsent : Left → Left
 unsent (doing (publish e ∷ js) b) = doing (publish (unapplied blank) ∷ js) b
 unsent s = s
 
-abbrev pub handed : Standing → Standing
+abbrev pub handed : CoreView → CoreView
 handed s =
     record {
       left = unsent s.left;
@@ -174,5 +173,5 @@ handed s =
     }
 
 -- a core that waits for an envelope
-abbrev pub waiting : ℕ → Option Envelope → Option ℕ → Standing
+abbrev pub waiting : ℕ → Option Envelope → Option ℕ → CoreView
 waiting n h x = record { left = taking; is_out = false; dropped = n; kept = h; task = x }

@@ -1,5 +1,5 @@
--- How a core, which keeps messages as their envelopes (Celery's task message protocol, version 2),
--- goes with the worker that keeps what they say.
+-- A core, which keeps messages as their envelopes (Celery's task message protocol, version 2),
+-- matches the worker that keeps their contents.
 use Rattle.std.specs.Prelude.{◌≡◌, List, map}
 use Rattle.canvas_task.specs.Apply.{Behaviour}
 use Rattle.canvas_semantics.specs.Line.{Line}
@@ -14,8 +14,8 @@ use Rattle.canvas_core.specs.EnvelopeWorker.{said, enclosed, enveloped}
 use Rattle.canvas_core.specs.CoreState.{Left}
 
 module _ (behaviour : Behaviour) where
-  -- The same point of a script: of a message that was taken the envelope says what it is, and its
-  -- outcome is that of its call; each further message is there as its envelope.
+  -- Both are at the same point of a script: the envelope of a message that was taken says its
+  -- content, and its outcome is that of its call; each further message is there as its envelope.
   abbrev pub IsAlike : Left → CoreState Content PCarried → Type 0
   IsAlike taking taking = Unit {0}
   IsAlike resting resting = Unit {0}
@@ -27,21 +27,21 @@ module _ (behaviour : Behaviour) where
   IsAlike (reading g c t fs) (reading h d u gs) = (g ≡ h) × ((c ≡ d) × ((t ≡ u) × (fs ≡ gs)))
   IsAlike s t = ⊥
 
-  -- that of a core and that of the worker of a plan
+  -- a core's state and that of the plan's worker match
   pub record GoTogether (l : Line) (s : Left) (t : CoreState Content PCarried) :
       Type 0 where
     pub alike : IsAlike s t
-    -- the next ask of the one is that of the other
+    -- both have the same next ask
     pub asks : ReadsBack (enveloped behaviour (roster_of l)) s
         → ask (worker behaviour l) t ≡ ask (enveloped behaviour (roster_of l)) s
     pub reads_back : ReadsBack (enveloped behaviour (roster_of l)) s
         → ReadsBack (worker behaviour l) t
-    -- the one is between scripts just where the other is
+    -- the one is between scripts exactly if the other is
     pub closed : Between s → Between t
     pub closes : Between t → Between s
 
--- What is a core run where messages are kept as their envelopes is one of the worker, and both have
--- the same left to do.
+-- A core run with messages kept as their envelopes is one of the worker, and both have the same
+-- left to do.
 abbrev pub CoresAreWorkers : Type 0
 CoresAreWorkers =
     (behaviour : Behaviour) (l : Line) (xs : List (Asked × Answer))

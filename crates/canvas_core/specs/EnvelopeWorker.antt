@@ -1,6 +1,6 @@
--- The worker of a plan where each message is kept as its envelope, as a core keeps it (Celery task
--- message protocol, version 2). `law_of_cores` leads from here to the worker whose messages are
--- what the envelopes say.
+-- The worker of a plan that keeps each message as its envelope, as a core does (Celery task message
+-- protocol, version 2). `law_of_cores` leads from here to the worker whose messages are the
+-- envelopes' contents.
 use Rattle.std.specs.Prelude.{◌≡◌, ℕ, Bool, ◌&&◌, if◌then◌else◌, [], map, Option, Some, None, is_none, Ok}
 use Rattle.canvas_task.specs.Apply.{Behaviour}
 use Rattle.canvas_task.specs.declared.outcome.Kind.TheVariants.{NotRegistered}
@@ -20,11 +20,11 @@ use Rattle.canvas_runs.specs.Book.{Book, book_on}
 use Rattle.canvas_runs.specs.Protocol.{Protocol}
 use Rattle.canvas_runs.specs.Worker.{sealed, read_envelope, opened}
 
--- what the texts say, whether they are refused or not
+-- the content of an envelope's texts, whether they are refused or not
 abbrev pub said : Envelope → Content
 said e = content_said e.headers e.body
 
--- an envelope without texts, which is refused: it stands for one that isn't there
+-- an envelope without texts, which is refused: it marks one that isn't there
 abbrev pub blank : Envelope
 blank = record { properties = []; headers = []; body = [] }
 
@@ -36,16 +36,16 @@ is_sendable c =
 abbrev pub envelope_of : Content → Envelope
 envelope_of c = if is_sendable c then sealed c else blank
 
--- an envelope, with what its task's call became once it was taken
+-- an envelope, with the outcome of its task's call once it was taken
 pub record Applied : Type 0 where
   pub envelope : Envelope
   pub outcome : Outcome
 
--- one that is to be published: its task was not called
+-- an envelope that is to be published: its task was not called
 abbrev pub unapplied : Envelope → Applied
 unapplied e = record { envelope = e; outcome = Failure (Plain NotRegistered) }
 
--- a job by its message's envelope
+-- a job, with its message as an envelope
 abbrev pub enclosed : Job Content PCarried Outcome → Job Applied PCarried Outcome
 enclosed (store t o) = store t o
 enclosed (publish c) = publish (unapplied (envelope_of c))
@@ -56,12 +56,12 @@ abbrev pub no_tasks : Behaviour
 no_tasks name args named = Failure (Plain NotRegistered)
 
 module _ (behaviour : Behaviour) where
-  -- the envelope where it is that of a message, once its task was called
+  -- the envelope with its call's outcome, if it is that of a message
   abbrev pub applied_if : Option Content → Envelope → Option Applied
   applied_if None e = None
   applied_if (Some c) e = Some (record { envelope = e; outcome = outcome_of behaviour (said e) })
 
-  -- of what a book knows, where these are the tasks of a header's members
+  -- with a book's knowledge, if these are the tasks of a header's members
   abbrev pub enveloped_with : Book → (ℕ → ℕ → Option ℕ) → Protocol Envelope
   enveloped_with book member = record {
     Message = Applied;
@@ -80,7 +80,7 @@ module _ (behaviour : Behaviour) where
   abbrev pub enveloped_by : Book → Protocol Envelope
   enveloped_by book = enveloped_with book book.member
 
-  -- As a core goes by a book, which knows a header's members by their places alone: each has 0 for
+  -- With a book that knows a header's members only by their places, as a core does: each has 0 for
   -- its task.
   abbrev pub by_place : Book → Protocol Envelope
   by_place book = enveloped_with book (λ g i. Some 0)

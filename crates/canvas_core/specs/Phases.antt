@@ -1,4 +1,4 @@
--- What the parts of a core stand for.
+-- What the parts of a core represent.
 use Rattle.std.specs.Prelude.{◌≡◌, Bool, false, [], ◌∷◌, is_some, not, unwrap_or}
 use Rattle.canvas_envelope.specs.MessageView.{carried_view}
 use Rattle.canvas_effects.specs.Job.{store, publish, part}
@@ -27,6 +27,6 @@ abbrev pub is_out : Phase → Bool
 is_out (Publishing p) = not (is_some p.envelope)
 is_out p = false
 
--- at this point of the machine, with its envelope still there
+-- the phase is this point of the machine, with its envelope still there
 abbrev pub IsAt : Phase → Left → Type 0
 IsAt p s = (left_of p ≡ s) × (is_out p ≡ false)

@@ -1,5 +1,5 @@
--- What a backend lets a worker's seat do: it may do all that the worker has left to do, whatever
--- other workers do. It follows from what is left and from what the seat has seen, for each envelope
+-- What a backend lets a worker's seat do: all that the worker has left to do, at any progress of
+-- other workers. It follows from what is left and from what the seat has seen, for each envelope
 -- that is opened, also for one that no plan's run has.
 use Rattle.std.specs.Prelude.{◌≡◌, ◌≤◌, ◌<◌, ℕ, true, false, IsTrue, [], ◌∷◌, length, Some, slice_get}
 use Rattle.canvas_task.specs.Apply.{Behaviour}
@@ -44,7 +44,7 @@ module _ (plan : Roster) where
   MayReturnDue s b (publish e ∷ js) = MayReturnDue s b js
   MayReturnDue s b (job.part g t c ∷ js) = b ≡ First → MayReturn plan s.seen s.name t
 
-  -- a part comes next only where that store was the first
+  -- a part comes next only if that store was the first
   abbrev pub IsNext : Stored → EnvelopeJobs → Type 0
   IsNext b (job.part g t c ∷ js) = b ≡ First
   IsNext b js = Unit {0}

@@ -1,4 +1,4 @@
-//! What a core asks for, and the answers.
+//! The asks of a core, and the answers.
 
 ghost use Rattle.std.specs.Prelude.{◌≡◌};
 ghost use Rattle.canvas_core.specs.Asks.{suits};
@@ -7,7 +7,7 @@ use canvas_backend::Stored;
 use canvas_envelope::Letter;
 use canvas_task::{GroupNo, Outcome, TaskNo};
 
-/// What a core asks for next.
+/// The next ask of a core.
 #[derive(Clone, Copy, Debug, PartialEq, Eq)]
 pub enum Ask {
     /// The next envelope of the queue.
@@ -18,9 +18,9 @@ pub enum Ask {
     Store(TaskNo, Outcome),
     /// To return the part of a chord by the last task of a member.
     Part(GroupNo, TaskNo),
-    /// To read the outcome of a header's member: the chord, and the member's place, from 0.
+    /// To read the outcome of a header's member. It has the chord, and the member's place, from 0.
     Read(GroupNo, u32),
-    /// To acknowledge the envelope of this task, whose script is done; None where it was dropped.
+    /// To acknowledge the envelope of this task, whose script is done; None if it was dropped.
     Ack(Option<TaskNo>),
     /// To wait, since the queue is empty.
     Rest,
@@ -31,7 +31,7 @@ pub enum Ask {
 /// The answer to an ask.
 #[derive(Drop)]
 pub enum Reply {
-    /// To a take: None where nothing was found.
+    /// To a take: None if nothing was found.
     Taken(Option<Letter>),
     /// To a publish that was accepted.
     Published,
@@ -39,18 +39,18 @@ pub enum Reply {
     NotPublished(Letter),
     /// To a store.
     Stored(Stored),
-    /// To a part: how many were returned before.
+    /// To a part: how many were returned before it.
     Counted(u64),
     /// To a read: the member's last task, and its outcome.
     Found(TaskNo, Option<Outcome>),
     /// To an acknowledgement.
     Acked,
-    /// To a rest: whether more may come. Where not, the core has ended.
+    /// To a rest: whether more may come. If not, the core has ended.
     Rested { more: bool },
 }
 
 impl Ask {
-    /// Whether a reply is of this ask's kind.
+    /// Returns whether a reply is of this ask's kind.
     pub fn suits(&self, reply: &Reply) -> bool
         ensures { result ≡ suits self.now reply.now }
     {

@@ -1,4 +1,4 @@
-//! What a backend keeps of a plan is a book, and so is the backend.
+//! The backend and its index of a plan, as books.
 
 ghost use Rattle.std.specs.Prelude.{refl};
 ghost use Rattle.canvas_runs.specs.Book.{book_on};
@@ -8,8 +8,8 @@ use crate::Book;
 use canvas_backend::{Backend, PlainBackend, Roster};
 use canvas_task::{GroupNo, TaskNo};
 
-// In each `is_member` the first test is always true: it is here for `from_one`, by which no book
-// has task 0 for a member.
+// In each `is_member` the first test is always true. It is here for `from_one`, by which no book
+// has task 0 as a member.
 
 impl Book for Roster {
     ghost book = { book_on };

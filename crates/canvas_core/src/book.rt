@@ -1,4 +1,4 @@
-//! What a worker knows of its plan.
+//! A worker's knowledge of its plan.
 
 ghost use Rattle.std.specs.Prelude.{◌≡◌, ◌≤◌, ℕ, true, false};
 ghost use Rattle.canvas_runs.specs.Book.{Book as Known};
@@ -11,23 +11,23 @@ use canvas_task::{GroupNo, TaskNo};
 pub trait Book {
     ghost book: { Self → Known };
 
-    /// Whether the plan has the task.
+    /// Returns whether the plan has the task.
     fn knows(&self, task: TaskNo) -> bool
         ensures { result ≡ (book self.now).knows task };
 
-    /// Whether the plan is sure to have each task up to this one, so that a worker need not ask for
-    /// them one by one. A book that does not say so is asked for each.
+    /// Returns whether the plan is sure to have each task up to this one. If not, as by default, a
+    /// worker asks for each.
     fn knows_up_to(&self, _greatest: TaskNo) -> bool
         ensures { result ≡ true → (k : ℕ) → k ≤ _greatest → (book self.now).knows k ≡ true }
     {
         false
     }
 
-    /// How many members a chord has; None of a plain group or an unknown number.
+    /// Returns how many members a chord has; None for a plain group or an unknown number.
     fn size(&self, group: GroupNo) -> Option<u32>
         ensures { result ≡ (book self.now).size group };
 
-    /// Whether the task is the last of a member of the group or chord.
+    /// Returns whether the task is the last of a member of the group or chord.
     fn is_member(&self, group: GroupNo, task: TaskNo) -> bool
         ensures { result ≡ (book self.now).is_member group task };
 

@@ -2,10 +2,10 @@
 
 use thiserror::Error;
 
-/// Why a run ended before its canvas.
+/// Why a run ended before its canvas did.
 #[derive(Clone, Copy, Debug, Drop, PartialEq, Eq, Error)]
 pub enum Cause {
-    /// A growth was refused.
+    /// An allocation failed.
     #[error("memory refused")]
     Memory,
     /// The run was asked to stop.

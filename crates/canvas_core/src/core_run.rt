@@ -1,4 +1,8 @@
-//! What a worker has left to do.
+//! The machine of a worker's scripts.
+//!
+//! A core keeps envelopes and no registry. Only a take asks the tasks, so a message that was taken
+//! has the outcome of its call beside it. What a message starts is encoded before the first store,
+//! and then dropped.
 
 ghost use Rattle.std.specs.Prelude.{◌≡◌, ◌≢◌, ◌≤◌, ◌+◌, min, true, false, Some, None, Ok, OnOk, OnErr, IfOk, IfSome};
 ghost use Rattle.std.specs.Option.{option_map};
@@ -27,7 +31,7 @@ use std::alloc::Global;
 use std::marker::Model;
 use std::mem;
 
-/// The scripts of messages, one after the other. Contracts see what is left to do.
+/// Runs the scripts of messages, one after the other. Contracts see what is left to do.
 ///
 /// All that a message or a completed header needs is built before its first store or publish.
 #[derive(Drop)]
@@ -36,19 +40,19 @@ pub struct Core {
     phase: Phase,
     dropped: u64,
     // The envelope of the open script once its message's outcome is stored, and the task of that
-    // message, None where it was dropped.
+    // message, None if it was dropped.
     kept: Option<Letter>,
     task: Option<TaskNo>,
 }
 
 impl Model for Core {
     ghost use Rattle.canvas_core.specs.Phases.{left_of, is_out};
-    ghost use Rattle.canvas_core.specs.CoreState.{Standing};
+    ghost use Rattle.canvas_core.specs.CoreState.{CoreView};
     ghost use Rattle.std.specs.Coded.{codes};
     ghost use Rattle.canvas_envelope.specs.codes.ContentCode.{content_code};
     ghost use Rattle.canvas_core.specs.codes.CoreCode.{carried_code};
 
-    ghost Value = { Standing };
+    ghost Value = { CoreView };
 
     ghost coded = { Prim.hlevel (codes, content_code, carried_code) };
 
@@ -61,7 +65,7 @@ impl Model for Core {
     } };
 }
 
-/// The message of an envelope, unless it is one to drop.
+/// Reads the message of an envelope; None if it is to be dropped.
 fn open<B: Book>(
     alloc: Global,
     book: &B,
@@ -88,7 +92,7 @@ fn open<B: Book>(
 }
 
 impl Core {
-    /// A core that has nothing to do yet.
+    /// Returns a core that has nothing to do yet.
     pub fn new(alloc: Global) -> Core
         ensures { result ≡ begun }
     {
@@ -101,7 +105,7 @@ impl Core {
         }
     }
 
-    /// What the core asks for.
+    /// Returns what the core asks for.
     pub fn next(&self) -> Ask
         ensures ask { result ≡ next self.now }
         ensures in_range { StoresInRange (asked self.now.left) }
@@ -134,7 +138,7 @@ impl Core {
         }
     }
 
-    /// Whether the core is inside the script of an envelope.
+    /// Returns whether the core is inside the script of an envelope.
     pub fn is_inside(&self) -> bool
         ensures { result ≡ is_inside self.now.left }
     {
@@ -147,7 +151,8 @@ impl Core {
         }
     }
 
-    /// The envelope of the open script, from its take until its acknowledgement is answered.
+    /// Returns the envelope of the open script, from its take until its acknowledgement is
+    /// answered.
     pub fn held(&self) -> Option<&Letter>
         ensures { option_map (λ e. e.now) result ≡ held self.now }
     {
@@ -157,9 +162,8 @@ impl Core {
         }
     }
 
-    /// The point of its message's script to which the core has come, and the message's task: before
-    /// the first store, or before the acknowledgement. None between them, and where the envelope
-    /// was dropped.
+    /// Returns the point that the open script has reached, with its message's task: before the
+    /// first store, or before the acknowledgement. None elsewhere, and if the envelope was dropped.
     pub fn point(&self) -> Option<(TaskNo, When)>
         ensures { result ≡ point_at self.now }
     {
@@ -170,16 +174,18 @@ impl Core {
         }
     }
 
-    /// How many envelopes were dropped.
+    /// Returns how many envelopes were dropped.
     pub fn dropped(&self) -> u64
         ensures { result ≡ self.now.dropped }
     {
         self.dropped
     }
 
-    /// Answers what the core asks for. Where memory was refused the core has failed; only an
-    /// envelope and a member's outcome may need any. The core can't look a member up: who answers a
-    /// read names the last task of the member that was asked for.
+    /// Answers what the core asks for. If memory is refused, the core has failed; only an envelope
+    /// and a member's outcome may need any. The core can't look a member up: the caller that
+    /// answers a read names the last task of the member that was asked for. With any other task the
+    /// asks and answers would be no core run. An outcome that is found must be in range, since no
+    /// envelope can say a greater number.
     pub fn answer<B: Book, T: Tasks>(
         &mut self,
         book: &B,
@@ -199,7 +205,7 @@ impl Core {
                 self.set(Phase::Failed);
                 self.take_in(book, tasks, reply)
             }
-            // nothing is moved here, and it comes once a message
+            // nothing is moved here, and it comes once for each message
             Phase::Acking => {
                 self.kept = None;
                 self.set(acknowledged(&reply));
@@ -209,7 +215,7 @@ impl Core {
         }
     }
 
-    /// The answer to what is neither a take nor an acknowledgement, for which no task is called.
+    /// Answers an ask that is neither a take nor an acknowledgement, for which no task is called.
     fn go_on(&mut self, reply: &Reply) -> Result<(), Memory>
         requires asks { asked self.old.left ≢ to_queue take }
         requires holds { self.old.left ≢ acking }
@@ -237,7 +243,7 @@ impl Core {
         Ok(())
     }
 
-    /// A phase inside a script, with the envelope that is kept until it is acknowledged.
+    /// Sets a phase inside a script, with the envelope that is kept until it is acknowledged.
     fn keep(&mut self, answered: (Phase, Letter))
         ensures value { self.new
             ≡ record {
@@ -266,13 +272,13 @@ impl Core {
             } }
         ensures most { self.old.dropped ≤ greatest_count }
     {
-        // For the clause `most` alone: a count that is read is known to fit its type.
+        // Only the clause `most` needs it: a count that is read is known to fit its type.
         let _dropped = self.dropped;
         self.phase = phase;
     }
 
-    /// The answer to a take. `answer` has set the phase to failed before the call, and so it stays
-    /// where memory is refused.
+    /// Answers a take. `answer` has set the phase to failed before the call, and it stays so if
+    /// memory is refused.
     fn take_in<B: Book, T: Tasks>(
         &mut self,
         book: &B,

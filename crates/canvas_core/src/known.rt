@@ -1,4 +1,7 @@
 //! Whether a message names only what a book knows.
+//!
+//! A message is dropped if it names what the plan doesn't have, or has elsewhere. Who wrote it
+//! can't be known: a forged message that fits the plan is run as the plan's own.
 
 ghost use Rattle.std.specs.Prelude.{◌≡◌, true, map, drop};
 ghost use Rattle.canvas_rewrite.specs.FrozenView.{p_tasks_of, p_lines_of, p_task_view, p_line_view, p_end_view};
@@ -15,7 +18,7 @@ use canvas_envelope::{Message, Unplaced};
 use canvas_rewrite::{FrozenEnd, FrozenLine, FrozenTask, Place};
 use canvas_task::{GroupNo, TaskNo};
 
-/// The number of the last of some tasks.
+/// Returns the number of the last of some tasks.
 fn last_own(tasks: &[FrozenTask]) -> Option<TaskNo>
     ensures { or_zero result ≡ last_number tasks.now }
 {
@@ -25,7 +28,7 @@ fn last_own(tasks: &[FrozenTask]) -> Option<TaskNo>
     }
 }
 
-/// The last task of a line, which may end in a group.
+/// Returns the last task of a line, which may end in a group.
 #[cycle(last)]
 fn last_task(line: &FrozenLine) -> Option<TaskNo>
     ensures { or_zero result ≡ last_task 0 (p_line_view line.now) }
@@ -36,7 +39,7 @@ fn last_task(line: &FrozenLine) -> Option<TaskNo>
     }
 }
 
-/// The last task of a group or chord; of a group, the one before it.
+/// Returns the last task of a group or chord; for a group, the one before it.
 #[cycle(last)]
 fn last_behind(end: &FrozenEnd, before: Option<TaskNo>) -> Option<TaskNo>
     ensures { or_zero result ≡ last_task (or_zero before) (p_end_view end.now) }
@@ -56,7 +59,7 @@ fn has_size<B: Book>(book: &B, group: GroupNo, size: usize) -> bool
     }
 }
 
-/// Whether a line is that of a member, by its last task.
+/// Returns whether a line is that of a member, by its last task.
 fn ends_member<B: Book>(book: &B, group: GroupNo, line: &FrozenLine) -> bool
     ensures { result ≡ (B.book book.now).is_member group (last_task 0 (p_line_view line.now)) }
 {
@@ -97,7 +100,7 @@ fn tasks_known<B: Book>(book: &B, tasks: &[FrozenTask]) -> bool
     true
 }
 
-/// The tasks from an index on.
+/// Returns whether the tasks from an index on are known.
 #[cycle(known)]
 fn known_from<B: Book>(book: &B, tasks: &[FrozenTask], start: usize) -> bool
     ensures { result ≡ tasks_known (B.book book.now)
@@ -111,7 +114,7 @@ fn known_from<B: Book>(book: &B, tasks: &[FrozenTask], start: usize) -> bool
     true
 }
 
-/// The place of a task.
+/// Returns whether all that a task's place names is known.
 #[cycle(known)]
 fn place_known<B: Book>(book: &B, task: TaskNo, place: &Option<Place>) -> bool
     ensures { result ≡ place_known (B.book book.now) task (place_seen place.now) }
@@ -129,7 +132,7 @@ fn place_known<B: Book>(book: &B, task: TaskNo, place: &Option<Place>) -> bool
     }
 }
 
-/// A line: its first tasks need no look-up, as many as `sure` says.
+/// Returns whether a line is known. Its first `sure` tasks need no look-up.
 #[cycle(known)]
 fn line_known<B: Book>(book: &B, line: &FrozenLine, sure: usize) -> bool
     requires { EachFirst (λ t. task_known (B.book book.now) t ≡ true) sure (p_line_view line.now) }
@@ -169,7 +172,7 @@ fn members_known<B: Book>(book: &B, group: GroupNo, members: &[FrozenLine]) -> b
     true
 }
 
-/// How many of the first tasks of a line are sure to be known.
+/// Returns how many of the first tasks of a line are sure to be known.
 fn sure<B: Book>(book: &B, unplaced: &Unplaced) -> usize
     ensures { (line : PLine) → AreUnplaced unplaced.now line
         → EachFirst (λ t. task_known (B.book book.now) t ≡ true) result line }
@@ -190,7 +193,7 @@ fn rest_known<B: Book>(book: &B, rest: &Option<FrozenLine>, unplaced: &Unplaced)
     }
 }
 
-/// Whether each task, chord and member that a message names is known.
+/// Returns whether each task, chord and member that a message names is known.
 pub(crate) fn message_known<B: Book>(book: &B, message: &Message) -> bool
     ensures { result ≡ message_known (B.book book.now) message.now }
 {

@@ -1,4 +1,4 @@
-//! What a worker of a plan does next: a core asks, and goes on by the answer.
+//! The scripts of a worker of a plan: a core asks, and goes on with the answer.
 #![tactic(auto)]
 
 mod ask;
@@ -24,14 +24,14 @@ pub use book::Book;
 pub use cause::Cause;
 pub use core_run::Core;
 
-/// A core keeps messages as their envelopes. The asks and answers of a core are those of the worker
-/// that the law of runs speaks of.
+/// States that the asks and answers of a core, which keeps messages as their envelopes, are those
+/// of the worker that the law of runs speaks of.
 pub fn law_of_cores()
     ensures { CoresAreWorkers }
 {}
 
-/// The asks and answers of a core lead to it: what it has left to do, and how many envelopes it
-/// dropped, follow from them alone.
+/// States that the asks and answers of a core lead to it: what it has left to do, and how many
+/// envelopes it dropped, follow only from them.
 pub fn law_of_answers()
     ensures none { NoneLead }
     ensures one_more { OneMoreLeads }
@@ -39,9 +39,9 @@ pub fn law_of_answers()
     ensures hands_out { HandsOut }
 {}
 
-/// A core that is at its end stays there: it takes no answer and hands out no envelope. It is there
-/// where memory was refused; else its last ask was a rest that was answered with no more, or a
-/// publish that was refused, and only that made it fail. So it is with every `Book`, since that has
+/// States that a core at its end stays there: it takes no answer and hands out no envelope. It is
+/// there after memory was refused, after a rest that was answered with no more, or after a publish
+/// that was refused, and only the last made it fail. This holds with every `Book`, since that has
 /// all members of its chords.
 pub fn law_of_ends()
     ensures stays { EndStays }
@@ -50,8 +50,8 @@ pub fn law_of_ends()
     ensures failing { FailsBehind }
 {}
 
-/// What a worker asks its backend is what that lets its seat do. The worker knows of no other: this
-/// follows from what it has left to do, and from what its seat has seen.
+/// States that a worker asks of its backend only what that lets its seat do. This follows from what
+/// the worker has left to do and from what its seat has seen; the worker knows nothing of others.
 pub fn law_of_seats()
     ensures starts { WaitingCan }
     ensures allows { CanAsk }

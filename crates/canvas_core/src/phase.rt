@@ -1,4 +1,4 @@
-//! Where a core stands in the script of a message.
+//! The point of a core in the script of a message.
 
 ghost use Rattle.std.specs.Prelude.{◌≡◌, ◌<◌, ◌++◌, ◌∷◌, [], Ok, IfOk, OnErr, IfSome, All, true, cond, length, map, unwrap_or};
 ghost use Rattle.std.specs.Option.{option_map};
@@ -58,7 +58,7 @@ fn part_or_ack(part: Option<PartCall>, latest: Stored) -> Phase
     }
 }
 
-/// What is next in a script.
+/// Returns the phase for what is next in a script.
 #[inline(always)]
 fn settle(script: Script) -> Phase
     ensures { IsAt result (settled (by_place no_tasks no_book) (jobs_of script) script.latest) }
@@ -96,7 +96,7 @@ fn settle(script: Script) -> Phase
     }
 }
 
-/// The same, where a store is answered.
+/// Returns the phase for what is next in a script, once a store of it is answered.
 fn settle_after(script: Script, task: TaskNo, stored: Stored) -> Phase
     ensures { IsAt result (settled (by_place no_tasks no_book) (jobs_of script)
         (cond (is_due task (jobs_of script)) stored script.latest)) }
@@ -116,7 +116,7 @@ fn settle_after(script: Script, task: TaskNo, stored: Stored) -> Phase
     })
 }
 
-/// What the call of a message answers.
+/// Returns what the call of a message answers.
 fn outcome_of<T: Tasks>(tasks: &T, message: &Message) -> Outcome
     ensures value { result ≡ outcome_of (T.behaviour tasks.now) message.now }
     ensures in_range { IsInRange result }
@@ -124,7 +124,8 @@ fn outcome_of<T: Tasks>(tasks: &T, message: &Message) -> Outcome
     tasks.apply(message.name.get(), message.args.get(), message.kwargs.get())
 }
 
-/// A function for its contract's sake: the size, as contracts see what is carried.
+/// Returns the size. It is a function for its contract's sake: `now` is what contracts see of the
+/// chord.
 fn size_of(chord: &ChordBody) -> u32
     ensures { result ≡ chord.now.size }
 {
@@ -132,7 +133,7 @@ fn size_of(chord: &ChordBody) -> u32
 }
 
 impl Owned {
-    /// An envelope that was taken, with all that its message needs built.
+    /// Builds all that the message of a taken envelope needs.
     pub(crate) fn of<T: Tasks>(
         alloc: Global,
         tasks: &T,
@@ -156,7 +157,8 @@ impl Owned {
         })
     }
 
-    /// The envelope is given back, which is kept until it is acknowledged.
+    /// Goes on after the store is answered, and gives back the envelope, which is kept until it is
+    /// acknowledged.
     pub(crate) fn answered(self, reply: &Reply) -> (Phase, Letter)
         ensures phase { IsAt result.0 (answered (by_place no_tasks no_book)
             (owning (record { envelope = self.envelope; outcome = self.outcome }))
@@ -205,7 +207,7 @@ impl Publishing {
     }
 }
 
-/// The next member of a completed header is read.
+/// Reads the next member of a completed header.
 fn read_next(group: GroupNo, chord: ChordBody, found: Vec<(TaskNo, Outcome)>) -> Phase
     requires fits { carried_ok chord ≡ true }
     requires few { length found.items < chord.size }
@@ -219,8 +221,8 @@ fn read_next(group: GroupNo, chord: ChordBody, found: Vec<(TaskNo, Outcome)>) ->
     })
 }
 
-/// Room for the outcomes of so many members, where there is memory for it: else it grows as they
-/// are read, and memory is refused there.
+/// Reserves room for the outcomes of `size` members, if there is memory for it. If not, the vector
+/// grows as they are read, and memory is refused there.
 fn room_for(alloc: Global, size: usize) -> Vec<(TaskNo, Outcome)>
     ensures { result.items ≡ [] }
 {
@@ -230,7 +232,7 @@ fn room_for(alloc: Global, size: usize) -> Vec<(TaskNo, Outcome)>
     }
 }
 
-/// Where the part was the last of its header, the members are read.
+/// Starts to read the members, if the part was the last of its header.
 fn counted(alloc: Global, part: PartCall, count: u64) -> Phase
     ensures { IsAt result (part_counted (by_place no_tasks no_book) part.group
         (carried_view part.chord) count) }
@@ -275,16 +277,16 @@ pub(crate) fn rested(reply: &Reply) -> Phase
 }
 
 impl Reading {
-    /// The place of the member that is read next.
+    /// Returns the place of the member that is read next.
     pub(crate) fn place(&self) -> u32
         ensures { result ≡ length self.now.found.items }
     {
-        // For the proof alone: a size that is read is known to fit its type.
+        // Only the proof needs it: a size that is read is known to fit its type.
         let _size = size_of(&self.chord);
         self.found.len() as u32
     }
 
-    /// The outcome of one more member. After the last, all that the body needs is built.
+    /// Adds the outcome of one more member. After the last, builds all that the body needs.
     fn add(self, alloc: Global, task: TaskNo, outcome: Outcome) -> Result<Phase, Memory>
         requires { IsInRange outcome }
         ensures { IfOk result (λ p. IsAt p (all_read (by_place no_tasks no_book)

@@ -1,4 +1,4 @@
-//! What is left to do of a message or of a completed header.
+//! The script of a message or of a completed header.
 
 ghost use Rattle.std.specs.Prelude.{All};
 ghost use Rattle.std.proofs.Props.{props};
@@ -11,8 +11,8 @@ use canvas_effects::PartCall;
 use canvas_task::{Outcome, TaskNo};
 use std::collections::VecDeque;
 
-/// What is left to store and to publish, and the part to return, in this order; and what the
-/// latest store of the part's task answered, Again where none was answered.
+/// What is left to store and to publish, and the part to return, in this order; and what the latest
+/// store of the part's task answered, Again if none was answered.
 #[derive(Drop)]
 pub(crate) struct Script {
     pub stores: VecDeque<(TaskNo, Outcome)>,

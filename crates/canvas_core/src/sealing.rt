@@ -16,7 +16,7 @@ use canvas_task::Memory;
 use std::alloc::Global;
 use std::collections::VecDeque;
 
-/// The envelopes of messages.
+/// Writes the envelopes of messages.
 fn seal_all(alloc: Global, messages: Vec<Message>) -> Result<VecDeque<Sealed>, Memory>
     ensures { IfOk result
         (λ all. map (λ s. s.envelope) all.items ≡ map envelope_of messages.items) }
@@ -28,7 +28,7 @@ fn seal_all(alloc: Global, messages: Vec<Message>) -> Result<VecDeque<Sealed>, M
     Ok(all)
 }
 
-/// The script of what is to be done, with all its envelopes.
+/// Makes the script for what is to be done, with all its envelopes.
 pub(crate) fn script_of(alloc: Global, todo: Todo, latest: Stored) -> Result<Script, Memory>
     requires { All (λ e. IsInRange e.1) todo.stores }
     ensures jobs { IfOk result (λ s. jobs_of s ≡ map enclosed (script (todo_view todo))) }

@@ -20,7 +20,7 @@ use canvas_effects::ChordBody;
 use canvas_envelope::Letter;
 use canvas_task::{GroupNo, Outcome, TaskNo};
 
-/// An envelope whose task's outcome isn't stored yet, with all that follows where that store is the
+/// An envelope whose task's outcome isn't stored yet, with all that follows if that store is the
 /// first.
 #[derive(Drop)]
 pub(crate) struct Owned {
@@ -44,7 +44,7 @@ pub(crate) struct Storing {
     ghost in_range: { IsInRange outcome } by { range_prop outcome },
 }
 
-/// A publish of a script, with its envelope until that is handed out.
+/// A publish of a script, with its envelope until it is handed out.
 #[derive(Drop)]
 pub(crate) struct Publishing {
     pub envelope: Option<Letter>,

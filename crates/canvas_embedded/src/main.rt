@@ -26,7 +26,7 @@ impl OfTwo for Change {
     }
 }
 
-/// `chord([shop.change(10, 3), tasks.add(2, 2)], tasks.xsum)`.
+/// Returns `chord([shop.change(10, 3), tasks.add(2, 2)], tasks.xsum)`.
 fn sums(alloc: Global) -> Result<Node, AllocError> {
     let mut header = Vec::new(alloc);
     header.push(Node::call(alloc, "shop.change", &[10, 3])?)?;
@@ -34,7 +34,7 @@ fn sums(alloc: Global) -> Result<Node, AllocError> {
     Node::chord(alloc, header, Node::call(alloc, "tasks.xsum", &[])?)
 }
 
-/// The report of a plan, by four workers.
+/// Returns the report of a plan, from a run by four workers.
 fn report_of<R>(rt: &R, alloc: Global, plan: &Plan) -> Result<Report>
 where
     R: Threads + Wait + RandomSource + AllocGlobal + Sync,

@@ -1,5 +1,5 @@
 -- What a run on threads promises, and what its records show.
-pub mod Slots
+pub mod WorkerSlots
 pub mod ThreadRuns
 pub mod Wanted
 pub mod RecordLaws

@@ -11,11 +11,11 @@ use Rattle.canvas_semantics.specs.SameMeaning.{IsSame}
 use Rattle.canvas_semantics.specs.States.{states, rows_from}
 use Rattle.canvas_semantics.proofs.RowNumbers.{states_in, states_listed}
 use Rattle.canvas_semantics.proofs.SameReport.{same_report}
-use Rattle.canvas_turns.specs.Spending.{Entry}
+use Rattle.canvas_turns.specs.Redeliveries.{Entry}
 use Rattle.canvas_by_turns.specs.Correct.{AreWorkers, IsAsked, IsWholeAgain}
 use Rattle.canvas_history.specs.Callers.{told}
 use Rattle.canvas_rewrite.specs.Planned.{IsPlan}
-use Rattle.canvas_runs.specs.Courses.{course_of}
+use Rattle.canvas_runs.specs.ProgramOrder.{program_order}
 use Rattle.canvas_engine.specs.Evidence.{IsRun}
 use Rattle.canvas_engine.specs.Headline.{Headline, OnlyWanted}
 use Rattle.canvas_engine.specs.Texts.{IsPlanOfText, IsTextAgain, IsTextFault, IsTextRun}
@@ -40,7 +40,7 @@ module _ (behaviour : Behaviour) (bytes : Text) (c : Tree) (all : Line) (plan : 
   pub ran_recorded : (may_want : ℕ → ℕ → Type 0) (n : ℕ) (r : Result (String Global × Records) TextFault)
       → IfOk r (λ x. (AreWorkers n × IsPlan all) × (string_bytes x.0 ≡ report_of (tree_of all) (rows_from 1 (states behaviour (tree_of all))))
       × ((ran : IsRun behaviour all n (states behaviour (tree_of all)) x.1)
-      × Headline behaviour all n (states behaviour (tree_of all)) x.1 (course_of ran.run))
+      × Headline behaviour all n (states behaviour (tree_of all)) x.1 (program_order ran.run))
       × OnlyWanted may_want (told x.1.pass))
       → IfOk r (λ x. IsTextRun behaviour may_want bytes n (string_bytes x.0) x.1)
   ran_recorded may_want n (Ok x) k = record {

@@ -18,7 +18,7 @@ use Rattle.canvas_runs.specs.Law.{publications}
 use Rattle.canvas_runs.specs.Run.{Run, Closed, published_all}
 use Rattle.canvas_runs.specs.Tally.{Tally as Counts, CountsOf}
 use Rattle.canvas_runs.specs.Worker.{sealed}
-use Rattle.canvas_callers.specs.Accounts.{QueueAccounts, TableAccounts}
+use Rattle.canvas_callers.specs.PerCaller.{QueuePerCaller, TablePerCaller}
 use Rattle.canvas_callers.specs.CallerLaws.{broker_calls_seen}
 use Rattle.canvas_callers.specs.Rows.{RanWell}
 use Rattle.canvas_core.specs.declared.cause.Cause.TheVariants.{Memory, Stopped}
@@ -38,8 +38,8 @@ as_counts t =
       dropped = t.dropped;
     }
 
--- of workers numbered from k on: each tally counts the entries of its worker in both lists, and
--- nothing was dropped
+-- Workers are numbered from k on. Each tally counts the entries of its worker in both histories,
+-- and nothing was dropped.
 abbrev pub AreTallies : List (Entries Envelope) → Log → ℕ → List Tally → Type 0
 AreTallies queue table k [] = Unit {0}
 AreTallies queue table k (t ∷ ts) =
@@ -47,30 +47,30 @@ AreTallies queue table k (t ∷ ts) =
 
 pub record IsRun (behaviour : Behaviour) (l : Line) (n : ℕ) (rows : List State) (r : Records) :
     Type 0 where
-  -- the pass and the seat are of this queue and this table, which is one of the plan
+  -- the pass and the seat are of this queue and this table, and the table is the plan's
   pub objects : (r.pass.of ≡ r.broker) × (r.seat.of ≡ r.backend.id) × (r.backend.plan ≡ roster_of l)
-  -- Each of the n workers, and worker 0, has followed a core run. Worker 0 published all first
-  -- messages before, and read each task at the end: these are the rows.
+  -- Each of the n workers, and worker 0, has followed a core run. Worker 0 first published all
+  -- first messages, and at the end read each task: these are the rows.
   pub ran : RanWell behaviour l r.pass r.seat rows
-  pub workers : length ran.to.ran.mates ≡ n
-  -- The broker has one legal history, and the backend one. Of each worker they have just its calls,
-  -- each once and in its order; worker i is the i-th that is named in each.
-  pub of_broker : QueueAccounts behaviour (roster_of l) ran.to.ran.mates
+  pub workers : length ran.to.ran.callers ≡ n
+  -- The broker has one legal history, and the backend one. Each has just the calls of each worker,
+  -- once and in its order; worker i is the i-th that is named in each.
+  pub of_broker : QueuePerCaller behaviour (roster_of l) ran.to.ran.callers
       (published_all (map sealed ran.to.ran.opening)) ran.to.ran.works.made
       (broker_calls_seen r.pass)
-  pub of_backend : TableAccounts behaviour (roster_of l) ran.to.ran.mates
+  pub of_backend : TablePerCaller behaviour (roster_of l) ran.to.ran.callers
       (backend_calls ran.to.ran.works.run ++ ran.to.ran.closing) r.seat.seen
-  -- they are those of a closed run of the plan
+  -- both histories are those of a closed run of the plan
   pub run : Run behaviour l
   pub queue : run.queue ≡ broker_calls_seen r.pass
   pub table : run.table ≡ r.seat.seen
   pub closed : Closed behaviour l run
-  -- what worker 0 counted, and each further one, in the order of their numbers
+  -- what each worker counted, in the order of their numbers from 0 on
   pub tallies : AreTallies (broker_calls_seen r.pass) r.seat.seen 0 r.workers
   pub each_tally : length r.workers ≡ suc n
-  -- each envelope that is published reads as the message of a task, each message is published at
-  -- most once, and by the worker that brought about the event which runs its task: a body's by the
-  -- one whose part completed its header
+  -- Each envelope that is published reads as a task's message. Each message is published at most
+  -- once, by the worker that brought about the event which runs its task; a body's message by the
+  -- worker whose part completed its header.
   pub once : (k : ℕ) → publications l k (broker_calls_seen r.pass) ≤ 1
   pub by_cause : ByCause behaviour l (broker_calls_seen r.pass) r.seat.seen
   pub by_its_cause : ByItsCause behaviour l (broker_calls_seen r.pass) r.seat.seen
@@ -78,8 +78,8 @@ pub record IsRun (behaviour : Behaviour) (l : Line) (n : ℕ) (rows : List State
   -- what evaluating the plan's tree gives
   pub are : rows ≡ states behaviour (tree_of l)
 
--- Why a run has no whole report, where these are the states of its plan: one that ended early has
--- rows that are pending, or these. Without rows it is for memory that was refused: before the first
+-- Why a run has no whole report, if these are the states of its plan. A run that ended early gives
+-- rows that are pending or these. It gives none only if memory was refused before the first
 -- publish, or to an executor.
 abbrev pub IsThreadFault : ℕ → List State → RunFault → Type 0
 IsThreadFault n ss BadWorkers = AreWorkers n → ⊥

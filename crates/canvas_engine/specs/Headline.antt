@@ -22,46 +22,46 @@ use Rattle.canvas_history.specs.Table as table
 use Rattle.canvas_history.specs.TableLaws.{IsCompleting}
 use Rattle.canvas_history.specs.Roster.{roster_of}
 use Rattle.canvas_history.specs.Queue as queue
-use Rattle.canvas_runs.specs.Courses.{Course, sent_in, called_in, published_in}
+use Rattle.canvas_runs.specs.ProgramOrder.{ProgramOrder, sent_in, called_in, published_in}
 use Rattle.canvas_engine.specs.declared.threads.records.Records.{Records}
 
--- the callers that were made are 1 to n, and all have been taken in again
+-- the callers that were split off are 1 to n, and all have been joined again
 abbrev pub HasCallers : {C R : Type 0} → ℕ → List (Entry C R) → Type 0
 HasCallers n log = (split_off log ≡ numbers_from 1 n) × Sole log 0
 
--- the task whose message an envelope is: its header `id` names it
+-- the task that an envelope's header `id` names
 abbrev pub task_in : Envelope → Option ℕ
 task_in e = option_and_then (λ d. task_of (field (codes "id") d)) (json_of e.headers)
 
--- 1 where the message is that of task k
+-- 1 if the message is that of task k
 abbrev pub of_task : ℕ → Option ℕ → ℕ
 of_task k None = 0
 of_task k (Some j) = cond (eqb j k) 1 0
 
--- of the messages that a history publishes, how many are those of task k
+-- how many messages of task k a history publishes
 abbrev pub publications : ℕ → List (queue.QueueEntry Envelope) → ℕ
 publications k log = total (λ x. of_task k (task_in x.1)) (published_in log)
 
--- Each envelope that is delivered again is that of a task's message, and whoever delivers it again
--- had a gate that may want that of this worker and this task.
+-- Each redelivered envelope is a task's message, and the gate of the worker that redelivers it may
+-- want that of this worker and this task.
 abbrev pub OnlyWanted : (ℕ → ℕ → Type 0) → List (queue.QueueEntry Envelope) → Type 0
 OnlyWanted may_want log =
     (p : ℕ) (e : Envelope) (a : Option Envelope) → In (calls p (queue.redeliver e) a) log
     → (k : ℕ) × (task_in e ≡ Some k) × may_want p k
 
 -- the part that completes the chord's header was returned
-abbrev pub Completed : Line → ℕ → Course → Type 0
+abbrev pub Completed : Line → ℕ → ProgramOrder → Type 0
 Completed l g before =
     (t n : ℕ) × In (inr (table.part g t, table.count n)) before × IsCompleting (roster_of l) g n
 
--- Of a run, what each worker did, in its order: `did`.
+-- `did` gives what each worker of the run did, in its order.
 pub record Headline (behaviour : Behaviour) (l : Line) (n : ℕ) (rows : List State) (r : Records)
-    (did : ℕ → Course) : Type 0 where
+    (did : ℕ → ProgramOrder) : Type 0 where
   -- The states: each task has the one that evaluating the plan's tree gives.
   pub are : rows ≡ states behaviour (tree_of l)
-  -- The histories: of this queue and of this table, which is the plan's, worker 0 has a pass and a
-  -- seat. What these have seen, once it has taken in workers 1 to n, is one legal history of each.
-  -- The one leaves the queue empty, and the other leaves the states.
+  -- The histories: worker 0 has a pass of this queue and a seat of this table, which is the plan's.
+  -- What these have seen, once workers 1 to n are joined, is one legal history of each. The first
+  -- leaves the queue empty, and the second leaves the states.
   pub objects : (r.pass.of ≡ r.broker) × (r.seat.of ≡ r.backend.id) × (r.backend.plan ≡ roster_of l)
   pub queue_legal : queue.IsLegal (told r.pass)
   pub queue_callers : HasCallers n (told r.pass)
@@ -70,15 +70,15 @@ pub record Headline (behaviour : Behaviour) (l : Line) (n : ℕ) (rows : List St
   pub table_callers : HasCallers n r.seat.seen
   pub held : rows
       ≡ map (table.results (roster_of l) r.seat.seen).outcomes (numbers_from 1 (count_line l))
-  -- The workers: caller p of the queue and caller p of the table are one, which did just `did p`.
+  -- The workers: caller p of the queue and caller p of the table are one, and did just `did p`.
   pub sent : (p : ℕ) → sent_in (did p) ≡ by p (published_in (told r.pass))
   pub called : (p : ℕ) → called_in (did p) ≡ by p (answered_calls r.seat.seen)
-  -- The messages: each that is published is a task's, and of each task it is one at most; of those
-  -- that the plan starts with it is one. A message that a chord's body starts with, behind a header
+  -- The messages: each that is published names its task, at most one of each task, and just one of
+  -- each task that the plan starts with. A message that a chord's body starts with, after a header
   -- with members, is published by the worker that returned the part which completes the header, and
-  -- after it.
+  -- after that part.
   pub named : (x : ℕ × Envelope) → In x (published_in (told r.pass)) → is_some (task_in x.1) ≡ true
   pub once : (k : ℕ) → publications k (told r.pass) ≤ 1
   pub started : (k : ℕ) → In k (starts l) → publications k (told r.pass) ≡ 1
-  pub body : (g k p : ℕ) (e : Envelope) (before after : Course) → In (g, k) (bodies l)
+  pub body : (g k p : ℕ) (e : Envelope) (before after : ProgramOrder) → In (g, k) (bodies l)
       → did p ≡ before ++ inl e ∷ after → task_in e ≡ Some k → Completed l g before

@@ -1,8 +1,8 @@
--- What follows from what a run leaves.
+-- Laws of the records that a run leaves.
 --     FewEntries       its histories have few calls, by its plan's tasks and its redeliveries
---     IsPlain l r      nothing was delivered again, so each message is taken once, and each store
+--     IsPlain l r      nothing was redelivered, so each message is taken once, and each store
 --                      is the first of its task
---     AllArePlain      so it is behind a gate that wants nothing
+--     AllArePlain      every run with a gate that wants nothing is plain
 use Rattle.std.specs.Prelude.{◌≡◌, ◌≤◌, ◌+◌, ℕ, List, length}
 use Rattle.canvas_task.specs.Apply.{Behaviour}
 use Rattle.canvas_history.specs.Answers.{answered_calls}
@@ -17,7 +17,7 @@ use Rattle.canvas_engine.specs.Evidence.{IsRun}
 use Rattle.canvas_engine.specs.Headline.{OnlyWanted}
 use Rattle.canvas_engine.specs.declared.threads.records.Records.{Records}
 
--- with the reads of worker 0 at the end, one of each task
+-- counts the reads of worker 0 at the end too, one of each task
 abbrev pub FewEntries : Type 0
 FewEntries =
     (behaviour : Behaviour) (l : Line) → IsPlan l

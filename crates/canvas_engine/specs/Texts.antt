@@ -1,5 +1,5 @@
--- The report of a text: of the canvas that it reads as (JSON, RFC 8259; signatures as Celery writes
--- them); or why there is none.
+-- The report of the canvas that a text reads as (JSON, RFC 8259; signatures as Celery writes them),
+-- or why there is none.
 use Rattle.std.specs.Prelude.{◌≡◌, ℕ, List, Ok, Err}
 use Rattle.canvas_task.specs.Apply.{Behaviour}
 use Rattle.canvas_history.specs.Callers.{told}
@@ -12,10 +12,10 @@ use Rattle.canvas_semantics.specs.Line.{Line, tree_of}
 use Rattle.canvas_semantics.specs.Report.{report}
 use Rattle.canvas_semantics.specs.SameMeaning.{IsSame}
 use Rattle.canvas_semantics.specs.States.{states}
-use Rattle.canvas_turns.specs.Spending.{Entry}
+use Rattle.canvas_turns.specs.Redeliveries.{Entry}
 use Rattle.canvas_by_turns.specs.Correct.{AreWorkers, IsAsked, IsWholeAgain}
 use Rattle.canvas_rewrite.specs.Planned.{IsPlan}
-use Rattle.canvas_runs.specs.Courses.{course_of}
+use Rattle.canvas_runs.specs.ProgramOrder.{program_order}
 use Rattle.canvas_engine.specs.Evidence.{IsRun}
 use Rattle.canvas_engine.specs.Headline.{Headline, OnlyWanted}
 use Rattle.canvas_by_turns.specs.declared.fault.RunFault.{RunFault}
@@ -29,18 +29,17 @@ pub record IsPlanOfText (bytes : Text) (c : Tree) (all : Line) : Type 0 where
   pub same : IsSame (normal c) c
   pub tree : tree_of all ≡ numbered (normal c)
 
--- Why a text has no report: its first refusal; else the fault of the run of the canvas that it
--- reads as; or memory that was refused before the run or after it. `Says` is what a fault of a run
--- with these states says.
+-- Why a text has no report: its first refusal, the fault of the run of the canvas that it reads as,
+-- or memory refused before or after the run. `Says` is what a run's fault says, given the states.
 abbrev pub IsTextFault : Behaviour → Text → (List State → RunFault → Type 0) → TextFault → Type 0
 IsTextFault behaviour bytes Says (Sig e) = text_reading bytes ≡ Err e
 IsTextFault behaviour bytes Says (Run f) =
     (c : Tree) × (text_reading bytes ≡ Ok c) × Says (states behaviour (numbered c)) f
 IsTextFault behaviour bytes Says Memory = Unit {0}
 
--- The text is the report of the canvas that the bytes read as, and the records are those of a run
--- of its plan's line by so many workers, with all that such a run promises. What was delivered
--- again, a gate may have wanted.
+-- The text is the report of the canvas that the bytes read as. The records are those of a run of
+-- its plan's line by n workers, with all that such a run promises. The gate may have wanted each
+-- redelivery.
 pub record IsTextRun (behaviour : Behaviour) (may_want : ℕ → ℕ → Type 0) (bytes : Text) (n : ℕ)
     (text : Text) (r : Records) : Type 0 where
   pub canvas : Tree
@@ -50,12 +49,13 @@ pub record IsTextRun (behaviour : Behaviour) (may_want : ℕ → ℕ → Type 0)
   pub reported : text ≡ report behaviour canvas
   pub plan : IsPlan line
   pub ran : IsRun behaviour line n (states behaviour (tree_of line)) r
-  pub headline : Headline behaviour line n (states behaviour (tree_of line)) r (course_of ran.run)
+  pub headline : Headline behaviour line n (states behaviour (tree_of line)) r
+      (program_order ran.run)
   pub wanted : OnlyWanted may_want (told r.pass)
 
--- The text is the report of the canvas that the bytes read as, and m of the stores of a run of its
--- plan's line by these turns, with these entries, answered Again: as many as there are entries for
--- tasks that evaluation runs.
+-- The text is the report of the canvas that the bytes read as. In a run of its plan's line by these
+-- turns, with these entries, m stores answered Again: one for each entry whose task evaluation
+-- runs.
 pub record IsTextAgain (behaviour : Behaviour) (bytes : Text) (n : ℕ) (turns : List ℕ)
     (es : List Entry) (text : Text) (m : ℕ) : Type 0 where
   pub canvas : Tree

@@ -1,3 +1,3 @@
 pub mod PlanTexts
-pub mod Crews
-pub mod Slots
+pub mod Gathering
+pub mod WorkerSlots

@@ -16,11 +16,11 @@ pub use canvas_worker::{Cause, Gate, OpenGate, Stop, When};
 pub use text::{TextFault, run_text, run_text_again, run_text_recorded, run_text_threads};
 pub use threads::{Records, Tally, run};
 
-/// What follows from what `run` leaves. Whatever the number of workers and their interleaving, its
+/// States what follows from what `run` leaves, for any number of workers and any interleaving. Its
 /// histories have few calls: six for each task of the plan and four for each redelivery, with the
-/// acknowledgements, and the reads at the end. Behind a gate that wants nothing, as `OpenGate`,
-/// nothing is delivered again: each message that is published is taken once, and each store is the
-/// first of its task.
+/// acknowledgements, and the reads at the end. With a gate that wants nothing, such as `OpenGate`,
+/// nothing is redelivered: each published message is taken once, and each store is the first of its
+/// task.
 pub fn law_of_records()
     ensures few { FewEntries }
     ensures plain { AllArePlain }

@@ -11,7 +11,7 @@ ghost use Rattle.canvas_by_turns.specs.Correct.{AreWorkers, IsAsked, IsWholeAgai
 ghost use Rattle.canvas_engine.specs.Headline.{Headline, OnlyWanted};
 ghost use Rattle.canvas_engine.specs.Evidence.{IsRun, IsThreadFault};
 ghost use Rattle.canvas_rewrite.specs.Planned.{IsPlan};
-ghost use Rattle.canvas_runs.specs.Courses.{course_of};
+ghost use Rattle.canvas_runs.specs.ProgramOrder.{program_order};
 ghost use Rattle.canvas_engine.specs.Texts.{IsPlanOfText, IsTextAgain, IsTextFault, IsTextRun};
 ghost use Rattle.canvas_engine.specs.declared.threads.records.Records.{Records};
 ghost use Rattle.canvas_engine.specs.steps.PlanTexts.{IsPlanFault, IsReadFault};
@@ -33,11 +33,10 @@ pub enum TextFault {
     /// The text is refused.
     #[error("{0}")]
     Sig(SigFault),
-    /// Its run has no whole report. Whoever wants the text of the rows that a halted one has asks
-    /// `report_text` for it.
+    /// Its run has no whole report. `report_text` writes the rows that a halted run has.
     #[error("{0}")]
     Run(RunFault),
-    /// A growth was refused before the run, or after it.
+    /// An allocation failed before the run, or after it.
     #[error("memory refused")]
     Memory,
 }
@@ -53,7 +52,7 @@ impl From<Memory> for TextFault {
     }
 }
 
-/// The canvas of a text, with its plan.
+/// Reads a canvas and makes its plan.
 fn read_plan(alloc: Global, bytes: &[u8]) -> Result<Plan, TextFault>
     ensures ok { IfOk result (λ plan. (c : Tree) × IsPlanOfText bytes.now c plan) }
     ensures err { IfErr result (IsReadFault bytes.now) }
@@ -69,7 +68,7 @@ fn read_plan(alloc: Global, bytes: &[u8]) -> Result<Plan, TextFault>
     }
 }
 
-/// Runs a plan on one thread, and writes its report. With it comes how many stores answered Again.
+/// Runs a plan on one thread, and writes its report. Also returns how many stores answered Again.
 fn plan_text<T: Tasks>(
     alloc: Global,
     plan: &Plan,
@@ -110,8 +109,8 @@ pub fn run_text<T: Tasks>(
     }
 }
 
-/// As `run_text`, but envelopes are delivered again where `again` says so, as in `run_turns_again`.
-/// With the report comes how many stores answered Again.
+/// Like `run_text`, but redelivers envelopes as `again` says, as `run_turns_again` does. Also
+/// returns how many stores answered Again.
 pub fn run_text_again<T: Tasks>(
     alloc: Global,
     bytes: &[u8],
@@ -129,7 +128,7 @@ pub fn run_text_again<T: Tasks>(
     plan_text(alloc, &plan, tasks, workers, turns, again)
 }
 
-/// Runs a plan on threads, and writes its report. With it come the records of the run.
+/// Runs a plan on threads, and writes its report. Also returns the records of the run.
 fn plan_text_threads<R, T, G>(
     rt: &R,
     alloc: Global,
@@ -150,7 +149,7 @@ where
         × ((ran : IsRun (T.behaviour tasks.now) plan.now workers
         (states (T.behaviour tasks.now) (tree_of plan.now)) r.1)
         × Headline (T.behaviour tasks.now) plan.now workers
-        (states (T.behaviour tasks.now) (tree_of plan.now)) r.1 (course_of ran.run))
+        (states (T.behaviour tasks.now) (tree_of plan.now)) r.1 (program_order ran.run))
         × OnlyWanted (G.may_want gate.now) (told r.1.pass)) }
     ensures err { IfErr result (IsPlanFault
         (IsThreadFault workers (states (T.behaviour tasks.now) (tree_of plan.now)))) }
@@ -163,10 +162,13 @@ where
     }
 }
 
-/// Reads a canvas, runs it with 1 to 16 workers on threads, and writes its report, beside which
-/// come the records of the run. The faults of the text come first, then those of the run. `gate`
-/// and `stop` are those of `run`: a gate must open in the end, and a stop that was asked, by a
-/// worker too, isn't to be used again.
+/// Reads a canvas, runs it with 1 to 16 workers on threads, and writes its report. Also returns the
+/// records of the run. The faults of the text come first, then those of the run. `gate` and `stop`
+/// are those of `run`: a gate must open in the end, and a stop that was asked, also by a worker,
+/// must not be used again.
+///
+/// The records are an answer, since that there are such records would say less: each plan has a
+/// closed run as data, and only a pass and a seat that the calls left show that this run made them.
 pub fn run_text_recorded<R, T, G>(
     rt: &R,
     alloc: Global,
@@ -190,7 +192,7 @@ where
     plan_text_threads(rt, alloc, &plan, tasks, workers, gate, stop)
 }
 
-/// As `run_text_recorded`, without the records.
+/// Like `run_text_recorded`, without the records.
 pub fn run_text_threads<R, T, G>(
     rt: &R,
     alloc: Global,

@@ -11,7 +11,7 @@ use Rattle.canvas_task.proofs.map_of.MapOf.TheSendSync.{the_send as map_send, th
 use Rattle.canvas_task.proofs.number.GroupNo.TheSendSync.{the_send as group_send, the_sync as group_sync}
 use Rattle.canvas_task.proofs.number.TaskNo.TheSendSync.{the_send as task_send, the_sync as task_sync}
 use Rattle.canvas_task.proofs.text_of.TextOf.TheSendSync.{the_send as text_send, the_sync as text_sync}
-use Rattle.canvas_envelope.specs.contracts.kept.Waiting as Waiting
+use Rattle.canvas_envelope.specs.contracts.kept.Compact as Compact
 use Rattle.canvas_envelope.specs.contracts.letter.Letter as Letter
 use Rattle.canvas_envelope.specs.contracts.message.Message as Message
 use Rattle.canvas_envelope.proofs.carried_text.CarriedText.TheSendSync.{the_send as carried_send, the_sync as carried_sync}
@@ -19,7 +19,7 @@ use Rattle.canvas_envelope.proofs.carried_text.Ring.TheSendSync.{the_send as rin
 use Rattle.canvas_envelope.proofs.pieces.LinePiece.TheSendSync.{the_send as line_piece_send}
 use Rattle.canvas_envelope.proofs.pieces.Piece.TheSendSync.{the_send as piece_send}
 use Rattle.canvas_envelope.proofs.pieces.Pieces.TheSendSync.{the_send as pieces_send}
-use Rattle.canvas_envelope.proofs.pieces.Sheets.TheSendSync.{the_send as sheets_send}
+use Rattle.canvas_envelope.proofs.pieces.LetterTexts.TheSendSync.{the_send as sheets_send}
 use Rattle.canvas_envelope.proofs.texts.ElementsText.TheSendSync.{the_send as elements_send, the_sync as elements_sync}
 use Rattle.canvas_envelope.proofs.texts.Head.TheSendSync.{the_send as head_send, the_sync as head_sync}
 use Rattle.canvas_envelope.proofs.texts.LineText.TheSendSync.{the_send as line_text_send}
@@ -73,7 +73,7 @@ ruleset written = (
 message : IsSend Message.the_row
 message = search (task, line, place, written, plain) depth 40 fits 100000
 
-waiting : IsSend Waiting.the_row
+waiting : IsSend Compact.the_row
 waiting = search (task, line, place, written, plain) depth 40 fits 100000
 
 pub letter : IsSend Letter.the_row

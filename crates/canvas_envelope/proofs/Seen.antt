@@ -16,7 +16,13 @@ use Rattle.canvas_envelope.specs.MessageView.{place_view, place_seen}
 -- ---- tasks and places
 
 abbrev pub called : FrozenTask → Call
-called t = record { name = (out-FrozenTask t).name; args = (out-FrozenTask t).args; kwargs = (out-FrozenTask t).kwargs; immutable = (out-FrozenTask t).immutable }
+called t = record {
+  name = (out-FrozenTask t).name;
+  args = (out-FrozenTask t).args;
+  kwargs = (out-FrozenTask t).kwargs;
+  immutable =
+      (out-FrozenTask t).immutable;
+}
 
 task_by : (t : FrozenTask) (o : Option Place) → (out-FrozenTask t).place ≡ o → p_task_view t
     ≡ p_task (out-FrozenTask t).no (called t) (p_tasks_of (map p_task_view (out-FrozenTask t).links)) (p_tasks_of (map p_task_view (out-FrozenTask t).errbacks))

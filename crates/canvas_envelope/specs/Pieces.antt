@@ -6,8 +6,8 @@ use Rattle.canvas_envelope.specs.declared.pieces.LinePiece.{LinePiece}
 use Rattle.canvas_envelope.specs.declared.pieces.Piece.{Piece}
 use Rattle.canvas_envelope.specs.declared.pieces.Piece.TheVariants as pieces
 use Rattle.canvas_envelope.specs.declared.pieces.Pieces.{Pieces}
-use Rattle.canvas_envelope.specs.declared.pieces.Sheets.{Sheets}
-use Rattle.canvas_envelope.specs.declared.pieces.Sheets.TheVariants as sheets
+use Rattle.canvas_envelope.specs.declared.pieces.LetterTexts.{LetterTexts}
+use Rattle.canvas_envelope.specs.declared.pieces.LetterTexts.TheVariants as texts
 
 -- the head, and a prefix of the text after it
 abbrev pub line_piece_text : LinePiece → List ℕ
@@ -32,6 +32,6 @@ joined p =
       body = body_text p;
     }
 
-abbrev pub envelope_seen : Sheets → Envelope
-envelope_seen (sheets.Whole e) = e
-envelope_seen (sheets.Pieced p) = joined p
+abbrev pub envelope_seen : LetterTexts → Envelope
+envelope_seen (texts.Whole e) = e
+envelope_seen (texts.Pieced p) = joined p

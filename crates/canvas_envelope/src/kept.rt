@@ -14,7 +14,7 @@ use std::mem;
 
 /// A message with its keyword arguments in a list, in the order of their names.
 #[derive(Drop)]
-pub(crate) struct Waiting {
+pub(crate) struct Compact {
     task: TaskNo,
     name: TextOf,
     parent: Option<TaskNo>,
@@ -27,7 +27,7 @@ pub(crate) struct Waiting {
     texts: Texts,
 }
 
-impl Model for Waiting {
+impl Model for Compact {
     ghost use Rattle.std.specs.Prelude.{◌≡◌, true};
     ghost use Rattle.canvas_task.specs.Entries.{named, Ascends};
     ghost use Rattle.canvas_envelope.specs.Content.{Content};
@@ -72,8 +72,8 @@ fn map_of(alloc: Global, entries: Vec<(String, Arg)>) -> Result<BTreeMap<String,
     Ok(map)
 }
 
-impl Waiting {
-    fn of(alloc: Global, message: Message) -> Result<Waiting, AllocError>
+impl Compact {
+    fn of(alloc: Global, message: Message) -> Result<Compact, AllocError>
         ensures { IfOk result (λ l. l ≡ message) }
     {
         let Message {
@@ -89,7 +89,7 @@ impl Waiting {
             texts,
         } = message;
         let kwargs = entries_of(alloc, kwargs.into_plain())?;
-        Ok(Waiting {
+        Ok(Compact {
             task,
             name,
             parent,
@@ -106,7 +106,7 @@ impl Waiting {
     fn into_message(self, alloc: Global) -> Result<Message, AllocError>
         ensures { IfOk result (λ m. m ≡ self) }
     {
-        let Waiting {
+        let Compact {
             task,
             name,
             parent,
@@ -142,15 +142,15 @@ pub(crate) enum Kept {
     /// A message with keyword arguments. A map with one entry takes room for fifteen, and all
     /// messages of a group wait at once, so they are kept in a list; the map is made when the
     /// message is taken. If that allocation fails, the envelope is read instead.
-    Waiting(Box<Waiting>),
+    Compact(Box<Compact>),
 }
 
 impl Kept {
     fn waiting(alloc: Global, message: Message) -> Result<Kept, AllocError>
         ensures { IfOk result (λ k. kept k ≡ Some message) }
     {
-        let waiting = Waiting::of(alloc, message)?;
-        Ok(Kept::Waiting(Box::new(alloc, waiting)?))
+        let waiting = Compact::of(alloc, message)?;
+        Ok(Kept::Compact(Box::new(alloc, waiting)?))
     }
 
     fn whole(alloc: Global, message: Message) -> Result<Kept, AllocError>
@@ -182,7 +182,7 @@ impl Kept {
         match mem::replace(self, Kept::Nothing) {
             Kept::Nothing => None,
             Kept::Whole(message) => Some(message),
-            Kept::Waiting(waiting) => {
+            Kept::Compact(waiting) => {
                 let message = Box::into_inner(waiting).into_message(alloc).ok()?;
                 Box::new(alloc, message).ok()
             }

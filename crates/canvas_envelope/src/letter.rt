@@ -8,7 +8,7 @@ ghost use Rattle.canvas_envelope.specs.EnvelopeFaults.{Says};
 ghost use Rattle.canvas_envelope.specs.Pieces.{joined};
 
 use crate::kept::Kept;
-use crate::pieces::Sheets;
+use crate::pieces::LetterTexts;
 use crate::{Envelope, Message, Pieces};
 use canvas_task::Memory;
 use std::alloc::Global;
@@ -18,7 +18,7 @@ use std::marker::Model;
 /// The contents of a letter: an envelope, and perhaps the message that it encodes.
 #[derive(Drop)]
 struct Held {
-    sheets: Sheets,
+    texts: LetterTexts,
     message: Kept,
 }
 
@@ -31,11 +31,11 @@ impl Model for Held {
 
     ghost Value = { Envelope };
 
-    ghost view = { λ h. envelope_seen h.sheets };
+    ghost view = { λ h. envelope_seen h.texts };
 
     ghost invariant = { λ h. IfSome (kept h.message)
-        (λ m. Says (envelope_seen h.sheets).properties (envelope_seen h.sheets).headers
-        (envelope_seen h.sheets).body m) };
+        (λ m. Says (envelope_seen h.texts).properties (envelope_seen h.texts).headers
+        (envelope_seen h.texts).body m) };
 }
 
 /// An envelope, whose body may share a piece with others. It may still hold the message that it was
@@ -61,7 +61,7 @@ impl Letter {
         ensures { IfOk result (λ l. l ≡ envelope) }
     {
         let held = Held {
-            sheets: Sheets::Whole(envelope),
+            texts: LetterTexts::Whole(envelope),
             message: Kept::Nothing,
         };
         Ok(Letter {
@@ -77,7 +77,7 @@ impl Letter {
         ensures { IfOk result (λ l. l ≡ joined pieces) }
     {
         let held = Held {
-            sheets: Sheets::Pieced(pieces),
+            texts: LetterTexts::Pieced(pieces),
             message: Kept::of(alloc, message),
         };
         Ok(Letter {
@@ -89,9 +89,9 @@ impl Letter {
     pub fn whole(&self) -> Option<&Envelope>
         ensures { IfSome result (λ e. e.now ≡ self.now) }
     {
-        match &self.held.sheets {
-            Sheets::Whole(envelope) => Some(envelope),
-            Sheets::Pieced(_) => None,
+        match &self.held.texts {
+            LetterTexts::Whole(envelope) => Some(envelope),
+            LetterTexts::Pieced(_) => None,
         }
     }
 
@@ -99,14 +99,14 @@ impl Letter {
     pub fn properties(&self) -> &[u8]
         ensures { result.now ≡ self.now.properties }
     {
-        self.held.sheets.properties()
+        self.held.texts.properties()
     }
 
     /// Writes the envelope as three texts.
     pub fn envelope(&self, alloc: Global) -> Result<Envelope, Memory>
         ensures { IfOk result (λ e. e ≡ self.now) }
     {
-        self.held.sheets.envelope(alloc)
+        self.held.texts.envelope(alloc)
     }
 
     /// Takes out the message that the letter holds, if it holds one and memory suffices. Afterwards
@@ -125,7 +125,7 @@ impl Letter {
         ensures { IfOk result (λ l. l ≡ self.now) }
     {
         let held = Held {
-            sheets: self.held.sheets.copy()?,
+            texts: self.held.texts.copy()?,
             message: Kept::Nothing,
         };
         Ok(Letter {

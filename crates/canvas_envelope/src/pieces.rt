@@ -220,20 +220,20 @@ impl Pieces {
 
 /// An envelope that came from elsewhere, or one in pieces.
 #[derive(Drop)]
-pub(crate) enum Sheets {
+pub(crate) enum LetterTexts {
     /// An envelope from elsewhere: three texts.
     Whole(Envelope),
     /// Texts of which one is shared.
     Pieced(Pieces),
 }
 
-impl Sheets {
+impl LetterTexts {
     pub(crate) fn envelope(&self, alloc: Global) -> Result<Envelope, Memory>
         ensures { IfOk result (λ e. e ≡ envelope_seen self.now) }
     {
         match self {
-            Sheets::Whole(envelope) => envelope.copy(),
-            Sheets::Pieced(pieces) => pieces.join(alloc),
+            LetterTexts::Whole(envelope) => envelope.copy(),
+            LetterTexts::Pieced(pieces) => pieces.join(alloc),
         }
     }
 
@@ -241,17 +241,17 @@ impl Sheets {
         ensures { result.now ≡ (envelope_seen self.now).properties }
     {
         match self {
-            Sheets::Whole(envelope) => envelope.properties.get(),
-            Sheets::Pieced(pieces) => pieces.properties(),
+            LetterTexts::Whole(envelope) => envelope.properties.get(),
+            LetterTexts::Pieced(pieces) => pieces.properties(),
         }
     }
 
-    pub(crate) fn copy(&self) -> Result<Sheets, Memory>
+    pub(crate) fn copy(&self) -> Result<LetterTexts, Memory>
         ensures { IfOk result (λ s. envelope_seen s ≡ envelope_seen self.now) }
     {
         match self {
-            Sheets::Whole(envelope) => Ok(Sheets::Whole(envelope.copy()?)),
-            Sheets::Pieced(pieces) => Ok(Sheets::Pieced(pieces.copy()?)),
+            LetterTexts::Whole(envelope) => Ok(LetterTexts::Whole(envelope.copy()?)),
+            LetterTexts::Pieced(pieces) => Ok(LetterTexts::Pieced(pieces.copy()?)),
         }
     }
 }

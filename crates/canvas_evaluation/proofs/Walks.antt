@@ -71,7 +71,7 @@ module _ (behaviour : Behaviour) where
       ∙ sym (append_assoc (task_states behaviour t (Some x)) (front_states behaviour ts (next_flow behaviour t x))
       (line_states behaviour l (flow_behind behaviour ts (next_flow behaviour t x))))
 
-  -- the ends of a group or chord behind tasks
+  -- the ends of a group or chord after tasks
   group_ends : (ts : List Task) (g : ℕ) (ms : Lines) (x : Flow)
       → line_ends behaviour (steps_onto ts (group_end g ms)) x ≡ line_ends behaviour (group_end g ms) (flow_behind behaviour ts x)
   group_ends [] g ms x = refl

@@ -1,4 +1,4 @@
-//! The states that evaluating a plan gives.
+//! The evaluation of a plan.
 ghost use Rattle.std.specs.Prelude.{◌≡◌, IfOk};
 ghost use Rattle.canvas_semantics.specs.Line.{tree_of};
 ghost use Rattle.canvas_semantics.specs.States.{states};
@@ -10,8 +10,8 @@ use canvas_rewrite::Plan;
 use canvas_task::{ListOf, Memory, Tasks};
 use std::alloc::Global;
 
-/// Evaluates a plan: each task is called as often as a run calls it, and the report is that of
-/// every run. Nothing is published, queued or stored.
+/// Evaluates a plan: calls each task as often as a run calls it, and returns the report of every
+/// run. Nothing is published, queued or stored.
 pub fn evaluate<T: Tasks>(alloc: Global, plan: &Plan, tasks: &T) -> Result<Report, Memory>
     ensures { IfOk result
         (λ report. report.rows ≡ states (T.behaviour tasks.now) (tree_of plan.now)) }

@@ -1,4 +1,4 @@
-//! What flows into a task or a group.
+//! Flows into a task or a group.
 ghost use Rattle.std.specs.Prelude.{◌≡◌, ◌++◌, IfOk, OnOk};
 ghost use Rattle.canvas_semantics.specs.Evaluation.{gathered, group_value, passed_on, value, why_of};
 ghost use Rattle.canvas_evaluation.specs.steps.Flows.{flow_seen};
@@ -6,7 +6,7 @@ ghost use Rattle.canvas_evaluation.specs.steps.Flows.{flow_seen};
 use canvas_task::{Arg, Fault, ListOf, Outcome, TaskNo, TextOf, Why};
 use std::alloc::{AllocError, Global};
 
-/// What flows into a task or a group.
+/// A flow into a task or a group.
 #[derive(Drop)]
 pub(crate) enum Flow {
     Nothing,
@@ -34,7 +34,7 @@ impl Flow {
         }
     }
 
-    /// Adds it as an argument, unless there is nothing or an exception.
+    /// Appends it as an argument, unless there is nothing or an exception.
     pub(crate) fn push_to(&self, alloc: Global, args: &mut Vec<Arg>) -> Result<(), AllocError>
         ensures { OnOk result (args.new.items ≡ args.old.items ++ value (flow_seen self.now)) }
     {
@@ -48,7 +48,7 @@ impl Flow {
     }
 }
 
-/// What flows out of a task with this state.
+/// Returns what flows out of a task with this state.
 pub(crate) fn passed_on(state: &Option<Outcome>) -> Flow
     ensures { flow_seen result ≡ passed_on state.now }
 {
@@ -68,8 +68,8 @@ fn why_of(fault: &Fault) -> Why
     }
 }
 
-/// What flows out of members that end in these tasks: the list of their results, or the ChordError
-/// of the first that failed.
+/// Returns what flows out of members that end in these tasks: the list of their results, or the
+/// ChordError of the first that failed.
 fn gathered(alloc: Global, ends: &[(TaskNo, Option<Outcome>)]) -> Result<Flow, AllocError>
     ensures { IfOk result (λ x. flow_seen x ≡ gathered ends.now) }
 {
@@ -89,7 +89,7 @@ fn gathered(alloc: Global, ends: &[(TaskNo, Option<Outcome>)]) -> Result<Flow, A
     Ok(Flow::Numbers(ListOf::of(numbers)))
 }
 
-/// What flows out of a group whose members end in these tasks.
+/// Returns what flows out of a group whose members end in these tasks.
 pub(crate) fn group_value(
     alloc: Global,
     flow: &Flow,

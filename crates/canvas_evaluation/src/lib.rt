@@ -1,4 +1,4 @@
-//! What a plan means: the state of each task, without messages, queues or workers.
+//! The state of each task of a plan, without messages, queues or workers.
 #![tactic(auto)]
 
 mod evaluating;

@@ -10,14 +10,14 @@ use canvas_rewrite::{FrozenEnd, FrozenLine, FrozenTask};
 use canvas_task::{Arg, Fault, Outcome, TaskNo, Tasks};
 use std::alloc::{AllocError, Global};
 
-/// Adds copies of arguments.
+/// Appends clones of arguments.
 fn push_all(args: &mut Vec<Arg>, others: &[Arg]) -> Result<(), AllocError>
     ensures { OnOk result (args.new.items ≡ args.old.items ++ others.now) }
 {
     args.extend_from_slice(others)
 }
 
-/// What becomes of a call of a task into which this flows, and no exception.
+/// Calls a task into which this flows, and no exception.
 fn called<T: Tasks>(
     alloc: Global,
     tasks: &T,
@@ -36,7 +36,7 @@ fn called<T: Tasks>(
     Ok(tasks.apply(task.name.get(), &args, task.kwargs.get()))
 }
 
-/// The state of a task into which this flows. It is pending if nothing reaches it.
+/// Returns the state of a task into which this flows. It is pending if nothing reaches it.
 fn state_of<T: Tasks>(
     alloc: Global,
     tasks: &T,
@@ -53,7 +53,7 @@ fn state_of<T: Tasks>(
     }
 }
 
-/// What flows into the links of a task with this state.
+/// Returns what flows into the links of a task with this state.
 fn to_links(state: &Option<Outcome>) -> Option<Flow>
     ensures { option_map flow_seen result ≡ to_links state.now }
 {
@@ -63,7 +63,7 @@ fn to_links(state: &Option<Outcome>) -> Option<Flow>
     }
 }
 
-/// What flows into the error callbacks of a task with this state.
+/// Returns what flows into the error callbacks of a task with this state.
 fn to_errbacks(task: TaskNo, flow: Option<&Flow>, state: &Option<Outcome>) -> Option<Flow>
     ensures { option_map flow_seen result
         ≡ to_errbacks task (option_map (λ x. flow_seen x.now) flow.entry) state.now }
@@ -75,7 +75,7 @@ fn to_errbacks(task: TaskNo, flow: Option<&Flow>, state: &Option<Outcome>) -> Op
     }
 }
 
-/// A task, its links and its error callbacks. It gives the task's own state.
+/// Appends the states of a task, its links and its error callbacks. Returns the task's own state.
 #[cycle(tasks)]
 fn push_task<T: Tasks>(
     alloc: Global,
@@ -117,8 +117,8 @@ fn push_callbacks<T: Tasks>(
     Ok(())
 }
 
-/// The tasks in front of a line's end. It gives what flows out of the last, and the last with its
-/// state.
+/// Appends the states of the tasks before a line's end. Returns what flows out of the last, and the
+/// last with its state.
 fn push_tasks<T: Tasks>(
     alloc: Global,
     tasks: &T,
@@ -143,14 +143,14 @@ fn push_tasks<T: Tasks>(
     Ok((comes, last))
 }
 
-/// Adds the task that a line ends in, if there is one.
+/// Appends the task that a line ends in, if there is one.
 fn push_last(
     ends: &mut Vec<(TaskNo, Option<Outcome>)>,
     last: Option<(TaskNo, Option<Outcome>)>,
 ) -> Result<(), AllocError>
     ensures { OnOk result (ends.new.items ≡ ends.old.items ++ option_to_list last) }
 {
-    // A proof about states is made only where the type of a failure's fault is named.
+    // A proof about states is made only if the type of a failure's fault is named.
     let _none: Option<Fault> = None;
     match last {
         Some(last) => Ok(ends.push(last)?),
@@ -158,7 +158,7 @@ fn push_last(
     }
 }
 
-/// A line, with the tasks that it ends in.
+/// Appends the states of a line's tasks. Returns the tasks that it ends in.
 #[cycle(lines)]
 pub(crate) fn push_line<T: Tasks>(
     alloc: Global,

@@ -44,7 +44,7 @@ from_errbacks id e = member_unless_empty (codes "link_error") e (own_option id)
 abbrev from_links : Data → Items → Items → Members
 from_links id l e = member_unless_empty (codes "link") l (from_errbacks id e)
 
--- names that may stand behind those before
+-- names that may come after those before
 record Above (before : Members) : Type 0 where
   chord : IsAbove (codes "chord") before
   group : IsAbove (codes "group_id") before
@@ -99,7 +99,7 @@ placed_clean before n k (p_chord g size body) b l e h up cb cl ce = (
       (above_behind (codes "task_id") (codes "chord") b before up.id refl),
 )
 
--- ---- signatures, whatever stands in their option `chain`
+-- ---- signatures, with anything in their option `chain`
 
 abbrev SigClean : Sig → Type 0
 SigClean s = (ch : Items) → AreClean ch → IsClean (sig_wire ch s)

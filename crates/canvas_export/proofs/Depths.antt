@@ -25,7 +25,7 @@ sig_depth : (ch : Items) (s : Sig) → depth s.kind ≡ 0
     → depth (sig_wire ch s) ≤ 2 + max (1 + items_depth ch) (max (items_depth s.args) (max (members_depth s.kwargs) (members_depth s.options)))
 sig_depth ch s h = omega (arith, h, list_depth (codes "chain") ch s.options)
 
--- what stands in the option `chain` is three levels deeper
+-- the option `chain` is three levels deeper
 chained_depth : (ch : Items) (s : Sig) → depth (sig_wire ch s) ≤ max (depth (sig_wire no_items s)) (3 + items_depth ch)
 chained_depth ch s = omega (arith, list_depth (codes "chain") ch s.options)
 
@@ -90,7 +90,7 @@ member_within (s ∷ t ∷ ss) = omega arith
 group_within : (n : Naming) (g : ℕ) (ms : Items) → depth (sig_wire no_items (group_sig n g ms)) ≤ 3 + items_depth ms
 group_within n g ms = omega (arith, sig_depth no_items (group_sig n g ms) refl)
 
--- a chord, with what stands behind it
+-- a chord, with what follows it
 chord_within : (n : Naming) (g : ℕ) (ms : PLines) (b : PLine)
     → deep (elements n (p_chord_end g ms b)) ≤ max (2 + deep (elements n b)) (3 + items_depth (members_wire n ms))
 chord_within n g ms b = omega (arith, first_within (elements n b), behind_within (elements n b))

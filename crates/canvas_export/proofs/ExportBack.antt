@@ -182,7 +182,7 @@ export_back run whole s zs h (t ∷ ts) (c ∷ cs) is long =
     ap (λ o. o >>= read_commands) (read_back (commands run s zs (t ∷ ts)) long)
     ∙ (ap₂ (λ xs ys. read_messages xs >>= λ ms. Some (ys, ms)) both.1 both.0 ∙ ap (λ o. o >>= λ ms. Some (zs, ms)) (messages_back (t ∷ ts) (c ∷ cs) is))
 
--- ---- the chords that start with a line that can stand in a message
+-- ---- the chords that start with a line that fits a message
 
 named_both : (xs ys : List (ℕ × ℕ)) → AreNamed xs → AreNamed ys → AreNamed (xs ++ ys)
 named_both [] ys h k = k

@@ -114,7 +114,7 @@ module _ (n : Naming) where
         each_reversed (task_sigs n (map p_task_view others)) (tail_sigs n (p_line_view l))
         ∙ ap (λ ss. each_tokens (reverse (behind ss))) (sym (first_task n l ts others t same split))
 
-  -- ---- a group or chord alone
+  -- ---- only a group or chord
 
   module _ (l : FrozenLine) (ts : List FrozenTask) (b : Box FrozenEnd Global) (same : ts ≡ (out-FrozenLine l).tasks) (none : length ts ≡ 0)
       (some : (out-FrozenLine l).tail ≡ Some b) where

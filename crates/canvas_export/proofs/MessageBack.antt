@@ -186,7 +186,7 @@ parent_clean : (n : Naming) (parent : Option ℕ) → IsClean (parent_id n paren
 parent_clean n None = tt
 parent_clean n (Some k) = tt
 
--- behind the two members that name a group
+-- after the two members that name a group
 headers_clean : (n : Naming) (g x : Data) (k : ℕ) (parent : Option ℕ) (name : Text) → IsClean g → IsClean x
     → IsClean (object (member (codes "group") g (member (codes "group_index") x (member (codes "id") (task_id n k) (member (codes "lang") (string (codes "rs"))
     (member (codes "parent_id") (parent_id n parent) (member (codes "root_id") (task_id n 1) (member (codes "task") (string name) no_members))))))))

@@ -72,7 +72,7 @@ pub named_back : (es : List (Text × Arg)) → KwargsFit es → map named_of (en
 named_back [] h = refl
 named_back (e ∷ es) h = ap₂ (λ x xs. (e.0, x) ∷ xs) (argument_back e.1 h.0) (named_back es h.1)
 
--- a signature's call, whatever stands in its options
+-- a signature's call, with anything in its options
 pub call_back : (chain : Items) (call : Call) (options : Members) → CallFits call
     → spelled_call (sig_wire chain
     (record { args = args_wire call.args; immutable = call.immutable; kwargs = kwargs_wire call.kwargs; options = options; kind = null; name = call.name }))

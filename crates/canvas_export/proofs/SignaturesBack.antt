@@ -64,7 +64,7 @@ place_id n p_nowhere = null
 place_id n (p_group g) = group_id n g
 place_id n (p_chord g size body) = group_id n g
 
--- the options of a task behind `chain`
+-- the options of a task after `chain`
 abbrev placed : Naming → ℕ → PPlace → Items → Items → Members
 placed n k p l e = place_options n k p (body_at n p) (from_links (task_id n k) l e)
 
@@ -179,7 +179,7 @@ map_reversed f [] = refl
 map_reversed f (x ∷ xs) =
     last_first (f x) (map f xs) ∙ ap (λ ys. ys ++ f x ∷ []) (map_reversed f xs) ∙ sym (map_end f (reverse xs) x) ∙ sym (ap (map f) (last_first x xs))
 
--- what stands the last first, turned
+-- a list written with the last first, reversed
 pub turned : (ss : List Sig) → reverse (items (each_wire (reverse ss))) ≡ map (sig_wire no_items) ss
 turned ss =
     ap (λ ds. reverse ds) (each_items (reverse ss))

@@ -1,5 +1,5 @@
--- A task message (Celery's task message protocol, version 2) in kombu's envelope, as it lies in a
--- list of Redis.
+-- A task message (Celery's task message protocol, version 2) in kombu's envelope, as a list of
+-- Redis has it.
 use Rattle.std.specs.Prelude.{ℕ, [], Option, Some, None, reverse, codes, pos}
 use Rattle.base64.specs.GeneralPurpose.{encode_of}
 use Rattle.base64.specs.Engines.{standard}
@@ -12,9 +12,9 @@ use Rattle.canvas_envelope.specs.Content.{Content, number_of, call_of, links_of,
 use Rattle.canvas_envelope.specs.Wire.{list_or_null}
 use Rattle.canvas_export.specs.Signatures.{Naming, task_id, group_id, index_wire, elements, each_wire, tasks_wire, body_at}
 
--- ---- the body: the arguments, the keyword arguments, and what goes with the call
+-- ---- the body: the arguments, the keyword arguments, and the embed of the call
 
--- What follows on the line has its last element first.
+-- The rest of the line has its last element first.
 abbrev pub embed_wire : Naming → Content → Data
 embed_wire n c =
     object (member (codes "callbacks") (list_or_null (tasks_wire n (links_of c.own)))
@@ -56,7 +56,7 @@ delivery_wire queue =
     object (member (codes "exchange") (string [])
     (member (codes "routing_key") (string queue) no_members))
 
--- kombu keeps a delivery under its tag until it is acknowledged: each task's is its own identifier.
+-- kombu keeps a delivery under its tag until it is acknowledged. A task's tag is its identifier.
 abbrev pub properties_wire : Naming → (queue : Text) → ℕ → Data
 properties_wire n queue k =
     object (member (codes "body_encoding") (string (codes "base64"))

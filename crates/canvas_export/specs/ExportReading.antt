@@ -1,6 +1,6 @@
--- A start read back from its bytes: how many members the chords have whose headers start, from the
--- keys that are set, and the messages in their order (Redis: SETEX, LPUSH; EVAL with the script's
--- keys and arguments).
+-- A start read back from its bytes: the number of members of the chords whose headers start, from
+-- the keys that are set, and the messages in their order (Redis: SETEX, LPUSH; EVAL with the
+-- script's keys and arguments).
 use Rattle.std.specs.Prelude.{◌≡◌, ◌<◌, ◌^◌, ℕ, ◌-◌, true, if◌then◌else◌, List, [], ◌∷◌, ◌++◌, length, take, drop, Option, Some, codes}
 use Rattle.std.specs.Str.{bytes_eq}
 use Rattle.std.specs.Str.Parse.{digits_value}
@@ -12,7 +12,7 @@ use Rattle.canvas_celery.specs.Run.{piece}
 use Rattle.canvas_export.specs.Reading.{◌>>=◌, read}
 use Rattle.canvas_export.specs.MessageReading.{group_number, read_message}
 
--- the chord that the key of a size names: its identifier ends two bytes before the key
+-- the chord in the key of a size: its identifier ends two bytes before the end of the key
 abbrev pub group_in : (key : Text) → ℕ
 group_in key = group_number (string (piece (length key - 38) 36 key))
 
@@ -26,7 +26,7 @@ all_but_last ws = take (length ws - 1) ws
 
 -- ---- the words of a script's command: how many keys there are, the keys, and the arguments
 
--- behind the marker and the queue the keys of the sizes; behind three arguments the sizes, then the
+-- after the marker and the queue the keys of the sizes; after three arguments the sizes, then the
 -- messages and one more
 abbrev pub script_sizes : (keys : ℕ) → List Text → List (ℕ × ℕ)
 script_sizes k ws = paired (drop 2 (take k ws)) (take (k - 2) (drop 3 (drop k ws)))
@@ -34,7 +34,7 @@ script_sizes k ws = paired (drop 2 (take k ws)) (take (k - 2) (drop 3 (drop k ws
 abbrev pub script_texts : (keys : ℕ) → List Text → List Text
 script_texts k ws = all_but_last (drop (k - 2) (drop 3 (drop k ws)))
 
--- ---- one command, by its name and the words behind that
+-- ---- one command, by its name and the words after that
 
 abbrev pub set_size : List Text → List (ℕ × ℕ)
 set_size (key ∷ expires ∷ size ∷ []) = (group_in key, digits_value 10 size) ∷ []
@@ -84,7 +84,7 @@ read_commands cs = read_messages (all_texts cs) >>= λ ms. Some (all_sizes cs, m
 abbrev pub read_export : (bytes : Text) → Option (List (ℕ × ℕ) × List Content)
 read_export bytes = read bytes >>= read_commands
 
--- nothing at all where no task starts
+-- nothing if no task starts
 abbrev pub started : (sizes : List (ℕ × ℕ)) → (messages : List Content)
     → List (ℕ × ℕ) × List Content
 started sizes [] = ([], [])

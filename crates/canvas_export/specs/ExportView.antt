@@ -1,4 +1,4 @@
--- What the types of the code stand for.
+-- What contracts see of the code's types.
 use Rattle.canvas_task.specs.Text.{Text}
 use Rattle.canvas_semantics.specs.Line.{Line, members}
 use Rattle.canvas_export.specs.Setting.{Setting}
@@ -6,7 +6,7 @@ use Rattle.canvas_export.specs.Signatures.{Naming}
 use Rattle.canvas_export.specs.declared.target.Target.{Target}
 use Rattle.canvas_export.specs.declared.write.names.Names.{Names}
 
--- a run, with the places that a plan's line tells
+-- a run, with the places of a plan's line
 abbrev pub naming_of : (run : Text) → Line → Naming
 naming_of run l = record { run = run; lasts = λ g. members l g }
 

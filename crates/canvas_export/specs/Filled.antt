@@ -1,6 +1,6 @@
--- The start of a plan some of whose arguments are places, which have values. In the body of each
--- message they are filled in. No task's name can be taken for a place, and no identifier begins as
--- one does, so only arguments are.
+-- The start of a plan some of whose arguments are places, which have values. They are filled in in
+-- the body of each message. No task's name can be mistaken for a place, and no identifier begins as
+-- one does, so only arguments are places.
 use Rattle.std.specs.Prelude.{◌≡◌, false, List, map, Option, Some, option_map}
 use Rattle.std.specs.List.{All}
 use Rattle.base64.specs.GeneralPurpose.{encode_of}
@@ -29,7 +29,7 @@ use Rattle.canvas_export.specs.Values.{AreValues}
 abbrev pub filled_text : List Json → Data → Option Text
 filled_text vs d = option_map (λ j. print (json_tokens j)) (filled vs (outline d))
 
--- as `message_text`, but for the body
+-- like `message_text`, with another body
 abbrev pub filled_message : List Json → Naming → (queue : Text) → Content → Option Text
 filled_message vs n queue c =
     option_map (λ body. compact_text (envelope_wire n queue (string (encode_of standard body)) c))

@@ -1,7 +1,7 @@
 -- Messages read back from their texts, as `json.loads` and `base64.b64decode` read them: kombu's
 -- envelope, whose member `body` holds a second JSON text (Celery's task message protocol, version
--- 2). Where a member is missing or of another kind, it says 0, nothing or an empty list. A chord's
--- size stands in no message, so it reads as 0.
+-- 2). A member that is missing or of another kind reads as 0, nothing or an empty list. No message
+-- has a chord's size, so it reads as 0.
 use Rattle.std.specs.Prelude.{◌≡◌, ◌<◌, ◌^◌, ℕ, zero, suc, false, if◌then◌else◌, List, [], ◌∷◌, ◌++◌, length, map, reverse, Option, Some, None, option_and_then, unwrap_or, codes}
 use Rattle.base64.specs.GeneralPurpose.{decoded_of}
 use Rattle.base64.specs.Engines.{standard}
@@ -22,7 +22,7 @@ use Rattle.canvas_envelope.specs.EnvelopeContent.{args_in, kwargs_in, embed_in}
 use Rattle.canvas_celery.specs.Run.{piece}
 use Rattle.canvas_export.specs.Signatures.{Naming}
 
--- ---- identifiers: the mark of tasks or of groups and the number, with no run in their midst
+-- ---- identifiers: the mark of tasks or of groups and the number, without the run's digits
 
 abbrev pub without_run : Text → Text
 without_run text =
@@ -42,10 +42,10 @@ group_of d = None
 abbrev pub group_number : Data → ℕ
 group_number d = unwrap_or (group_of d) 0
 
--- ---- signatures that haven't started, by what those in them are
+-- ---- signatures that haven't started, with those in them
 
--- the elements of a body that a place carries: those behind the first stand in its option `chain`,
--- the last first
+-- the elements of a body that a place carries: its option `chain` has those after the first, the
+-- last first
 abbrev pub carried_elements : Data → List Data
 carried_elements d = d ∷ reverse (listed (option (codes "chain") d))
 
@@ -65,7 +65,7 @@ task_from t f d =
 abbrev pub member_elements : Data → List Data
 member_elements d = if is_chain d then listed (tasks d) else d ∷ []
 
--- A line from an element on. What stands behind a chord follows its body's first element.
+-- A line from an element on. What follows a chord follows its body's first element.
 abbrev pub line_at : (Data → PTask) → (List Data → PLine) → Option Primitive → Data
     → (behind : List Data) → (rest : PLine) → PLine
 line_at t f (Some kind.Group) d ds l =
@@ -90,10 +90,10 @@ abbrev mutual
   line_within zero ds = p_stop
   line_within (suc n) ds = line_from (task_within n) (line_within n) ds
 
--- ---- messages, to any depth that JSON reads at
+-- ---- messages, to any depth at which JSON is read
 
--- the headers' task, called with the body's arguments; its input is among them, so it is not marked
--- immutable
+-- the headers' task, called with the body's arguments; its input is one of them, so it is not
+-- marked immutable
 abbrev pub own_in : (headers body : Data) → PTask
 own_in h b =
     p_task (task_number (field (codes "id") h))
@@ -108,7 +108,7 @@ own_in h b =
     (place_from (line_within levels) (field (codes "group") h)
     (field (codes "chord") (embed_in b)))
 
--- what follows stands in `chain`, the last element first
+-- the rest of the line is in `chain`, the last element first
 abbrev pub content_in : (headers body : Data) → Content
 content_in h b =
     record {
@@ -117,7 +117,7 @@ content_in h b =
       rest = line_within levels (reverse (listed (field (codes "chain") (embed_in b))));
     }
 
--- the body's text, which stands in base64
+-- the body's text, in base64
 abbrev pub body_text : (envelope : Data) → Option Text
 body_text e = decoded_of standard (text_of (field (codes "body") e))
 
@@ -126,11 +126,11 @@ envelope_content e =
     option_and_then (λ b. Some (content_in (field (codes "headers") e) b))
     (option_and_then read (body_text e))
 
--- what a start is written with: a run's number of 22 digits, and groups of fewer than 2^64 members,
--- so that a place among them is a number that JSON is read with
+-- the values that a start is written with: a run's number of 22 digits, and groups of fewer than
+-- 2^64 members, so that the index of a member is a number that JSON reads
 abbrev pub IsSound : Naming → Type 0
 IsSound n = (length n.run ≡ 22) × ((g : ℕ) → length (n.lasts g) < 2 ^ 64)
 
--- nothing where the text or the body isn't JSON, or the body isn't base64
+-- nothing if the text or the body isn't JSON, or the body isn't base64
 abbrev pub read_message : Text → Option Content
 read_message text = option_and_then envelope_content (read text)

@@ -1,5 +1,5 @@
--- Places: the texts `~0`, `~1` and so on, which say where the values of a list go. A JSON text gets
--- a whole value in place of each. The rule is this project's own.
+-- Places: the texts `~0`, `~1` and so on, which say where the values of a list go. In a JSON text a
+-- whole value replaces each. The rule is this project's own.
 use Rattle.std.specs.Prelude.{ℕ, Bool, false, ◌==◌, if◌then◌else◌, List, [], ◌∷◌, Option, Some, None, option_map, option_and_then, slice_get, decimal}
 use Rattle.std.specs.Str.{bytes_eq}
 use Rattle.std.specs.Str.Parse.{digits_value}
@@ -11,7 +11,7 @@ abbrev pub is_marked : Text → Bool
 is_marked [] = false
 is_marked (c ∷ cs) = c == 126
 
--- the number that digits write, with no zero in front
+-- the number that digits write, with no leading zero
 abbrev pub number_in : (digits : Text) → Option ℕ
 number_in ds =
     if bytes_eq ds (decimal (digits_value 10 ds)) then Some (digits_value 10 ds) else None
@@ -21,12 +21,12 @@ abbrev pub value_at : List Json → Text → Option Json
 value_at vs [] = None
 value_at vs (c ∷ ds) = option_and_then (slice_get vs) (number_in ds)
 
--- what a text stands for: a value, if it begins with `~`, and else itself
+-- a text as JSON: a value, if it begins with `~`, and else the text itself
 abbrev pub told_by : List Json → Text → Option Json
 told_by vs s = if is_marked s then value_at vs s else Some (string s)
 
--- A JSON value with a value in each place; none, if a text begins with `~` and no value is there.
--- Names of members are no places.
+-- A JSON value with a value in each place; none, if a text begins with `~` and there is no such
+-- value. Names of members are no places.
 abbrev mutual
   pub filled : List Json → Json → Option Json
   filled vs null = Some null

@@ -1,15 +1,15 @@
--- A start as one script: Redis runs `EVAL script numkeys key .. arg ..` whole, with nothing between
--- its commands (Redis: EVAL, Scripting with Lua).
+-- A start as one script: Redis runs `EVAL script numkeys key .. arg ..` atomically (Redis: EVAL,
+-- Scripting with Lua).
 use Rattle.std.specs.Prelude.{ℕ, ◌+◌, List, [], ◌∷◌, ◌++◌, length, map, Option, Some, None, decimal, codes}
 use Rattle.canvas_task.specs.Text.{Text}
 use Rattle.canvas_export.specs.Setting.{Setting}
 use Rattle.canvas_celery.specs.Keys.{size_key, marker_key}
 
 -- It sets no key if its last argument isn't `whole`, as in a truncated text, if the server lacks a
--- database, if the queue's key is there and is no list, or if the run's marker is there. Else it
--- puts the chords' sizes under their keys, the run's marker, and last the messages on the queue.
--- Its keys are the marker, the queue and those of the sizes; its arguments how long sizes are kept,
--- the databases of the results and of the queue, the sizes, the messages, and `whole`.
+-- database, if the queue's key is set and is not a list, or if the run's marker is set. Else it
+-- sets the chords' sizes and the run's marker, and last puts the messages on the queue. Its keys
+-- are the marker, the queue and those of the sizes. Its arguments are how long sizes are kept, the
+-- databases of the results and of the queue, the sizes, the messages, and `whole`.
 abbrev pub script : Text
 script =
     codes "if ARGV[#ARGV] ~= 'whole' then\n"
@@ -33,7 +33,7 @@ script =
     ++ (codes "for i = #KEYS + 2, #ARGV - 1 do redis.call('LPUSH', KEYS[2], ARGV[i]) end\n"
     ++ codes "return #ARGV - #KEYS - 2\n"))))))))))))))))))
 
--- the databases of the results and of the queue; empty words where none is chosen
+-- the databases of the results and of the queue; empty words if none is chosen
 abbrev pub database_words : Option (ℕ × ℕ) → List Text
 database_words None = [] ∷ [] ∷ []
 database_words (Some d) = decimal d.1 ∷ decimal d.0 ∷ []

@@ -1,4 +1,4 @@
--- What a message says, but for the sizes of chords, which stand under keys of their own: each is 0.
+-- The content of a message without the sizes of chords, which have keys of their own: each is 0.
 use Rattle.canvas_semantics.specs.PlacedLine.{PTask, p_task, PTasks, no_p_tasks, and_p_task, PPlace, p_nowhere, p_group, p_chord, PLine, p_stop, p_step, p_group_end, p_chord_end, PLines, no_p_lines, and_p_line}
 use Rattle.canvas_envelope.specs.Content.{Content}
 

@@ -1,4 +1,4 @@
--- The chords whose headers start at once with a line, each with how many members it has.
+-- The chords whose headers start at once with a line, each with its number of members.
 use Rattle.std.specs.Prelude.{ℕ, List, [], ◌∷◌, ◌++◌}
 use Rattle.canvas_semantics.specs.PlacedLine.{PLine, p_stop, p_step, p_group_end, p_chord_end, PLines, no_p_lines, and_p_line}
 use Rattle.canvas_envelope.specs.Fits.{how_many}

@@ -1,11 +1,11 @@
--- A start as a transaction: what stands between MULTI and EXEC is run whole or, where EXEC doesn't
--- come, not at all (Redis: Transactions).
+-- A start as a transaction: the commands between MULTI and EXEC are run atomically or, if EXEC
+-- doesn't come, not at all (Redis: Transactions).
 use Rattle.std.specs.Prelude.{ℕ, List, [], ◌∷◌, ◌++◌, map, Option, Some, None, decimal, codes}
 use Rattle.canvas_task.specs.Text.{Text}
 use Rattle.canvas_export.specs.Setting.{Setting}
 use Rattle.canvas_celery.specs.Keys.{size_key}
 
--- the size of a chord is kept for so many seconds
+-- the size of a chord is kept for `expires` seconds
 abbrev pub size_command : (run prefix : Text) → (expires : ℕ) → ℕ × ℕ → List Text
 size_command run prefix expires s =
     codes "SETEX" ∷ size_key run prefix s.0 ∷ decimal expires ∷ decimal s.1 ∷ []
@@ -13,7 +13,7 @@ size_command run prefix expires s =
 abbrev pub select : ℕ → List Text
 select database = codes "SELECT" ∷ decimal database ∷ []
 
--- the databases of the broker and of the backend, where they are chosen
+-- the databases of the broker and of the backend, if they are chosen
 abbrev pub select_backend : Option (ℕ × ℕ) → List (List Text)
 select_backend None = []
 select_backend (Some d) = select d.1 ∷ []
@@ -22,7 +22,7 @@ abbrev pub select_broker : Option (ℕ × ℕ) → List (List Text)
 select_broker None = []
 select_broker (Some d) = select d.0 ∷ []
 
--- what stands in front of the messages
+-- the commands before the messages
 abbrev pub sizes_between : (run : Text) → Setting → (sizes : List (ℕ × ℕ)) → List (List Text)
 sizes_between run p sizes =
     select_backend p.databases

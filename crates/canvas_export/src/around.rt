@@ -1,4 +1,4 @@
-//! What stands around the texts of a start's messages.
+//! The bytes around the texts of a start's messages.
 
 /// The bytes before the first text and those after the last.
 #[derive(Drop)]

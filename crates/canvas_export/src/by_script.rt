@@ -18,10 +18,10 @@ use canvas_celery::{Run, marker_key, size_key};
 use canvas_envelope::Message;
 use std::alloc::{AllocError, Global};
 
-/// Checks that the text came whole, that the queue's key can be a list, and that the run wasn't
-/// started before. Then puts the chords' sizes under their keys, the run's marker, and last the
-/// messages on the queue. A start that is refused, also for a database that the server lacks, sets
-/// no key.
+/// Checks that the text is complete, that the queue's key can be a list, and that the run wasn't
+/// started before. Then sets the chords' sizes under their keys and the run's marker, and last puts
+/// the messages on the queue. A start that is refused, also for a database that the server lacks,
+/// sets no key.
 pub(crate) const SCRIPT: &str = concat!(
     "if ARGV[#ARGV] ~= 'whole' then\n",
     "  return redis.error_reply('CUT nothing was started: the text was cut')\n",
@@ -45,7 +45,7 @@ pub(crate) const SCRIPT: &str = concat!(
     "return #ARGV - #KEYS - 2\n",
 );
 
-/// The script, how many keys there are, and the first two of them.
+/// Appends the script, the number of keys, and the first two of them.
 fn push_head(
     alloc: Global,
     out: &mut Vec<u8>,
@@ -95,7 +95,7 @@ fn push_size_keys(
     Ok(())
 }
 
-/// The number of a database; an empty word where none is chosen.
+/// Appends the number of a database; an empty word if none is chosen.
 fn push_database(alloc: Global, out: &mut Vec<u8>, database: Option<u32>) -> Result<(), AllocError>
     ensures { OnOk result
         (out.new.items ≡ out.old.items ++ word_bytes (database_word database)) }
@@ -106,7 +106,7 @@ fn push_database(alloc: Global, out: &mut Vec<u8>, database: Option<u32>) -> Res
     }
 }
 
-/// The databases of the results and of the queue.
+/// Appends the databases of the results and of the queue.
 fn push_databases(
     alloc: Global,
     out: &mut Vec<u8>,
@@ -134,7 +134,7 @@ fn push_chosen(
     }
 }
 
-/// How long sizes are kept, and the two databases.
+/// Appends how long sizes are kept, and the two databases.
 fn push_settings(alloc: Global, out: &mut Vec<u8>, target: &Target<'_>) -> Result<(), AllocError>
     ensures { OnOk result (out.new.items ≡ out.old.items ++ words_bytes
         (decimal target.now.expires ∷ database_words target.now.databases)) }
@@ -153,7 +153,7 @@ fn push_members(alloc: Global, out: &mut Vec<u8>, sizes: &[Size]) -> Result<(), 
     Ok(())
 }
 
-/// The command that runs the script, up to the texts of its messages.
+/// Appends the command that runs the script, up to the texts of its messages.
 fn push_script(
     alloc: Global,
     out: &mut Vec<u8>,
@@ -174,7 +174,7 @@ fn push_script(
     push_members(alloc, out, sizes)
 }
 
-/// What stands around the texts of these messages in that command.
+/// Returns the bytes around the texts of these messages in that command.
 pub(crate) fn around_in_script(
     alloc: Global,
     run: &Run,

@@ -42,7 +42,7 @@ fn push_size(
     )
 }
 
-/// The command that puts messages on the queue, up to their texts.
+/// Appends the command that puts messages on the queue, up to their texts.
 fn push_queue(
     alloc: Global,
     out: &mut Vec<u8>,
@@ -73,7 +73,7 @@ fn push_select(alloc: Global, out: &mut Vec<u8>, database: u32) -> Result<(), Al
     push_command(alloc, out, &[b"SELECT", number.as_bytes()])
 }
 
-/// The command that chooses the backend's database, where one is chosen.
+/// Appends the command that chooses the backend's database, if one is chosen.
 fn push_backend(
     alloc: Global,
     out: &mut Vec<u8>,
@@ -88,7 +88,7 @@ fn push_backend(
     }
 }
 
-/// The command that chooses the broker's database, where one is chosen.
+/// Appends the command that chooses the broker's database, if one is chosen.
 fn push_broker(
     alloc: Global,
     out: &mut Vec<u8>,
@@ -119,7 +119,7 @@ fn push_size_commands(
     Ok(())
 }
 
-/// The commands between MULTI and the messages.
+/// Appends the commands between MULTI and the messages.
 fn push_sizes_between(
     alloc: Global,
     out: &mut Vec<u8>,
@@ -135,7 +135,7 @@ fn push_sizes_between(
     push_broker(alloc, out, target.databases)
 }
 
-/// The commands of the transaction, up to the texts of its messages.
+/// Appends the commands of the transaction, up to the texts of its messages.
 fn push_transaction(
     alloc: Global,
     out: &mut Vec<u8>,
@@ -154,7 +154,7 @@ fn push_transaction(
     push_queue(alloc, out, target.queue, messages)
 }
 
-/// What stands around the texts of these messages in these commands.
+/// Returns the bytes around the texts of these messages in these commands.
 pub(crate) fn around_in_transaction(
     alloc: Global,
     run: &Run,

@@ -1,4 +1,4 @@
-//! kombu's envelope: a message as it lies in a list of Redis.
+//! kombu's envelope: a message as a list of Redis has it.
 
 ghost use Rattle.std.specs.Prelude.{◌≡◌, IfOk, OnOk, Some, codes, true};
 ghost use Rattle.base64.specs.Engines.{standard};
@@ -50,7 +50,7 @@ fn write_properties(
     out.end_object()
 }
 
-/// The whole envelope of a message, which fits.
+/// Writes the whole envelope of a message, which fits.
 fn write_envelope(
     out: &mut Writer,
     names: &Names<'_>,
@@ -73,7 +73,7 @@ fn write_envelope(
     out.end_object()
 }
 
-/// The text of a message with this body.
+/// Returns the text of a message with this body.
 pub(crate) fn envelope_around(
     alloc: Global,
     names: &Names<'_>,
@@ -93,7 +93,7 @@ pub(crate) fn envelope_around(
     Ok(out.into_inner())
 }
 
-/// The text of a message, which reads back as what the message says, but for the sizes of chords.
+/// Returns the text of a message, which reads back as its content without the sizes of chords.
 pub(crate) fn envelope_text(
     alloc: Global,
     names: &Names<'_>,

@@ -19,9 +19,9 @@ use canvas_rewrite::Plan;
 use canvas_task::Memory;
 use std::alloc::Global;
 
-/// The commands that start a plan, as the Redis serialization protocol has them; none where no task
+/// Returns the commands that start a plan, in the Redis serialization protocol; none if no task
 /// starts. They put on the queue the text of each message that the plan starts with, in their
-/// order, and the size of each chord whose header starts under its key. Both read back from the
+/// order, and set the size of each chord whose header starts under its key. Both read back from the
 /// bytes; no message has a chord's size.
 pub fn export(alloc: Global, plan: &Plan, run: &Run, target: &Target<'_>) -> Result<Vec<u8>, Memory>
     ensures bytes { IfOk result (λ bytes. bytes.items
@@ -31,7 +31,7 @@ pub fn export(alloc: Global, plan: &Plan, run: &Run, target: &Target<'_>) -> Res
     ensures reads_back { IfOk result (λ bytes. read_export bytes.items
         ≡ Some (started (starting (bare plan.now)) (map sizeless (first_messages plan.now)))) }
 {
-    // The length of the run's number is known by its type.
+    // The type of the run's number gives its length.
     let _digits = run.digits();
     let parts = Parts::of(alloc, plan, run, target)?;
     let names = Names { run, plan };

@@ -1,17 +1,16 @@
-//! Why a start has no commands where places are to have values.
+//! Why a start has no commands if places are to have values.
 
 use canvas_task::Memory;
 use std::alloc::{AllocError, AllocFailed, Global};
 
-/// What is wrong with the values, or with a text that begins with `~`.
+/// The fault of the values, or of a text that begins with `~`.
 #[derive(Drop)]
 pub enum FillFault {
-    /// The values are no JSON text in UTF-8, or one with more than 128 arrays and objects in each
-    /// other.
+    /// The values are not a JSON text in UTF-8, or it has more than 128 nested arrays and objects.
     NotJson,
-    /// They are JSON, and no array.
+    /// They are JSON, but not an array.
     NoArray,
-    /// The text is no place, or that of a value that isn't there, of so many.
+    /// The text is not a place, or there is no such value among this many.
     NoPlace { text: String, values: usize },
     /// The text is the name of a task.
     Name { text: String },

@@ -22,7 +22,7 @@ use canvas_rewrite::Plan;
 use json::{Scratch, Value};
 use std::alloc::Global;
 
-/// The body of a message, with a value in each place.
+/// Returns the body of a message, with a value in each place.
 fn filled_body(
     alloc: Global,
     names: &Names<'_>,
@@ -37,7 +37,7 @@ fn filled_body(
     filled_text(alloc, str::from_utf8(&body).unwrap(), values)
 }
 
-/// The text of a message with such a body.
+/// Returns the text of a message with such a body.
 fn filled_envelope(
     alloc: Global,
     names: &Names<'_>,
@@ -53,7 +53,7 @@ fn filled_envelope(
     Ok(envelope_around(alloc, names, queue, message, &body)?)
 }
 
-/// The texts of messages, in their order.
+/// Returns the texts of messages, in their order.
 fn encode_filled(
     alloc: Global,
     names: &Names<'_>,
@@ -73,7 +73,7 @@ fn encode_filled(
     Ok(texts)
 }
 
-/// The texts of messages, with the values of a text in their places.
+/// Returns the texts of messages, with the values of a text in their places.
 fn filled_texts(
     alloc: Global,
     names: &Names<'_>,
@@ -90,7 +90,7 @@ fn filled_texts(
     encode_filled(alloc, names, queue, messages, &values)
 }
 
-/// Whether what a task is called begins with `~`.
+/// Returns whether a task's name begins with `~`.
 fn is_marked_name(name: Option<&str>) -> bool
     ensures { result ≡ is_marked_name (option_map (λ name. name.now) name.entry) }
 {
@@ -100,7 +100,7 @@ fn is_marked_name(name: Option<&str>) -> bool
     }
 }
 
-/// The first of the tasks' names that begins with `~`.
+/// Returns the first of the tasks' names that begins with `~`.
 fn marked_name(plan: &Plan) -> Option<&str>
     ensures { result ≡ None → AreUnmarked (names plan.now) }
 {
@@ -113,7 +113,8 @@ fn marked_name(plan: &Plan) -> Option<&str>
     None
 }
 
-/// Refuses a task's name that begins with `~`, since it could be taken for a place.
+/// Refuses a task's name that begins with `~`, since it could be mistaken for a place. So the
+/// filling needn't know which texts of a body are arguments.
 fn check_names(alloc: Global, plan: &Plan) -> Result<(), FillFault>
     ensures { OnOk result (AreUnmarked (names plan.now)) }
 {
@@ -123,9 +124,9 @@ fn check_names(alloc: Global, plan: &Plan) -> Result<(), FillFault>
     }
 }
 
-/// As `export`, of a plan some of whose arguments are places: the texts `~0`, `~1` and so on, which
-/// have the values of a JSON array in their order. In the messages each place is its value. A value
-/// may be in several places, and some in none.
+/// Like `export`, for a plan some of whose arguments are places: the texts `~0`, `~1` and so on,
+/// which have the values of a JSON array in their order. In the messages each place is its value. A
+/// value may be in several places, or in none.
 pub fn export_with(
     alloc: Global,
     plan: &Plan,

@@ -1,4 +1,7 @@
 //! Values in their places of a JSON text.
+//!
+//! Values replace tokens of a body that was written, since the definitions of signatures have no
+//! text for a float, and the engine's arguments are none of these values.
 
 ghost use Rattle.std.specs.Prelude.{◌≡◌, ◌<◌, ◌^◌, ◌∷◌, IfOk, IfSome, List, OnOk, Some, decimal, map};
 ghost use Rattle.json.specs.Lex.{tokens};
@@ -15,14 +18,14 @@ use itoa::Buffer;
 use json::{Reader, Scratch, Token, Value, Writer};
 use std::alloc::Global;
 
-/// Whether a text begins with `~`.
+/// Returns whether a text begins with `~`.
 pub(crate) fn is_marked(text: &str) -> bool
     ensures { result ≡ is_marked text.now }
 {
     matches!(text.as_bytes(), [b'~', ..])
 }
 
-/// The number of a place, as it is written: `~0` and not `~00`.
+/// Parses the number of a place, as it is written: `~0` and not `~00`.
 fn number_of(text: &str) -> Option<usize>
     ensures { IfSome result (λ k. (k < 2 ^ 64) × (text.now ≡ 126 ∷ decimal k)) }
 {
@@ -32,7 +35,7 @@ fn number_of(text: &str) -> Option<usize>
     (digits == buffer.format(number)).then_some(number)
 }
 
-/// The value of a place.
+/// Returns the value of a place.
 fn value_of<'a, 'v>(text: &str, values: &'a [Value<'v>]) -> Option<&'a Value<'v>>
     requires { HaveNumbers (map value_view values.now) }
     ensures value { IfSome result
@@ -47,7 +50,7 @@ fn value_of<'a, 'v>(text: &str, values: &'a [Value<'v>]) -> Option<&'a Value<'v>
     }
 }
 
-/// A text: as it is, or the value of a place.
+/// Writes a text as it is, or the value of a place.
 fn write_text(
     alloc: Global,
     out: &mut Writer,
@@ -85,7 +88,7 @@ fn write_token(
     }
 }
 
-/// A JSON text with a value in each place.
+/// Returns a JSON text with a value in each place.
 pub(crate) fn filled_text(
     alloc: Global,
     text: &str,

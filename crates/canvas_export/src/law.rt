@@ -18,8 +18,8 @@ ghost use Rattle.canvas_export.specs.Start.{start};
 ghost use Rattle.canvas_export.specs.Sizeless.{sizeless};
 ghost use Rattle.canvas_export.specs.ExportView.{naming_of};
 
-/// Commands read back from their bytes, where these are fewer than 2^64, and what reads as commands
-/// is their bytes.
+/// States that commands read back from their bytes, if these are fewer than 2^64, and that only
+/// their bytes read as commands.
 pub fn law_of_commands()
     ensures read_back { (cs : List (List Text)) → length (resp cs) < 2 ^ 64
         → read (resp cs) ≡ Some cs }
@@ -27,18 +27,18 @@ pub fn law_of_commands()
         → bytes ≡ resp cs }
 {}
 
-/// A message of a plan that fits reads back from its text, but for the sizes of chords: its task,
-/// its call, its links and error callbacks, its place, what follows on its line and its parent. A
-/// run's number has 22 digits, and the text in the body is bytes.
+/// States that a message of a plan that fits reads back from its text without the sizes of chords:
+/// its task, its call, its links and error callbacks, its place, what follows on its line and its
+/// parent. A run's number has 22 digits, and the text in the body is bytes.
 pub fn law_of_messages()
     ensures { (run : Text) → length run ≡ 22 → (plan : Line) → IsPlan plan → (queue : Text)
         → (c : Content) → fits c ≡ true → IsBytes (compact_text (body_wire (naming_of run plan) c))
         → read_message (message_text (naming_of run plan) queue c) ≡ Some (sizeless c) }
 {}
 
-/// A start reads back from its bytes, by a script and by a transaction, where these are fewer than
-/// 2^64: the sizes of the chords that start, and its messages in their order, where each of its
-/// texts reads as one.
+/// States that a start reads back from its bytes, by a script and by a transaction, if these are
+/// fewer than 2^64: the sizes of the chords that start, and its messages in their order, if each of
+/// its texts reads as one.
 pub fn law_of_exports()
     ensures { (run : Text) → length run ≡ 22 → (setting : Setting) → (sizes : List (ℕ × ℕ))
         → AreNamed sizes → (texts : List Text) → (messages : List Content)

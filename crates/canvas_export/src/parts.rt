@@ -32,14 +32,14 @@ use canvas_task::Memory;
 use std::alloc::{AllocError, Global};
 use std::io::{self, Write};
 
-/// The messages of a start, and what stands around their texts.
+/// The messages of a start, and the bytes around their texts.
 #[derive(Drop)]
 pub(crate) struct Parts {
     around: Around,
     pub(crate) messages: Vec<Message>,
 }
 
-/// The chords whose headers start with a plan, whose line can stand in a message.
+/// Returns the chords whose headers start with a plan, whose line fits a message.
 fn sizes_of(alloc: Global, plan: &Plan) -> Result<Vec<Size>, AllocError>
     ensures sizes { IfOk result (λ sizes. map size_view sizes.items ≡ starting (bare plan.now)) }
     ensures planned { OnOk result (IsPlan plan.now) }
@@ -50,7 +50,7 @@ fn sizes_of(alloc: Global, plan: &Plan) -> Result<Vec<Size>, AllocError>
     Ok(sizes)
 }
 
-/// What stands around the texts of some messages.
+/// Returns the bytes around the texts of some messages.
 fn around_some(
     alloc: Global,
     run: &Run,
@@ -68,7 +68,7 @@ fn around_some(
     }
 }
 
-/// What stands around the texts of messages; nothing where there are none.
+/// Returns the bytes around the texts of messages; none if there are no messages.
 fn around_all(
     alloc: Global,
     run: &Run,
@@ -109,8 +109,8 @@ fn write_message<W: Write>(
     out.write_all(&word)
 }
 
-/// Writes the texts of messages as words, one after the other, of which only one is held. Each
-/// reads back as its message, but for the sizes of chords.
+/// Writes the texts of messages as words, one after the other, only one of which is held at a time.
+/// Each reads back as its message, without the sizes of chords.
 fn write_messages<W: Write>(
     alloc: Global,
     names: &Names<'_>,
@@ -131,7 +131,7 @@ fn write_messages<W: Write>(
 }
 
 impl Parts {
-    /// The parts of a plan's start.
+    /// Returns the parts of a plan's start.
     pub(crate) fn of(
         alloc: Global,
         plan: &Plan,
@@ -168,7 +168,7 @@ impl Parts {
         write_messages(alloc, names, queue, &self.messages, out)?;
         out.write_all(&self.around.back)
     }
-    /// The start where the messages have these texts.
+    /// Returns the start if the messages have these texts.
     pub(crate) fn with_texts(&self, alloc: Global, texts: &[Vec<u8>]) -> Result<Vec<u8>, AllocError>
         ensures { IfOk result (λ bytes. bytes.items
             ≡ around_texts self.now.around (map (λ t. t.items) texts.now)) }

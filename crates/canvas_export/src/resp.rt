@@ -1,11 +1,11 @@
-//! Commands as the Redis serialization protocol has them: arrays of bulk strings.
+//! Commands in the Redis serialization protocol: arrays of bulk strings.
 
 ghost use Rattle.std.specs.Prelude.{◌≡◌, ◌++◌, OnOk, IfOk, codes, map, decimal, string_bytes};
 ghost use Rattle.canvas_export.specs.Resp.{header_bytes, word_bytes, words_bytes, command_bytes};
 
 use std::alloc::{AllocError, Global};
 
-/// A command of so many words, which are pushed behind it.
+/// Appends the beginning of a command with this number of words, which are appended after it.
 pub(crate) fn begin_command(
     alloc: Global,
     out: &mut Vec<u8>,
@@ -16,7 +16,7 @@ pub(crate) fn begin_command(
     push_header(alloc, out, "*", words)
 }
 
-/// A word of a command.
+/// Appends a word of a command.
 pub(crate) fn push_word(alloc: Global, out: &mut Vec<u8>, word: &[u8]) -> Result<(), AllocError>
     ensures { OnOk result (out.new.items ≡ out.old.items ++ word_bytes word.now) }
 {
@@ -32,14 +32,14 @@ fn push_header(alloc: Global, out: &mut Vec<u8>, mark: &str, count: usize) -> Re
     out.extend_from_slice(header.as_bytes())
 }
 
-/// A number in decimal digits.
+/// Returns a number in decimal digits.
 pub(crate) fn decimal_of(alloc: Global, number: u64) -> Result<String, AllocError>
     ensures { IfOk result (λ text. string_bytes text ≡ decimal number) }
 {
     format!(in alloc; "{number}")
 }
 
-/// A number as a word.
+/// Appends a number as a word.
 pub(crate) fn push_number(alloc: Global, out: &mut Vec<u8>, number: u64) -> Result<(), AllocError>
     ensures { OnOk result (out.new.items ≡ out.old.items ++ word_bytes (decimal number)) }
 {
@@ -57,7 +57,7 @@ fn push_words(alloc: Global, out: &mut Vec<u8>, words: &[&[u8]]) -> Result<(), A
     Ok(())
 }
 
-/// A whole command.
+/// Appends a whole command.
 pub(crate) fn push_command(
     alloc: Global,
     out: &mut Vec<u8>,
@@ -70,7 +70,7 @@ pub(crate) fn push_command(
     push_words(alloc, out, words)
 }
 
-/// Texts as words, one after the other.
+/// Appends texts as words, one after the other.
 pub(crate) fn push_texts(
     alloc: Global,
     out: &mut Vec<u8>,

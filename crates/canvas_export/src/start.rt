@@ -20,9 +20,9 @@ use std::alloc::Global;
 use std::io::{self, Write};
 use std::marker::Model;
 
-/// The commands that start a plan, of which contracts see the bytes that `export` gives. It holds
-/// the plan's messages and none of their texts, which may be long and alike: a thousand members of
-/// a chord all carry its body.
+/// The commands that start a plan, of which contracts see the bytes that `export` gives. It has the
+/// plan's messages and none of their texts, which may be long and alike: a thousand members of a
+/// chord all carry its body.
 #[derive(Drop)]
 pub struct Start {
     plan: Plan,
@@ -46,8 +46,8 @@ impl Model for Start {
 }
 
 impl Start {
-    /// The start of a plan. All that may be refused is, but for the memory of one message's text
-    /// at a time.
+    /// Makes the start of a plan. All that may be refused is refused here, except the memory of one
+    /// message's text at a time.
     pub fn of(alloc: Global, plan: Plan, run: &Run, target: &Target<'_>) -> Result<Start, Memory>
         ensures { IfOk result (λ s. s ≡ resp (start run.now.digits (setting target.now)
             (starting (bare plan)) (map (message_text (naming_of run.now.digits plan)
@@ -63,7 +63,7 @@ impl Start {
         })
     }
 
-    /// Writes the commands, message by message. After an error some of them may be written; where
+    /// Writes the commands, message by message. After an error some of them may be written; if
     /// memory was refused, its kind says so.
     pub fn write<W: Write>(&self, alloc: Global, out: &mut W) -> io::Result<()>
         ensures { OnOk result (Appends (W.contents out.old) (W.contents out.new) self.now) }

@@ -9,14 +9,14 @@ use canvas_rewrite::{FrozenEnd, FrozenLine};
 use canvas_task::GroupNo;
 use std::alloc::AllocError;
 
-/// A chord and how many members its header has.
+/// A chord and the number of members of its header.
 #[derive(Clone, Copy)]
 pub(crate) struct Size {
     pub(crate) group: GroupNo,
     pub(crate) members: usize,
 }
 
-/// The sizes of the chords that start when the line starts, put behind the others in file order.
+/// Appends the sizes of the chords that start when the line starts, in file order.
 #[cycle(starting)]
 pub(crate) fn push_sizes(line: &FrozenLine, sizes: &mut Vec<Size>) -> Result<(), AllocError>
     ensures { OnOk result (map size_view sizes.new.items

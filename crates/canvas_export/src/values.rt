@@ -12,7 +12,7 @@ use crate::FillFault;
 use json::{Error, Scratch, Value};
 use std::alloc::Global;
 
-/// The value of a text.
+/// Reads the value of a text.
 fn read_json<'v>(
     alloc: Global,
     text: &'v [u8],
@@ -29,7 +29,7 @@ fn read_json<'v>(
     }
 }
 
-/// The items of an array.
+/// Returns the items of an array.
 fn items_of(value: Value<'_>) -> Result<Vec<Value<'_>>, FillFault>
     ensures values { IfOk result
         (λ vs. items_of (value_view value.entry) ≡ Some (map value_view vs.items)) }
@@ -42,7 +42,7 @@ fn items_of(value: Value<'_>) -> Result<Vec<Value<'_>>, FillFault>
     }
 }
 
-/// The values that a text lists.
+/// Returns the values that a text lists.
 pub(crate) fn values_of<'v>(
     alloc: Global,
     text: &'v [u8],

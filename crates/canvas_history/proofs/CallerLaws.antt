@@ -72,7 +72,7 @@ module _ {I C R S : Type 0} (first : S) (answer : S → C → R) (next : S → C
       ap (λ l. made_by q.name (p'.seen ++ l)) none ∙ (ap (λ l. made_by q.name l) (append-nil p'.seen)
       ∙ (made_after q (e ∷ []) p'.seen here x ∙ ap (λ l. made_by q.name (told q) ++ l) (made_off q.name e [] apart)))
 
-  -- the entry of a call may come where it stands
+  -- the entry of a call is allowed where it is
   pub last_allowed : (p : Caller I C R) (e : Entry C R) (log : List (Entry C R)) → Goes p (e ∷ []) log
       → (before : List (Entry C R)) × (log ≡ before ++ e ∷ []) × Allowed first answer next May before e
   last_allowed p e log x =

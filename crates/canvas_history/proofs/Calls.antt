@@ -74,7 +74,7 @@ module _ {C R S : Type 0} (first : S) (answer : S → C → R) (next : S → C �
   pub legal_at : (h : List (Entry C R)) (e : Entry C R) (g : List (Entry C R)) → IsLegal (h ++ e ∷ g) → Allows h e
   legal_at h e g legal = (legal_back h (e ∷ g) legal).0
 
-  -- where one caller alone is live, no entry of another can come
+  -- if only one caller is live, no entry of another can come
   pub alone : (h : List (Entry C R)) (p : ℕ) (between g : List (Entry C R)) → IsLegal (h ++ (between ++ g)) → AllOthers p between → Sole h p → between ≡ []
   alone h p [] g legal others sole = refl
   alone h p (e ∷ es) g legal others sole =

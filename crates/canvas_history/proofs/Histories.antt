@@ -3,7 +3,7 @@ use Rattle.std.proofs.Common.{◌≡◌, ℕ, Bool, true, false, cond, not, ◌|
 use Rattle.std.proofs.lemmas.Bool.{false≢true, eqb-true, eqb-false, eq-eqb, ne_eqb, cases_Bool}
 use Rattle.canvas_history.specs.History.{Entry, split, join, calls, among, without, by_of, live_after, live_from, live, split_off, taken_in, made_by, AllJoined, NoneBy, AllOthers, Since, Sole, state_after, state_from, Allowed, LegalFrom, Legal}
 
--- the number stands in the list
+-- the list has the number
 abbrev pub In : ℕ → List ℕ → Type 0
 In c cs = among c cs ≡ true
 
@@ -135,7 +135,7 @@ module _ {C R : Type 0} where
   pub made_others : (p : ℕ) (xs : List (Entry C R)) → AllOthers p xs → made_by p xs ≡ []
   made_others p xs o = made_none p (p ∷ []) xs (in_here p []) o
 
-  -- calls alone, no splits and no joins
+  -- only calls, no splits and no joins
   abbrev pub OnlyCalls : List (Entry C R) → Type 0
   OnlyCalls [] = Unit {0}
   OnlyCalls (split p q ∷ es) = ⊥

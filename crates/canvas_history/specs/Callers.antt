@@ -1,27 +1,27 @@
--- What a caller of a shared object is and has seen, and what the clauses of its calls tell
--- (Lamport's sequential consistency). It is the same for each object: I names one, C are its calls,
--- and R their replies.
+-- A caller of a shared object, what it has seen, and what the clauses of its calls tell (Lamport's
+-- sequential consistency). They are the same for each object: I names one, C are its calls, and R
+-- their replies.
 --     Caller I C R              a caller
 --     Hat C R                   its number and what it has seen
 --     told p                    what it has seen, with the joins that it owes
 --     Follows p es log          the history log is what p has seen, entries by others, the joins
 --                               that p owes, and then the entries es
---     Stands p e p'             the call e stands in the history, and p is p' from then on.
---                               StandTogether says it of entries side by side
---     CouldStand p e            the call e stands in some history that goes on from what p has
---                               seen, though p keeps no more than that
---     Parted p p' q             p has made the caller q
---     Joined p q p'             p has taken in q, by a join that stands in the history
---     Owes p q p'               p has taken in q, by a join that stands before its next entry
---     Adds p es p'              of p's own entries, p' has those that p had, and then these
---     IsHistory p, LeavesOne p  what p has seen is legal; where all others have been taken in, the
---                               first caller is the only one that is live
+--     Stands p e p'             the history has the call e, and p is p' from then on.
+--                               StandTogether says it of entries with none between
+--     CouldStand p e            some history that goes on from what p has seen has the call e, but
+--                               p keeps no more than it had seen
+--     Parted p p' q             p has split off the caller q
+--     Joined p q p'             p has joined q, and the history has the join
+--     Owes p q p'               p has joined q, and the join comes before its next entry
+--     Adds p es p'              the own entries of p' are those of p, and then these
+--     IsHistory p, LeavesOne p  what p has seen is legal; if all others have been joined, the first
+--                               caller is the only one that is live
 use Rattle.std.specs.Prelude.{◌≡◌, ℕ, List, [], ◌∷◌, ◌++◌, ◌⊎◌, length}
 use Rattle.canvas_history.specs.History.{Entry, split, join, live_from, split_off, made_by, AllJoined, Sole, NoneBy, Since, Legal}
 
--- Of which object it is a caller, its number, the callers for which it answers (itself, and those
--- that it took in since its last entry), the beginning of the history that it has seen, and the
--- joins that it owes, which come right before its next entry
+-- The object that it calls, its number, the callers for which it answers (itself, and those that it
+-- joined since its last entry), the beginning of the history that it has seen, and the joins that
+-- it owes, which come right before its next entry
 pub record Caller (I C R : Type 0) : Type 0 where
   pub of : I
   pub name : ℕ
@@ -29,16 +29,16 @@ pub record Caller (I C R : Type 0) : Type 0 where
   pub seen : List (Entry C R)
   pub owed : List (Entry C R)
 
--- a caller by its number and what it has seen, where it is of one object and owes nothing
+-- the number of a caller and what it has seen, if it is one of one object and owes nothing
 abbrev pub Hat : Type 0 → Type 0 → Type 0
 Hat C R = ℕ × List (Entry C R)
 
--- the name of an object where only one is spoken of
+-- the name of an object if there is only one
 abbrev pub the_object : Unit {0}
 the_object = tt
 
 module _ {I C R : Type 0} where
-  -- a caller that answers for itself alone, and owes nothing
+  -- a caller that answers only for itself, and owes nothing
   abbrev pub owing_none : I → ℕ → List (Entry C R) → Caller I C R
   owing_none i p seen = record { of = i; name = p; mine = p ∷ []; seen = seen; owed = [] }
 
@@ -46,18 +46,18 @@ module _ {I C R : Type 0} where
   abbrev pub told : Caller I C R → List (Entry C R)
   told p = p.seen ++ p.owed
 
-  -- the entries that p has made itself are, by what p' has seen and owes, those that it had made,
+  -- the entries that p' has made itself, in what it has seen and owes, are those that p had made,
   -- and then these
   abbrev pub Adds : Caller I C R → List (Entry C R) → Caller I C R → Type 0
   Adds p es p' = made_by p.name (told p') ≡ made_by p.name (told p) ++ es
 
-  -- where all other callers have been taken in, by what the caller has seen and the joins that it
-  -- owes, the first is the only one that is live
+  -- if all other callers have been joined, in what the caller has seen and owes, the first is the
+  -- only one that is live
   abbrev pub LeavesOne : Caller I C R → Type 0
   LeavesOne p = AllJoined (told p) → Sole (told p) 0
 
-  -- A join that is owed: the new list begins with both lists, is one of them, and has no further
-  -- entry by the callers of either
+  -- A join that is owed: the new history begins with both, is one of them, and has no further entry
+  -- by the callers of either
   abbrev pub Owes : Caller I C R → Caller I C R → Caller I C R → Type 0
   Owes p q p' =
       (p'.of ≡ p.of) × (p'.name ≡ p.name) × (p'.mine ≡ p.mine ++ q.mine)
@@ -69,7 +69,7 @@ module _ {I C R : Type 0} where
 module _ {I C R S : Type 0} (first : S) (answer : S → C → R) (next : S → C → S)
     (May : List (Entry C R) → S → ℕ → C → Type 0) where
   -- The call clause: what was seen, entries of others since, the joins owed, and the entries of
-  -- this call. The whole is legal, and where no other caller was live nothing stands in between
+  -- this call. The whole is legal, and if no other caller was live nothing is in between
   abbrev pub Follows : Caller I C R → List (Entry C R) → List (Entry C R) → Type 0
   Follows p es log =
       (between : List (Entry C R))
@@ -85,7 +85,7 @@ module _ {I C R S : Type 0} (first : S) (answer : S → C → R) (next : S → C
   abbrev pub Stands : Caller I C R → Entry C R → Caller I C R → Type 0
   Stands p e p' = StandTogether p (e ∷ []) p'
 
-  -- a call that stands in one legal history, of which the caller keeps no more than it had seen
+  -- one legal history has the call, and the caller keeps no more than it had seen
   abbrev pub CouldStand : Caller I C R → Entry C R → Type 0
   CouldStand p e = (log : List (Entry C R)) × Follows p (e ∷ []) log
 
@@ -94,7 +94,7 @@ module _ {I C R S : Type 0} (first : S) (answer : S → C → R) (next : S → C
   Parted p p' q =
       Stands p (split p.name q.name) p' × (q ≡ owing_none p.of (length (split_off p'.seen)) p'.seen)
 
-  -- the list begins with both lists, and has no further entry by either's callers before the join
+  -- the history begins with both, and has no further entry by either's callers before the join
   abbrev pub Joined : Caller I C R → Caller I C R → Caller I C R → Type 0
   Joined p q p' = Stands p (join p.name q.name) p' × Follows q (join p.name q.name ∷ []) p'.seen
 

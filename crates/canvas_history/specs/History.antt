@@ -1,20 +1,20 @@
 -- Histories of an object that several callers share: who called, what, and what was answered, in
--- one order. That each call stands in one such order, in its caller's own, is Lamport's sequential
--- consistency (How to make a multiprocessor computer, 1979), here for callers that make and take in
--- others.
---     Entry C R              one entry of a history: a caller makes another, takes one in, or makes
---                            a call C with the reply R. Callers are numbers, and 0 is the first
+-- one order. That one such order has each call, in its caller's own order, is Lamport's sequential
+-- consistency (How to make a multiprocessor computer, 1979), here for callers that split off and
+-- join others.
+--     Entry C R              one entry of a history: a caller splits off another, joins one, or
+--                            makes a call C with the reply R. Callers are numbers; 0 is the first
 --     live, split_off, taken_in log    the callers that are live after the history, in the order of
 --                                      their making; those that a `split` names, and those that a
 --                                      `join` takes in
---     heir log c             the caller as whose own the calls of c count: c, or the one that took
---                            it in, or the one that took that one in
+--     heir log c             the caller whose own the calls of c count as: c, or the one that
+--                            joined it, or the one that joined that one
 --     made_by p log          the entries by p itself
 --     replay log             the object's state after the history
 --     Allowed log e          the entry e may follow the history
 --     Legal log              each entry is allowed after those before it
 --     Sole log p             no other caller than p is live
---     AllJoined log          each caller but the first has been taken in
+--     AllJoined log          each caller but the first has been joined
 --     NoneBy cs es, AllOthers p es    no entry is by one of the callers, or by p
 --     Since cs log seen      the history goes on from that beginning with no entry by one of the
 --                            callers
@@ -25,7 +25,7 @@ pub data Entry (C R : Type 0) : Type 0 where
   join : ℕ → ℕ → Entry C R
   calls : ℕ → C → R → Entry C R
 
--- whether the number stands in the list
+-- whether the list has the number
 abbrev pub among : ℕ → List ℕ → Bool
 among c [] = false
 among c (k ∷ ks) = (k == c) || among c ks
@@ -62,14 +62,14 @@ module _ {C R : Type 0} where
   split_off (join p q ∷ es) = split_off es
   split_off (calls p c r ∷ es) = split_off es
 
-  -- the callers that a join of the history takes in
+  -- the callers that a join of the history names
   abbrev pub taken_in : List (Entry C R) → List ℕ
   taken_in [] = []
   taken_in (split p q ∷ es) = taken_in es
   taken_in (join p q ∷ es) = q ∷ taken_in es
   taken_in (calls p c r ∷ es) = taken_in es
 
-  -- as whose own c's calls count after one more entry
+  -- the caller whose own c's calls count as after one more entry
   abbrev pub heir_after : ℕ → Entry C R → ℕ
   heir_after c (split p q) = c
   heir_after c (join p q) = cond (c == q) p c
@@ -83,7 +83,7 @@ module _ {C R : Type 0} where
   abbrev pub made_by : ℕ → List (Entry C R) → List (Entry C R)
   made_by p log = filter (λ e. by_of e == p) log
 
-  -- each caller that a split of the history names has been taken in, and the first has not
+  -- each caller that a split of the history names has been joined, and the first has not
   abbrev pub AllJoined : List (Entry C R) → Type 0
   AllJoined log =
       (among 0 (taken_in log) ≡ false)
@@ -102,13 +102,13 @@ module _ {C R : Type 0} where
   abbrev pub AllOthers : ℕ → List (Entry C R) → Type 0
   AllOthers p es = NoneBy (p ∷ []) es
 
-  -- the one list begins with the other, and goes on with no entry by one of these
+  -- the history begins with what was seen, and goes on with no entry by one of these
   abbrev pub Since : List ℕ → List (Entry C R) → List (Entry C R) → Type 0
   Since cs log seen = (rest : List (Entry C R)) × (log ≡ seen ++ rest) × NoneBy cs rest
 
 -- The one-thread object: its state before any call, what a call answers in a state, and the state
 -- that it leaves. May log s p c: the caller p may make the call c after the history log, which
--- leaves the state s. `λ log s p c. Unit {0}` asks nothing
+-- leaves the state s. `λ log s p c. Unit {0}` allows every call
 module _ {C R S : Type 0} (first : S) (answer : S → C → R) (next : S → C → S)
     (May : List (Entry C R) → S → ℕ → C → Type 0) where
   abbrev pub state_after : S → Entry C R → S
@@ -124,7 +124,7 @@ module _ {C R S : Type 0} (first : S) (answer : S → C → R) (next : S → C �
   abbrev pub replay : List (Entry C R) → S
   replay log = state_from first log
 
-  -- the entry is by a live caller, names what it may, and has the object's reply
+  -- the entry is by a live caller, names only callers that it may, and has the object's reply
   abbrev pub Allowed : List (Entry C R) → Entry C R → Type 0
   Allowed log (split p q) =
       (among p (live log) ≡ true) × ((q == 0) ≡ false) × (among q (split_off log) ≡ false)

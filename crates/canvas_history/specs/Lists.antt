@@ -1,11 +1,12 @@
--- Words on lists by recursion. The library's `Contains` and `All` speak of places, and its `sum_by`
--- adds from the left, so what they say of a list doesn't compute to what they say of its first
--- element and of the rest. These do, and histories are lists that are proved about by recursion.
+-- Definitions on lists by recursion. The library's `Contains` and `All` speak of indices, and its
+-- `sum_by` adds from the left, so what they say of a list doesn't compute to what they say of its
+-- first element and of the rest. These do, and histories are lists that are proved about by
+-- recursion.
 use Rattle.std.specs.Prelude.{ℕ, ◌+◌, eqb, cond, List, [], ◌∷◌}
 -- x is one of the elements
 pub use Rattle.canvas_envelope.specs.Among.{In}
 
--- P of each element
+-- P holds of each element
 abbrev pub Each : {X : Type 0} → (X → Type 0) → List X → Type 0
 Each P [] = Unit
 Each P (x ∷ xs) = P x × Each P xs

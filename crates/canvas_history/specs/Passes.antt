@@ -1,10 +1,10 @@
--- What contracts see of a pass, and what the calls of a broker tell: the clauses of Callers, at the
--- queue (Lamport's sequential consistency).
+-- What contracts see of a pass, and what the calls of a broker tell: the clauses of Callers, for
+-- the queue (Lamport's sequential consistency).
 --     QueueId            which broker it is
 --     CallerAt I E       a caller of a queue of E that I names; a Pass E is one of a broker
---     Stands, Parted, Owes, CouldStand, IsHistory    as they are said of callers
---     Took p es p'       the takes of es stand side by side, and p is p' from then on
---     Empties p          where no other caller is live, what p has seen replays to the empty queue
+--     Stands, Parted, Owes, CouldStand, IsHistory    as in Callers, for the queue
+--     Took p es p'       the takes of es are next to each other, and p is p' from then on
+--     Empties p          if no other caller is live, what p has seen replays to the empty queue
 use Rattle.std.specs.Prelude.{◌≡◌, ℕ, List, [], ◌∷◌, Option}
 use Rattle.canvas_history.specs.Callers as callers
 use Rattle.canvas_history.specs.Callers.{Caller, told}
@@ -39,7 +39,7 @@ module _ {I E : Type 0} where
   Took p [] p' = p' ≡ p
   Took p (e ∷ es) p' = callers.StandTogether [] answer_of next May p (takes_of p.name (e ∷ es)) p'
 
-  -- where no other caller is live, what the pass has seen, with the joins that it owes, replays to
-  -- the empty queue
+  -- if no other caller is live, what the pass has seen, with the joins that it owes, replays to the
+  -- empty queue
   abbrev pub Empties : CallerAt I E → Type 0
   Empties p = Sole (told p) p.name → queue_of (told p) ≡ []

@@ -7,7 +7,7 @@
 --     answer, next        what the queue answers, and what it holds afterwards
 --     QueueEntry E        an entry of a history
 --     queue_of, IsLegal   what a history replays to, and whether it is one
---     takes_of p es       takes of these by p, side by side
+--     takes_of p es       takes of these by p, with no other entry between
 use Rattle.std.specs.Prelude.{◌≡◌, ℕ, List, [], ◌∷◌, ◌++◌, Option, Some, None}
 use Rattle.canvas_history.specs.History.{Entry, calls, heir, replay, Legal}
 use Rattle.canvas_history.specs.Lists.{In}
@@ -15,8 +15,8 @@ use Rattle.canvas_history.specs.Lists.{In}
 pub data QueueCall (E : Type 0) : Type 0 where
   publish : E → QueueCall E
   take : QueueCall E
-  -- an envelope that was taken joins the queue again (Celery's late acknowledgement: a message
-  -- whose worker didn't acknowledge it is delivered again)
+  -- a taken envelope is added to the queue again (Celery's late acknowledgement: a message whose
+  -- worker didn't acknowledge it is redelivered)
   redeliver : E → QueueCall E
 
 -- an entry of a history
@@ -40,7 +40,7 @@ module _ {E : Type 0} where
   abbrev pub HasTaken : List (QueueEntry E) → ℕ → E → Type 0
   HasTaken log p e = (c : ℕ) × In (calls c take (Some e)) log × (heir log c ≡ p)
 
-  -- an envelope is delivered again by the caller of whose own takes one gave it
+  -- only the caller whose own take gave an envelope may redeliver it
   abbrev pub May : List (QueueEntry E) → List E → ℕ → QueueCall E → Type 0
   May log s p (publish e) = Unit {0}
   May log s p take = Unit {0}
@@ -53,7 +53,7 @@ module _ {E : Type 0} where
   abbrev pub IsLegal : List (QueueEntry E) → Type 0
   IsLegal log = Legal [] answer_of next May log
 
-  -- takes of these, side by side
+  -- takes of these, with no other entry between
   abbrev pub takes_of : ℕ → List E → List (QueueEntry E)
   takes_of p [] = []
   takes_of p (e ∷ es) = calls p take (Some e) ∷ takes_of p es

@@ -1,9 +1,9 @@
 -- What contracts see of a backend and of a seat, and what its calls tell: the clauses of Callers,
--- at the table of results (Lamport's sequential consistency).
+-- for the table of results (Lamport's sequential consistency).
 --     TableId             which backend it is
---     Desk, Seat          a backend, and a seat
+--     BackendView, Seat          a backend, and a seat
 --     as_caller s         the seat as a caller
---     Stands, Parted, Joined, Adds, LeavesOne    as they are said of callers
+--     Stands, Parted, Joined, Adds, LeavesOne    as in Callers, for the table
 use Rattle.std.specs.Prelude.{ℕ, List}
 use Rattle.canvas_history.specs.Callers as callers
 use Rattle.canvas_history.specs.Callers.{Caller, owing_none}
@@ -15,19 +15,18 @@ use Rattle.canvas_history.specs.Table.{TableCall, TableReply, Log, no_results, r
 abbrev pub TableId : Type 0
 TableId = List ℕ
 
--- a backend: which one it is, and what its plan says
-pub record Desk : Type 0 where
+-- a backend: which one it is, and the index of its plan
+pub record BackendView : Type 0 where
   pub id : TableId
   pub plan : Roster
 
--- a seat: the backend that it is of, its caller's number, and the beginning of the history that it
--- has seen
+-- a seat: its backend, its caller's number, and the beginning of the history that it has seen
 pub record Seat : Type 0 where
   pub of : TableId
   pub name : ℕ
   pub seen : Log
 
--- its joins stand at once: it answers for itself alone, and owes none
+-- its joins are in the history at once: it answers only for itself, and owes none
 abbrev pub as_caller : Seat → Caller TableId TableCall TableReply
 as_caller s = owing_none s.of s.name s.seen
 

@@ -41,7 +41,7 @@ pub record Results : Type 0 where
 abbrev pub no_results : Results
 no_results = record { outcomes = λ _. None; returned = λ _. false }
 
--- what a store answers, and what it leaves, by what the task had
+-- what a store answers, and what it leaves, given what the task had
 abbrev pub first_or : Option Outcome → Stored
 first_or None = First
 first_or (Some o) = Again
@@ -87,7 +87,7 @@ module _ (plan : Roster) where
   reply_of s (part g t) = count (count_of s g)
   reply_of s (read t) = found (s.outcomes t)
 
-  -- a part is returned by the caller whose own store of the task was the first, and once
+  -- a part is returned once, by the caller whose own store of the task was the first
   abbrev pub May : Log → Results → ℕ → TableCall → Type 0
   May log s p (store t o) = Unit {0}
   May log s p (read t) = Unit {0}
@@ -102,8 +102,8 @@ module _ (plan : Roster) where
   abbrev pub IsLegal : Log → Type 0
   IsLegal log = Legal no_results reply_of next_of May log
 
-  -- the entry stands after what the caller p had seen and entries by others, where p answers for
-  -- itself alone and owes nothing
+  -- the entry comes after what the caller p had seen and entries by others, if p answers only for
+  -- itself and owes nothing
   abbrev pub IsCall : ℕ → Log → Log → Entry TableCall TableReply → Type 0
   IsCall p seen seen' e =
       Follows no_results reply_of next_of May (owing_none the_object p seen) (e ∷ []) seen'

@@ -1,6 +1,6 @@
--- What legal histories of a backend have in common (the chord rule of Celery's Redis backend: the
--- parts of a header are counted). A part is completing where it answers one less than the chord has
--- members.
+-- What all legal histories of a backend have in common (the chord rule of Celery's Redis backend:
+-- the parts of a header are counted). A part is completing if it answers one less than the chord
+-- has members.
 use Rattle.std.specs.Prelude.{◌≡◌, ◌≢◌, ℕ, suc, IsTrue, ◌∷◌, ◌++◌, Some, length}
 use Rattle.canvas_task.specs.declared.outcome.Outcome.{Outcome}
 use Rattle.canvas_history.specs.History.{calls}

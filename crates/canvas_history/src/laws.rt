@@ -1,27 +1,28 @@
-//! What holds of every legal history of a backend.
+//! Laws of every legal history of a backend.
 ghost use Rattle.canvas_history.specs.TableLaws.{AllFirst, NoMore, ReadsFirst, FirstMay, StillMay};
 
-/// Before a completing part each member of the chord was stored first.
+/// States that each member of the chord was stored first before a completing part.
 pub fn all_first()
     ensures { AllFirst }
 {}
 
-/// After a completing part no part of that chord is returned, so that one at most completes it.
+/// States that no part of that chord is returned after a completing part, so at most one completes
+/// it.
 pub fn no_more()
     ensures { NoMore }
 {}
 
-/// After a completing part each read of a member answers the outcome that was stored first.
+/// States that each read of a member after a completing part answers the outcome stored first.
 pub fn reads_first()
     ensures { ReadsFirst }
 {}
 
-/// After a store that answered First the caller may return the task's part.
+/// States that the caller may return the task's part after a store that answered First.
 pub fn first_may()
     ensures { FirstMay }
 {}
 
-/// It still may after another call of its own.
+/// States that it still may after another call of its own.
 pub fn still_may()
     ensures { StillMay }
 {}

@@ -14,7 +14,7 @@ use Rattle.canvas_lists.specs.CommaList.{IsNumberFromOne}
 abbrev pub is_colon : ℕ → Bool
 is_colon b = b == 58
 
--- ---- where the first colon stands
+-- ---- where the first colon is
 
 fails : (b : ℕ) → 48 ≤ b → b ≤ 57 → is_colon b ≡ false
 fails b low high = grind (arith, nat_tests)
@@ -37,7 +37,7 @@ drop_past xs p y = ap (λ i. drop i (xs ++ y ∷ p)) (add-one (length xs)) ∙ g
     go [] = refl
     go (b ∷ bs) = go bs
 
--- ---- what stands round it
+-- ---- what comes before and after it
 
 -- the text is a number, a colon and then this
 abbrev pub NumberThen : List ℕ → ℕ → List ℕ → Type 0

@@ -1,16 +1,16 @@
--- Lists that are written as a text with a comma between two.
+-- Lists written as a text with a comma between two items.
 use Rattle.std.specs.Prelude.{◌==◌, ◌≡◌, ◌≤◌, ◌<◌, ◌^◌, ℕ, Bool, All, List, [], ◌∷◌, map}
 use Rattle.std.specs.List.{slice_split}
 
 abbrev pub is_comma : ℕ → Bool
 is_comma b = b == 44
 
--- what stands between commas; nothing in the empty text
+-- the texts between commas; none in the empty text
 abbrev pub pieces : List ℕ → List (List ℕ)
 pieces [] = []
 pieces (b ∷ bs) = slice_split is_comma (b ∷ bs)
 
--- The pieces of the text are what these items are written as, each of which is good.
+-- The items are good, and the pieces of the text are their texts.
 abbrev pub Lists : {A : Type 0} → (A → Type 0) → (A → List ℕ) → List ℕ → List A → Type 0
 Lists Good written text xs = All Good xs × (pieces text ≡ map written xs)
 

@@ -10,8 +10,8 @@ use Rattle.canvas_lists.specs.declared.comma_list.ListFault.TheVariants.{BadItem
 abbrev pub IsTurnList : ℕ → List ℕ → List ℕ → Type 0
 IsTurnList n text turns = Lists (IsWorker n) decimal text turns
 
--- why a text has no turns: it is no such list, or memory was refused, which the empty text needs
--- none of
+-- why a text has no turns: it is no such list, or memory was refused, which can't be for the empty
+-- text
 abbrev pub IsNoTurnList : ℕ → List ℕ → ListFault → Type 0
 IsNoTurnList n text BadItem = (turns : List ℕ) → IsTurnList n text turns → ⊥
 IsNoTurnList n text Memory = 0 < length text

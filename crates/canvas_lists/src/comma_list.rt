@@ -1,4 +1,4 @@
-//! Lists that are written with a comma between two.
+//! Lists written with a comma between two items.
 ghost use Rattle.std.specs.Prelude.{◌≡◌, ◌≢◌, ◌≤◌, ◌<◌, ◌++◌, ◌∷◌, [], ℕ, List, IfOk, IfErr, OnOk, OnErr, MatchOption, MatchBool, get_or, length};
 ghost use Rattle.std.specs.Fmt.{decimal};
 ghost use Rattle.std.specs.List.{slice_split};
@@ -8,7 +8,8 @@ ghost use Rattle.canvas_lists.specs.declared.comma_list.ListFault.TheVariants.{B
 use std::alloc::Global;
 use thiserror::Error;
 
-/// Whether a text begins as a number from 1 on is written: with no sign and no leading zero.
+/// Returns whether a text begins as a number from 1 on is written: with no sign and no leading
+/// zero.
 fn begins_plainly(text: &str) -> bool
     ensures { MatchBool result (48 < get_or text.now 0 0) (get_or text.now 0 0 ≤ 48) }
 {
@@ -18,7 +19,7 @@ fn begins_plainly(text: &str) -> bool
     }
 }
 
-/// The number that a text is.
+/// Parses a number from 1 on.
 pub(crate) fn read_number(text: &str) -> Option<u32>
     ensures { MatchOption result ((k : ℕ) → IsNumberFromOne k → text.now ≡ decimal k → ⊥)
         (λ k. IsNumberFromOne k × (text.now ≡ decimal k)) }
@@ -30,7 +31,7 @@ pub(crate) fn read_number(text: &str) -> Option<u32>
     }
 }
 
-/// What stands before the first comma, and what stands behind it.
+/// Splits a text at its first comma.
 fn split(text: &str) -> Option<(&str, &str)>
     ensures { MatchOption result (slice_split is_comma text.now ≡ text.now ∷ [])
         (λ x. (slice_split is_comma text.now ≡ x.0.now ∷ slice_split is_comma x.1.now)
@@ -39,7 +40,7 @@ fn split(text: &str) -> Option<(&str, &str)>
     text.split_once(',')
 }
 
-/// How the items of a list are read.
+/// A reader of the items of a list.
 pub(crate) trait ItemReader {
     type Item: Drop;
 
@@ -47,7 +48,7 @@ pub(crate) trait ItemReader {
 
     ghost item_text: { Self.Item → List ℕ };
 
-    /// The item that a text is.
+    /// Parses an item.
     fn read(&self, text: &str) -> Option<Self::Item>
         ensures { MatchOption result
             ((x : Self.Item) → is_item self.now x → text.now ≡ item_text x → ⊥)
@@ -57,10 +58,10 @@ pub(crate) trait ItemReader {
 /// Why a text gives no list.
 #[derive(Clone, Copy, Debug, Drop, PartialEq, Eq, Error)]
 pub enum ListFault {
-    /// A piece is no item.
+    /// A piece is not an item.
     #[error("a piece is no item")]
     BadItem,
-    /// A growth was refused.
+    /// An allocation failed.
     #[error("memory refused")]
     Memory,
 }

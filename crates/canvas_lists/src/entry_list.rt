@@ -1,7 +1,7 @@
-//! The text of a list of entries, which say what is delivered again.
+//! The text of a list of entries, which say what is redelivered.
 ghost use Rattle.std.specs.Prelude.{◌≡◌, IfOk, IfErr, MatchOption};
 ghost use Rattle.canvas_runs.specs.declared.when.When.{When};
-ghost use Rattle.canvas_turns.specs.Spending.{Entry};
+ghost use Rattle.canvas_turns.specs.Redeliveries.{Entry};
 ghost use Rattle.canvas_lists.specs.EntryList.{IsEntry, IsEntryFault, IsEntryList};
 ghost use Rattle.canvas_lists.specs.EntryList.{entry_text, when_text};
 
@@ -15,15 +15,15 @@ use thiserror::Error;
 /// Why a text gives no entries.
 #[derive(Clone, Copy, Debug, Drop, PartialEq, Eq, Error)]
 pub enum EntryFault {
-    /// It is no list of entries.
+    /// The text is not a list of entries.
     #[error("BadAgain")]
     BadAgain,
-    /// A growth was refused.
+    /// An allocation failed.
     #[error("memory refused")]
     Memory,
 }
 
-/// The point that a word names.
+/// Parses the name of a point.
 fn read_when(word: &str) -> Option<When>
     ensures { MatchOption result ((w : When) → word.now ≡ when_text w → ⊥)
         (λ w. word.now ≡ when_text w) }
@@ -35,7 +35,7 @@ fn read_when(word: &str) -> Option<When>
     }
 }
 
-/// The entry that a text is.
+/// Parses an entry.
 fn read_entry(text: &str) -> Option<(TaskNo, When)>
     ensures { MatchOption result ((e : Entry) → IsEntry e → text.now ≡ entry_text e → ⊥)
         (λ e. IsEntry e × (text.now ≡ entry_text e)) }
@@ -61,9 +61,9 @@ impl ItemReader for EntryReader {
     }
 }
 
-/// Reads a list of entries, as `1:late,3:early`: each a task's decimal number from 1, a colon and
-/// `early` or `late`, with a single comma between two, and without signs, spaces or leading zeros.
-/// The empty text is no entries. A task may be one that no canvas has.
+/// Reads a list of entries such as `1:late,3:early`: each a task's decimal number from 1, a colon
+/// and `early` or `late`, with a single comma between two, and without signs, spaces or leading
+/// zeros. The empty text has no entries. No canvas needs to have the tasks.
 pub fn read_again(alloc: Global, text: &str) -> Result<Vec<(TaskNo, When)>, EntryFault>
     ensures ok { IfOk result (λ entries. IsEntryList text.now entries.items) }
     ensures err { IfErr result (IsEntryFault text.now) }

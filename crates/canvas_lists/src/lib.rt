@@ -1,4 +1,4 @@
-//! Texts of lists, with a comma between two: of turns, and of what is delivered again.
+//! Texts of lists, with a comma between two items: of turns, and of redeliveries.
 #![tactic(auto)]
 
 mod comma_list;

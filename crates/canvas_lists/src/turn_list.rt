@@ -8,7 +8,7 @@ use crate::ListFault;
 use crate::comma_list::{ItemReader, read_list, read_number};
 use std::alloc::Global;
 
-/// The worker that a text names.
+/// Parses the number of a worker.
 fn read_turn(text: &str, workers: u32) -> Option<u32>
     ensures { MatchOption result ((t : ℕ) → IsWorker workers t → text.now ≡ decimal t → ⊥)
         (λ t. IsWorker workers t × (text.now ≡ decimal t)) }
@@ -19,7 +19,7 @@ fn read_turn(text: &str, workers: u32) -> Option<u32>
     }
 }
 
-/// Reads the turns of a run with so many workers.
+/// A reader of the turns of a run with this number of workers.
 #[derive(Drop)]
 struct TurnReader {
     workers: u32,
@@ -38,7 +38,7 @@ impl ItemReader for TurnReader {
 }
 
 /// Reads a list of turns: decimal numbers of workers with a single comma between two, without
-/// signs, spaces or leading zeros. The empty text is no turns.
+/// signs, spaces or leading zeros. The empty text has no turns.
 pub fn read_turns(alloc: Global, text: &str, workers: u32) -> Result<Vec<u32>, ListFault>
     ensures ok { IfOk result (λ turns. IsTurnList workers text.now turns.items) }
     ensures err { IfErr result (IsNoTurnList workers text.now) }

@@ -1,10 +1,10 @@
--- A page: an HTML file of what comes before its block of data, the block, and what comes after.
+-- A page: an HTML file of the text before its block of data, the block, and the text after it.
 use Rattle.std.specs.Prelude.{◌==◌, ◌++◌, ◌∷◌, ℕ, [], codes, flat_map, if◌then◌else◌}
 use Rattle.canvas_task.specs.Text.{Text}
 use Rattle.canvas_page.specs.declared.template.TheConstants.{HEAD, TAIL}
 
--- How a byte is written in the block. In JSON these three, `<`, `>` and `&`, are in texts only,
--- where each may be written by its number (RFC 8259, 7). HTML would read them as its own.
+-- How a byte is written in the block. In JSON these three, `<`, `>` and `&`, are only in texts, in
+-- which each may be written by its number (RFC 8259, 7). HTML would read them as its own.
 abbrev pub escaped_byte : ℕ → Text
 escaped_byte b =
     if b == 60 then codes "\\u003c"

@@ -1,4 +1,4 @@
-//! JSON in a page: what HTML would read as its own is written by its number.
+//! JSON in a page: the bytes that HTML would read as its own are written by their numbers.
 
 ghost use Rattle.std.specs.Prelude.{◌≡◌, ◌≢◌, ◌++◌, OnOk, ℕ};
 ghost use Rattle.std.specs.List.{All};
@@ -18,7 +18,7 @@ fn push_byte(page: &mut Vec<u8>, byte: u8) -> Result<(), AllocError>
     }
 }
 
-/// Adds a text as a page has it.
+/// Appends a text as a page has it.
 pub(crate) fn push_escaped(page: &mut Vec<u8>, text: &[u8]) -> Result<(), AllocError>
     ensures { OnOk result (page.new.items ≡ page.old.items ++ escaped text.now) }
 {
@@ -28,8 +28,8 @@ pub(crate) fn push_escaped(page: &mut Vec<u8>, text: &[u8]) -> Result<(), AllocE
     Ok(())
 }
 
-/// No text that a page has as its block holds a byte that HTML would read as its own, so none of
-/// them ends the block: not `<`, `>` or `&`.
+/// States that no text that a page has as its block contains a byte that HTML would read as its
+/// own, `<`, `>` or `&`, so none of them ends the block.
 pub fn law_of_blocks()
     ensures { (text : Text)
         → All (λ b. (b ≢ 60) × (b ≢ 62) × (b ≢ 38)) (escaped text) }

@@ -1,4 +1,4 @@
-//! The page: what comes before its block, the block, and what comes after.
+//! The page: the text before its block, the block, and the text after it.
 
 ghost use Rattle.std.specs.Prelude.{◌≡◌, IfOk};
 ghost use Rattle.canvas_page.specs.Page.{page_of};
@@ -7,7 +7,7 @@ use crate::escaping::push_escaped;
 use crate::template::{HEAD, TAIL};
 use std::alloc::{AllocError, Global};
 
-/// The page whose block is a text of JSON.
+/// Returns the page whose block is a JSON text.
 pub fn page_text(alloc: Global, text: &[u8]) -> Result<Vec<u8>, AllocError>
     ensures { IfOk result (λ page. page.items ≡ page_of text.now) }
 {

@@ -1,4 +1,4 @@
--- The task to blame stands before those that are skipped.
+-- The task to blame comes before those that are skipped.
 use Rattle.std.proofs.Common.{◌≡◌, ℕ, suc, ◌+◌, ◌≤◌, ◌<◌, List, [], ◌∷◌, ◌++◌, Option, Some, None, refl, sym, subst, inl, inr, arith}
 use Rattle.std.specs.Prelude.{ℤ}
 use Rattle.canvas_task.specs.Apply.{Behaviour}

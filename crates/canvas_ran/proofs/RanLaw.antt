@@ -331,7 +331,7 @@ module _ (behaviour : Behaviour) where
           in
           λ n. first n ++ later n
 
-  -- the rows of a plan stand in it
+  -- the rows of a plan are in it
   plan_rows : (l : Line) → IsPlan l → rows_from 1 (states behaviour (tree_of l)) ≡ line_rows l nothing
   plan_rows l p =
       let tree : tree_of l ≡ numbered (tree_of l) = ap tree_of (sym p.numbered) ∙ tree_numbered l in

@@ -72,7 +72,7 @@ ran_more : (xs ys : Fates) → ran_in (xs ++ ys) ≡ ran_in xs ++ ran_in ys
 ran_more [] ys = refl
 ran_more (f ∷ xs) ys = ap (if_ran f.0 f.1) (ran_more xs ys) ∙ if_ran_more f.0 f.1 (ran_in xs) (ran_in ys)
 
--- one list behind another, on both sides
+-- one list after another, on both sides
 both : (xs ys : EventJobs) (fs gs : Fates) → published xs ≡ ran_in fs → published ys ≡ ran_in gs
     → published (xs ++ ys) ≡ ran_in (fs ++ gs)
 both xs ys fs gs e f = published_more xs ys ∙ (ap₂ (λ a b. a ++ b) e f ∙ sym (ran_more fs gs))

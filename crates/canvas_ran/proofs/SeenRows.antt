@@ -1,4 +1,4 @@
--- Each task of a plan is told once, in the order of their numbers, and as idle where it has no outcome.
+-- Each task of a plan is listed once, in the order of their numbers, and as idle if it has no outcome.
 use Rattle.std.proofs.Common.{◌≡◌, ◌∙◌, ℕ, suc, ◌+◌, List, [], ◌∷◌, ◌++◌, map, length, Some, None, refl, sym, ap, ap₂, append-nil, arith}
 use Rattle.std.proofs.lemmas.List.{map-append}
 use Rattle.canvas_task.specs.Text.{Text}

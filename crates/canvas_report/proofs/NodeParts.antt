@@ -199,7 +199,7 @@ own_node (Ok x) at k n look t0 t1 same is h =
     one at (node k) (node_line n look h.0) t0 t1 (h.0, h.1, ap (λ x. node_line n x h.0) is ∙ ap (λ m. node_line m (at m) h.0) (sym same)) h.2
 own_node (Err x) at k n look t0 t1 same is h = tt
 
--- ---- what isn't printable is told by its number
+-- ---- a character that isn't printable is written by its number
 
 plain_byte : (b : ℕ) (bs : Text) → (b == 34) ≡ false → (b == 92) ≡ false → (b == 38) ≡ false → inside (b ∷ bs) ≡ inside bs
 plain_byte b bs quote slash ampersand =

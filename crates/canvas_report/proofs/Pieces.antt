@@ -1,4 +1,4 @@
--- What is written piece by piece stands behind what stood before.
+-- What is written piece by piece comes after the text before.
 use Rattle.std.proofs.Common.{◌≡◌, ◌∙◌, ℕ, List, ◌++◌, Result, Ok, Err, ap, append_assoc}
 use Rattle.std.specs.Prelude.{OnOk}
 

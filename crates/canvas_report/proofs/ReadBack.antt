@@ -311,7 +311,8 @@ report_back fates blamed again c rows typed counted =
     (end_wire again (ends_in_group c) (ends c) (map (λ k. shown (state_of k rows)) (ends c)))
     (end_good (λ k. shown (state_of k rows)) clean again counted (ends_in_group c) (ends c)))
 
-pub read_back : {E : Type 0} (r : Result (String Global) E) (fates : Fates) (blamed : List (ℕ × Option (String Global))) (again : Option ℕ) (c : Tree) (rows : Rows)
+pub read_back : {E : Type 0} (r : Result (String Global) E) (fates : Fates) (blamed : List (ℕ × Option (String Global))) (again : Option ℕ) (c : Tree)
+    (rows : Rows)
     → IfOk r (λ text. string_bytes text ≡ json_lines (report_wire fates blamed again c rows)) → AreTyped rows → IsTypedCount again
     → IfOk r (λ text. ReadsAs (string_bytes text) (report_wire fates blamed again c rows))
 read_back (Ok text) fates blamed again c rows is typed counted =

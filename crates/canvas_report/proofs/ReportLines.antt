@@ -29,7 +29,7 @@ use Rattle.canvas_report.specs.declared.row.Row.TheVariants as row
 use Rattle.canvas_report.specs.declared.wording.Naming.TheVariants.{Identifier}
 use Rattle.canvas_report.proofs.RowLines.{row_state}
 
--- a first value, and those behind it
+-- a first value, and those after it
 first_value : (f : ℕ → Text) (k : ℕ) (ks : List ℕ) → f k ++ listed_further f ks ≡ listed f (k ∷ ks)
 first_value f k [] = append-nil (f k)
 first_value f k (j ∷ js) =

@@ -1,4 +1,4 @@
--- The rows, as they are written piece by piece, are the JSON that is told.
+-- The rows, as they are written piece by piece, are the defined JSON.
 use Rattle.std.proofs.Common.{◌≡◌, ◌∙◌, ◌+◌, ◌<◌, ℕ, Bool, true, false, List, [], ◌∷◌, ◌++◌, drop, get_or, length, map, Option, Some, None, String, Global, string_bytes, refl, sym, ap, subst, append_assoc, append-nil}
 use Rattle.std.specs.Prelude.{codes, decimal, option_map}
 use Rattle.json.specs.Print.{quoted}
@@ -69,7 +69,7 @@ shows_status (row.Blamed dep name) x h = ap (λ y. y.status) (sym h)
 
 -- ---- members, from the last
 
--- a member stands behind a comma, but for the first
+-- each member but the first comes after a comma
 abbrev IsFurther : Members → Type 0
 IsFurther ms = members_text true ms ≡ 44 ∷ members_text false ms
 
@@ -328,7 +328,8 @@ report_written fates blamed again c ss rows same =
     (λ k. subst (λ r. Shows r (shown (state_of k (rows_from 1 ss)))) (sym (ap (λ rs. row_of rs k) same ∙ row_state ss k)) refl)
 
 -- the lines, and then the result
-pub whole : (l : Line) (rows : List Row) (again : Option ℕ) (several : Bool) (ks : List ℕ) (t0 t1 t2 ls : Text) → t0 ≡ [] → t1 ≡ t0 ++ ls → ks ≡ ends_of l → several ≡ in_group l
+pub whole : (l : Line) (rows : List Row) (again : Option ℕ) (several : Bool) (ks : List ℕ) (t0 t1 t2 ls : Text) → t0 ≡ [] → t1 ≡ t0 ++ ls → ks ≡ ends_of l
+    → several ≡ in_group l
     → t2 ≡ t1 ++ end_text again several rows ks
     → t2 ≡ ls ++ end_text again (ends_in_group (tree_of l)) rows (ends (tree_of l))
 whole l rows again several ks t0 t1 t2 ls e0 e1 are is e2 =

@@ -37,7 +37,7 @@ worse_success Pending = refl
 
 -- ---- lines
 
--- the line of the task at place i, and of those behind it
+-- the line of the task at place i, and of those after it
 further : (f : ℕ × Text → Text) (ns : List Text) (i k : ℕ) → line_if f (k + i) (slice_get ns i) ++ lines f (counted_from (k + suc i) (drop (suc i) ns))
     ≡ lines f (counted_from (k + i) (drop i ns))
 further f [] zero k = refl

@@ -1,4 +1,4 @@
--- Where lines begin and end: the nodes that edges join.
+-- The beginnings and ends of lines: the nodes that edges join.
 use Rattle.std.specs.Prelude.{ℕ, ◌&&◌, Bool, true, false, List, [], ◌∷◌, ◌++◌, codes, decimal}
 use Rattle.canvas_task.specs.Text.{Text}
 use Rattle.canvas_semantics.specs.Tree.{Task}
@@ -14,7 +14,7 @@ node_text (node.Joint g) = codes "j" ++ decimal g
 abbrev pub of_task : Task → Node
 of_task t = node.Task (no_of t)
 
--- a point stands for a group or chord of no members
+-- the point that is drawn for a group or chord of no members
 abbrev pub point : ℕ → Lines → List Node
 point g no_lines = node.Group g ∷ []
 point g (and_line m ms) = []
@@ -48,7 +48,7 @@ abbrev mutual
   all_lasts no_lines = []
   all_lasts (and_line m ms) = lasts m ++ all_lasts ms
 
--- of a group or chord, without its body
+-- the ends of a group or chord, without its body
 abbrev pub member_lasts : Line → List Node
 member_lasts stop = []
 member_lasts (step t l) = []
@@ -63,6 +63,6 @@ are_several (n ∷ []) = false
 are_several (n ∷ m ∷ ns) = true
 
 -- A header that ends in several nodes and a body that begins at several have a point between them.
--- With an edge for each pair there would be up to 262,144.
+-- An edge for each pair would give up to 262,144.
 abbrev pub has_joint : (from to : List Node) → Bool
 has_joint from to = are_several from && are_several to

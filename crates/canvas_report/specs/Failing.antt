@@ -1,5 +1,5 @@
 -- Whether the result of a canvas is a failure (Celery user guide, Canvas: the result of a group has
--- failed where that of one of its tasks has).
+-- failed if that of one of its tasks has).
 use Rattle.std.specs.Prelude.{◌||◌, Bool, true, false, [], ◌∷◌, Some, None}
 use Rattle.canvas_task.specs.declared.outcome.Outcome.TheVariants.{Success, Failure}
 use Rattle.canvas_semantics.specs.Evaluation.{State, Rows}

@@ -1,7 +1,7 @@
 -- The tasks of a canvas as lines of JSON (RFC 8259): an object for each task in the order of their
--- numbers, and one for the result. States are named as Celery names them (celery/states.py), and
--- an exception is an object as Celery's result backends store one (celery/backends/base.py,
--- `prepare_exception`). Members stand in the byte order of their names.
+-- numbers, and one for the result. States are named as Celery names them (celery/states.py), and an
+-- exception is an object as Celery's result backends store one (celery/backends/base.py,
+-- `prepare_exception`). Members are in the byte order of their names.
 use Rattle.std.specs.Prelude.{ℕ, pos, ◌==◌, if◌then◌else◌, Bool, true, false, List, [], ◌∷◌, ◌++◌, map, Option, Some, None, String, string_bytes, codes}
 use Rattle.std.specs.Option.{option_map}
 use Rattle.std.specs.declared.alloc.Global.{Global}
@@ -23,7 +23,7 @@ use Rattle.canvas_report.specs.declared.fate.Fate.TheVariants.{Ran, Skipped, Idl
 use Rattle.canvas_report.specs.declared.shown.Status.{Status}
 use Rattle.canvas_report.specs.declared.shown.Status.TheVariants.{Pending, Success, Failure}
 
--- ---- a result: a value, an exception, or null where there is none yet
+-- ---- a result: a value, an exception, or null if there is none yet
 
 -- an exception: the list of its arguments, and its type
 abbrev pub exception_wire : Items → Text → Data
@@ -34,7 +34,7 @@ exception_wire arguments name =
 abbrev pub raised_wire : Text → Data
 raised_wire name = exception_wire no_items name
 
--- of a header in which task dep failed
+-- the ChordError of a header in which task dep failed
 abbrev pub blamed_wire : ℕ → Text → Data
 blamed_wire dep name =
     exception_wire
@@ -68,12 +68,12 @@ worse Success s = s
 worse Pending Failure = Failure
 worse Pending s = Pending
 
--- a failure where one is, else pending where one is
+-- a failure if one is, else pending if one is
 abbrev pub status_of_all : List Status → Status
 status_of_all [] = Success
 status_of_all (s ∷ ss) = worse s (status_of_all ss)
 
--- what is shown of a task
+-- the status and the result of a task
 pub record Shown : Type 0 where
   pub status : Status
   pub result : Data
@@ -83,18 +83,18 @@ shown s = record { status = status_of s; result = state_wire s }
 
 -- ---- the object of a task
 
--- left out where nothing is told
+-- left out if it isn't given
 abbrev pub member_if : Text → Option Data → Members → Members
 member_if k None more = more
 member_if k (Some d) more = member k d more
 
--- the task to blame, of one that failed and wasn't called
+-- the task to blame for one that failed and wasn't called
 abbrev pub due_wire : Fate → Data
 due_wire Ran = null
 due_wire (Skipped dep) = string (task_text dep)
 due_wire Idle = null
 
--- whether it was called
+-- whether the task was called
 abbrev pub ran_wire : Fate → Data
 ran_wire Ran = boolean true
 ran_wire (Skipped dep) = boolean false
@@ -121,7 +121,7 @@ abbrev pub items_wire : List Data → Items
 items_wire [] = no_items
 items_wire (d ∷ ds) = item d (items_wire ds)
 
--- the results of the tasks that a canvas ends in: a list where that is a group, else the only one
+-- the results of the tasks that a canvas ends in: a list if it ends in a group, else the only one
 abbrev pub results_wire : Bool → List Data → Data
 results_wire true ds = array (items_wire ds)
 results_wire false [] = null
@@ -135,7 +135,7 @@ identifiers_wire (k ∷ ks) = item (string (task_text k)) (identifiers_wire ks)
 abbrev pub count_wire : ℕ → Data
 count_wire n = number_wire (pos n)
 
--- with the tasks that it ends in
+-- the object of the result, with the tasks that the canvas ends in
 abbrev pub end_wire : Option ℕ → Bool → List ℕ → List Shown → Data
 end_wire again is_group ks es =
     object (member_if (codes "again") (option_map count_wire again)
@@ -146,8 +146,8 @@ end_wire again is_group ks es =
 
 -- ---- all of them
 
--- What is told of each task's call (`due_to`, `ran`), of the parameter at fault (`parameter`), and
--- of its state, by its number; and of the whole run, how many stores answered Again (`again`).
+-- The members for each task's call (`due_to`, `ran`), for the parameter at fault (`parameter`), and
+-- for its state, by its number; and for the whole run, how many stores answered Again (`again`).
 abbrev pub rows_wire : (ℕ → Option Fate) → (ℕ → Option (Option Text)) → (again : Option ℕ)
     → (ℕ → Shown) → Tree → List Data
 rows_wire fate parameter again s c =
@@ -159,9 +159,9 @@ abbrev pub json_lines : List Data → Text
 json_lines [] = []
 json_lines (d ∷ ds) = compact_text d ++ codes "\n" ++ json_lines ds
 
--- ---- of a report
+-- ---- the lines of a report
 
--- beside the number of a task, the first time
+-- the parameter that the first entry for the task has
 abbrev pub parameter_of : List (ℕ × Option (String Global)) → ℕ → Option (Option Text)
 parameter_of [] k = None
 parameter_of (e ∷ es) k =

@@ -1,5 +1,5 @@
--- The text of a report by the line and the value of each task: their lines in the order of their
--- numbers, and one for the result.
+-- The text of a report, given the line and the value of each task: their lines in the order of
+-- their numbers, and one for the result.
 use Rattle.std.specs.Prelude.{ℕ, Bool, true, false, List, [], ◌∷◌, ◌++◌, codes}
 use Rattle.canvas_task.specs.Text.{Text}
 use Rattle.canvas_semantics.specs.Evaluation.{ends}
@@ -16,7 +16,7 @@ listed f [] = []
 listed f (k ∷ []) = f k
 listed f (k ∷ ks) = f k ++ codes ", " ++ listed f ks
 
--- the result of a canvas, a list where it ends in a group
+-- the result of a canvas, a list if it ends in a group
 abbrev pub result_by : (ℕ → Text) → Bool → List ℕ → Text
 result_by f true ks = codes "[" ++ listed f ks ++ codes "]"
 result_by f false ks = listed f ks

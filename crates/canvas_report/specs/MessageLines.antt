@@ -1,5 +1,5 @@
 -- A message as a line of JSON (RFC 8259): the three texts of Celery's task message protocol,
--- version 2, each as a text; null where one is no UTF-8.
+-- version 2, each as a text; null for one that isn't UTF-8.
 use Rattle.std.specs.Prelude.{if◌then◌else◌, List, ℕ, codes}
 use Rattle.std.specs.Str.{is_utf8}
 use Rattle.serde_json.specs.Data.{Data, null, string, object, no_members, member}

@@ -25,7 +25,7 @@ pub data Piece : Type 0 where
   point : Node → Piece
   closes : Piece
 
--- ---- which they are, in the order of the file
+-- ---- the pieces, in the order of the file
 
 abbrev mutual
   pub task_pieces : Task → List Piece
@@ -40,7 +40,7 @@ abbrev pub points : ℕ → Lines → List Piece
 points g no_lines = point (Group g) ∷ []
 points g (and_line m ms) = []
 
--- between what the header of chord g ends in and what its body begins at
+-- the point between the ends of chord g's header and the beginnings of its body
 abbrev pub joints : ℕ → (from to : List Node) → List Piece
 joints g from to = if has_joint from to then point (Joint g) ∷ [] else []
 
@@ -68,8 +68,8 @@ nodes (closes ∷ ps) = nodes ps
 
 -- ---- how they are written
 
--- States differ by shapes and borders too, and not by colour alone, and so do failures by a call
--- and without one.
+-- States differ by shapes and borders too, and not only by colour, and so do failures by a call and
+-- without one.
 abbrev pub state_look : Option Status → Text
 state_look None = codes "shape=box, style=rounded"
 state_look (Some Pending) = codes "shape=box, style=\"dashed,filled\", fillcolor=\"#eeeeee\""
@@ -107,7 +107,7 @@ node_line k looks label =
     codes "  t" ++ decimal k ++ codes " [" ++ looks ++ codes ", label=" ++ codes "\"" ++ label
     ++ codes "\"" ++ codes "];\n"
 
--- what a picture says of a group or chord
+-- the label of a group or chord
 abbrev pub kind : Bool → Text
 kind false = codes "group"
 kind true = codes "chord"
@@ -118,11 +118,11 @@ frame_line g = codes "  subgraph cluster_" ++ decimal g ++ codes " {\n"
 abbrev pub label_line : Text → ℕ → Text
 label_line k g = codes "  label=\"" ++ k ++ codes " " ++ decimal g ++ codes "\";\n"
 
--- How task k is drawn: by what became of it, where that is told, and by its row, where rows are.
+-- How task k is drawn: by its fate, if fates are given, and by its row, if rows are.
 abbrev pub looks : Fates → Option (List Row) → ℕ → Text
 looks fates rows k = look (fate_at fates k) (option_map (λ rs. row_status (row_of rs k)) rows)
 
--- Where tasks look as a function of their numbers says. A task's node has a label of any text, in
+-- If tasks look as a function of their numbers says. A task's node has a label of any text, in
 -- quotes.
 module _ (at : ℕ → Text) where
   abbrev pub Draws : Piece → Text → Type 0

@@ -1,7 +1,7 @@
 -- A plan as a picture (Graphviz, the DOT language): a node for each task, and edges from a task to
--- what is behind it. Links and error callbacks are behind their task, a group or chord begins at
--- its members, and what is behind a chord begins behind the last tasks of its members (Celery user
--- guide, Canvas).
+-- what follows it. Links and error callbacks follow their task, a group or chord begins at its
+-- members, and what follows a chord begins after the last tasks of its members (Celery user guide,
+-- Canvas).
 use Rattle.std.specs.Prelude.{◌≡◌, ℕ, if◌then◌else◌, List, [], ◌∷◌, ◌++◌, map, Option, Some, None, codes}
 use Rattle.canvas_task.specs.Text.{Text}
 use Rattle.canvas_semantics.specs.Tree.{Task, task, Tasks, no_tasks, and_task}
@@ -24,13 +24,13 @@ abbrev pub joined : List Node → List Node → List Edge
 joined [] to = []
 joined (from ∷ more) to = map (λ node. edge Next from node) to ++ joined more to
 
--- from where the header of chord g ends to where its body begins, through a point if it has one
+-- from the ends of chord g's header to the beginnings of its body, through a point if it has one
 abbrev pub to_body : ℕ → (from to : List Node) → List Edge
 to_body g from to =
     if has_joint from to then joined from (node.Joint g ∷ []) ++ joined (node.Joint g ∷ []) to
     else joined from to
 
--- from what stands before, if something does
+-- from the node before, if there is one
 abbrev pub behind : Option Node → List Node → List Edge
 behind None to = []
 behind (Some from) to = map (λ node. edge Next from node) to
@@ -45,7 +45,7 @@ abbrev mutual
   callback_edges leads from (and_task t ts) =
       edge leads from (of_task t) ∷ task_edges t ++ callback_edges leads from ts
 
--- of a line, behind a task if there is one
+-- the edges of a line, after a task if there is one
 abbrev mutual
   pub line_edges : Option Node → Line → List Edge
   line_edges before stop = []
@@ -84,8 +84,8 @@ opening =
     codes "digraph canvas {\n  rankdir=LR;\n  node [fontname=\"Helvetica\"];\n"
     ++ codes "  edge [fontname=\"Helvetica\"];\n  fontname=\"Helvetica\";\n"
 
--- nodes, then edges, which stand behind all frames, since what is named in a frame is drawn in it
--- of a plan whose tasks look as a function of their numbers says
+-- the nodes, and then the edges, which come after all frames, since what is named in a frame is
+-- drawn in it; the plan's tasks look as a function of their numbers says
 abbrev pub IsPicture : (ℕ → Text) → Line → Text → Type 0
 IsPicture at l text =
     (drawn : Text) × AreDrawn at (line_pieces l) drawn

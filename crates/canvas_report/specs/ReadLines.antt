@@ -1,4 +1,4 @@
--- What a reader of lines of JSON gets: each text between line feeds, read as JSON (RFC 8259).
+-- What a reader of JSON lines gets: each text between line feeds, read as JSON (RFC 8259).
 use Rattle.std.specs.Prelude.{◌≡◌, ◌==◌, ◌<◌, ◌^◌, ℕ, ℤ, pos, negsuc, List, [], ◌∷◌, ◌++◌, map, Option, Some, None}
 use Rattle.std.specs.List.{slice_split}
 use Rattle.serde_json.specs.Data.{Data}
@@ -10,7 +10,7 @@ use Rattle.canvas_semantics.specs.Evaluation.{State, Rows, state_of}
 abbrev pub lines_read : Text → List (Option Data)
 lines_read text = map read (slice_split (λ b. b == 10) text)
 
--- each of these, and behind the last line feed nothing
+-- each of these, and nothing after the last line feed
 abbrev pub ReadsAs : Text → List Data → Type 0
 ReadsAs text ds = lines_read text ≡ map (λ d. Some d) ds ++ None ∷ []
 

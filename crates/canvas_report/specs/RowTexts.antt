@@ -92,7 +92,7 @@ row_text fate parameter t r =
     front_text fate parameter t.1 ++ shown_text r ++ codes "\",\"task_id\":\"" ++ task_text t.0
     ++ codes "\"}\n"
 
--- by what is told of each task
+-- the line of a task's row, with its fate and its parameter
 abbrev pub row_line : Fates → (ℕ → Option (Option Text)) → List Row → ℕ × Text → Text
 row_line fates parameter rows t = row_text (fate_at fates t.0) (parameter t.0) t (row_of rows t.0)
 
@@ -136,7 +136,7 @@ end_text again several rows ks = end_front again ks ++ end_back several rows ks
 
 -- ---- all of them
 
--- what is told of each task, with its row, whatever that has; and of the canvas
+-- the rows with each task's fate and parameter, for any stored values; and the result of the canvas
 abbrev pub stored_lines : Fates → List (ℕ × Option (String Global)) → (again : Option ℕ)
     → List Row → Tree → Text
 stored_lines fates blamed again rows c =

@@ -1,5 +1,5 @@
--- What rows of any kind show, as Celery stored them (celery/backends/base.py): a value of any kind
--- by its JSON, and an exception of any kind by its class.
+-- The status and result of rows of any kind, as Celery stored them (celery/backends/base.py): a
+-- value of any kind by its JSON, and an exception of any kind by its class.
 use Rattle.std.specs.Prelude.{◌≡◌, ℕ, zero, suc, List, None, slice_get, unwrap_or, string_bytes}
 use Rattle.serde_json.specs.Written.{compact_text}
 use Rattle.canvas_report.specs.declared.row.Row.{Row}
@@ -8,7 +8,7 @@ use Rattle.canvas_report.specs.JsonRows.{Shown, shown, status_of, raised_wire, b
 use Rattle.canvas_report.specs.declared.shown.Status.{Status}
 use Rattle.canvas_report.specs.declared.shown.Status.TheVariants.{Success, Failure}
 
--- the row of task k, from 1; it is pending where it is missing
+-- the row of task k, from 1; it is pending if it is missing
 abbrev pub row_of : List Row → ℕ → Row
 row_of rows zero = Known None
 row_of rows (suc k) = unwrap_or (slice_get rows k) (Known None)
@@ -19,7 +19,7 @@ row_status (Value json) = Success
 row_status (Raised name) = Failure
 row_status (Blamed dep name) = Failure
 
--- A value is a success, and its result is what the row's JSON spells with no blanks between.
+-- A value is a success, and its result is what the row's JSON spells, with no blanks.
 abbrev pub Shows : Row → Shown → Type 0
 Shows (Known s) x = x ≡ shown s
 Shows (Value json) x = (x.status ≡ Success) × (string_bytes json ≡ compact_text x.result)

@@ -1,6 +1,6 @@
--- The report of rows of any kind as a text: in the form of a run's, where a value of any kind
--- stands by its JSON and an exception of any kind by its class; or as a person reads it, with the
--- numbers of tasks and the reasons why some were not called.
+-- The report of rows of any kind as a text: in the form of a run's, with a value of any kind as its
+-- JSON and an exception of any kind as its class; or as a person reads it, with the numbers of
+-- tasks and the reasons why some were not called.
 use Rattle.std.specs.Prelude.{ℕ, List, [], ◌++◌, Option, Some, None, string_bytes, codes, decimal}
 use Rattle.std.specs.Fmt.{signed_decimal}
 use Rattle.json.specs.Print.{escape}
@@ -31,7 +31,7 @@ abbrev pub class_named : Naming → Text → Text
 class_named Identifier name = escape name
 class_named Number name = name
 
--- of a header in which task dep failed with this
+-- the ChordError of a header in which task dep failed with this
 abbrev pub chord_said : Naming → ℕ → Text → Text
 chord_said n dep name =
     codes "ChordError: Dependency " ++ task_named n dep ++ codes " raised " ++ name
@@ -51,7 +51,7 @@ value_said n (row.Value json) = string_bytes json
 value_said n (row.Raised name) = class_named n (string_bytes name)
 value_said n (row.Blamed dep name) = chord_said n dep (class_named n (string_bytes name))
 
--- why a task was not called, where that is told
+-- why a task was not called, if its fate is given
 abbrev pub reason : Option Fate → Text
 reason None = []
 reason (Some Ran) = []
@@ -70,10 +70,10 @@ said_at n rows k = value_said n (row_of rows k)
 abbrev pub report_said : Naming → Fates → List Row → Tree → Text
 report_said n fates rows c = report_by (row_said n fates rows) (said_at n rows) c
 
--- as `stored_text` writes it
+-- the text that `stored_text` writes
 abbrev pub stored_said : List Row → Tree → Text
 stored_said rows c = report_said Identifier [] rows c
 
--- as `explained_text` does
+-- the text that `explained_text` writes
 abbrev pub explained_said : Fates → List Row → Tree → Text
 explained_said fates rows c = report_said Number fates rows c

@@ -31,7 +31,7 @@ fn any_failed(rows: &[Option<Outcome>], tasks: &[TaskNo]) -> bool
     false
 }
 
-/// Whether the result of the canvas is a failure, or that of a member where it is a group.
+/// Returns whether the result of the canvas is a failure, or that of a member if it is a group.
 pub fn is_failure(plan: &Plan, report: &Report) -> bool
     ensures { result ≡ any_failed (with_states (rows_from 1 report.now.rows) (ends_of plan.now)) }
 {

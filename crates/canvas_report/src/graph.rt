@@ -21,9 +21,9 @@ use canvas_rewrite::Plan;
 use canvas_task::{Memory, TaskNo};
 use std::alloc::Global;
 
-/// A plan in the language of Graphviz, for `dot`; with states and values where rows are given. Of a
-/// whole run it is told what became of each task, in the order of their numbers; of what Celery's
-/// workers stored it isn't.
+/// Writes a plan in the language of Graphviz, for `dot`, with states and values if rows are given.
+/// A whole run has the fate of each task, in the order of their numbers; results that Celery's
+/// workers stored have none.
 pub fn graph_text(
     alloc: Global,
     plan: &Plan,

@@ -12,7 +12,7 @@ use serde_json::Value;
 use std::alloc::{AllocError, Global};
 use std::str;
 
-/// A text as a JSON string.
+/// Returns a text as a JSON string.
 pub fn quoted_json(alloc: Global, text: &str) -> Result<String, AllocError>
     ensures { IfOk result (λ made. string_bytes made ≡ quoted text.now) }
 {
@@ -37,7 +37,7 @@ fn before_quote(text: &str) -> &str
     }
 }
 
-/// A text as a JSON string has it between its quotes.
+/// Returns a text as it is between the quotes of a JSON string.
 pub fn escaped_json(alloc: Global, text: &str) -> Result<String, AllocError>
     ensures { IfOk result (λ made. string_bytes made ≡ escape text.now) }
 {
@@ -45,7 +45,7 @@ pub fn escaped_json(alloc: Global, text: &str) -> Result<String, AllocError>
     String::from_str(alloc, before_quote(behind_quote(&quoted)))
 }
 
-/// Adds one of a message's three texts. What `encode` writes is UTF-8.
+/// Appends one of a message's three texts. What `encode` writes is UTF-8.
 fn push_text(line: &mut String, alloc: Global, bytes: &[u8]) -> Result<(), AllocError>
     ensures { OnOk result (string_bytes line.new
         ≡ string_bytes line.old ++ compact_text (text_wire bytes.now)) }
@@ -64,7 +64,8 @@ fn push_member(line: &mut String, alloc: Global, name: &str, bytes: &[u8]) -> Re
     push_text(line, alloc, bytes)
 }
 
-/// A message as a JSON object in a line: its body, its headers and its properties, each a text.
+/// Returns a message as a JSON object in a line: its body, its headers and its properties, each a
+/// text.
 pub fn message_line(alloc: Global, envelope: &Envelope) -> Result<String, AllocError>
     ensures { IfOk result (λ line. string_bytes line ≡ compact_text (message_wire
         envelope.now.properties envelope.now.headers envelope.now.body) ++ codes "\n") }

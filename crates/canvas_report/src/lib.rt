@@ -1,6 +1,6 @@
-//! The report of a run and what else is shown of a canvas, by the states of its tasks: its text,
-//! JSON lines, the reasons why some tasks were not called, and a picture. The same of what Celery's
-//! workers stored; and messages as JSON lines.
+//! The report of a run and other views of a canvas, by the states of its tasks: its text, JSON
+//! lines, the reasons why some tasks were not called, and a picture. The same views of results that
+//! Celery's workers stored; and messages as JSON lines.
 #![tactic(auto)]
 
 mod failing;

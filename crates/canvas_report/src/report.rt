@@ -13,18 +13,18 @@ use canvas_rewrite::{Ends, Plan};
 use canvas_task::{ListOf, Memory, Outcome, TaskNo};
 use std::alloc::{AllocError, Global};
 
-/// What a run has stored: row k - 1 is of task k. A row of None, and one that is missing, is of a
-/// task that is pending.
+/// The stored outcomes of a run: row k - 1 is that of task k. A task is pending if its row is None
+/// or missing.
 #[derive(Debug, Drop)]
 pub struct Report {
-    /// In the order of the tasks' numbers, from task 1 on.
+    /// The rows in the order of the tasks' numbers, from task 1 on.
     pub rows: ListOf<Option<Outcome>>,
 }
 
 /// About how many bytes the line of a task has.
 const ROW_ROOM: usize = 64;
 
-/// The line of a task, if the plan has it.
+/// Appends the line of a task, if the plan has it.
 fn push_task(
     text: &mut String,
     plan: &Plan,
@@ -40,7 +40,7 @@ fn push_task(
     }
 }
 
-/// The lines of all tasks, in the order of their numbers.
+/// Appends the lines of all tasks, in the order of their numbers.
 fn push_rows(text: &mut String, plan: &Plan, rows: &[Option<Outcome>]) -> Result<(), AllocError>
     ensures { OnOk result (string_bytes text.new
         ≡ string_bytes text.old
@@ -52,7 +52,7 @@ fn push_rows(text: &mut String, plan: &Plan, rows: &[Option<Outcome>]) -> Result
     Ok(())
 }
 
-/// Values, each behind a comma.
+/// Appends values, each after a comma.
 fn push_further(
     text: &mut String,
     tasks: &[TaskNo],
@@ -87,7 +87,7 @@ fn push_values(
     }
 }
 
-/// The result of a canvas: a value, or the list of a group's.
+/// Appends the result of a canvas: a value, or the list of a group's.
 fn push_result(
     text: &mut String,
     ends: &Ends<'_>,
@@ -108,8 +108,8 @@ fn push_result(
     }
 }
 
-/// The report of a plan: a line for each task in the order of their numbers, and one for the
-/// result. A task without a row is pending; rows past the last task are ignored.
+/// Returns the report of a plan: a line for each task in the order of their numbers, and one for
+/// the result. A task without a row is pending; rows past the last task are ignored.
 pub fn report_text(alloc: Global, plan: &Plan, report: &Report) -> Result<String, Memory>
     ensures { IfOk result
         (λ text. string_bytes text ≡ report_of (tree_of plan.now) (rows_from 1 report.now.rows)) }

@@ -10,7 +10,7 @@ use crate::text::put;
 use canvas_task::{Fault, Outcome, TaskNo, task_text};
 use std::alloc::AllocError;
 
-/// As Celery names it.
+/// Returns Celery's name of a state.
 fn name_of(state: &Option<Outcome>) -> &'static str
     ensures { result.now ≡ state_name state.now }
 {
@@ -21,7 +21,7 @@ fn name_of(state: &Option<Outcome>) -> &'static str
     }
 }
 
-/// Adds a number.
+/// Appends a number.
 fn push_number(text: &mut String, number: i64) -> Result<(), AllocError>
     ensures { OnOk result
         (string_bytes text.new ≡ string_bytes text.old ++ signed_decimal number) }
@@ -30,7 +30,7 @@ fn push_number(text: &mut String, number: i64) -> Result<(), AllocError>
     text.push_str(buffer.format(number))
 }
 
-/// Adds why a task failed.
+/// Appends why a task failed.
 fn push_fault(text: &mut String, fault: &Fault) -> Result<(), AllocError>
     ensures { OnOk result
         (string_bytes text.new ≡ string_bytes text.old ++ fault_text fault.now) }
@@ -39,7 +39,7 @@ fn push_fault(text: &mut String, fault: &Fault) -> Result<(), AllocError>
     Ok(())
 }
 
-/// Adds the value of a state, as a report shows it.
+/// Appends the value of a state, as a report shows it.
 pub(crate) fn push_value(text: &mut String, state: &Option<Outcome>) -> Result<(), AllocError>
     ensures { OnOk result
         (string_bytes text.new ≡ string_bytes text.old ++ value_text state.now) }
@@ -51,7 +51,7 @@ pub(crate) fn push_value(text: &mut String, state: &Option<Outcome>) -> Result<(
     }
 }
 
-/// Bytes as a text.
+/// Returns ASCII bytes as a text.
 #[tactic(auto, using(crate::proofs::ReportLines::is_text))]
 fn as_text(bytes: &[u8]) -> &str
     requires { IsAscii bytes.now }
@@ -60,14 +60,14 @@ fn as_text(bytes: &[u8]) -> &str
     str::from_utf8(bytes).unwrap()
 }
 
-/// Adds the identifier of a task.
+/// Appends the identifier of a task.
 fn push_identifier(text: &mut String, task: TaskNo) -> Result<(), AllocError>
     ensures { OnOk result (string_bytes text.new ≡ string_bytes text.old ++ task_text task) }
 {
     text.push_str(as_text(&task_text(task)))
 }
 
-/// The line of one task, by its pieces, which takes fewer steps than by a format.
+/// Appends the line of one task piece by piece, which takes fewer steps than a format.
 pub(crate) fn push_row(
     text: &mut String,
     task: TaskNo,

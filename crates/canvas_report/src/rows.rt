@@ -29,15 +29,15 @@ use canvas_rewrite::{Ends, Plan};
 use canvas_task::{Fault, Memory, Outcome, TaskNo};
 use std::alloc::{AllocError, Global};
 
-/// Adds a text as a JSON string.
+/// Appends a text as a JSON string.
 fn push_quoted(text: &mut String, alloc: Global, said: &str) -> Result<(), AllocError>
     ensures { OnOk result (string_bytes text.new ≡ string_bytes text.old ++ quoted said.now) }
 {
     put(text, &quoted_json(alloc, said)?)
 }
 
-/// Adds an exception as Celery's result backends store it: the list of its arguments, of which it
-/// has none, and its type.
+/// Appends an exception as Celery's result backends store it: the list of its arguments, of which
+/// it has none, and its type.
 fn push_raised(text: &mut String, alloc: Global, name: &str) -> Result<(), AllocError>
     ensures { OnOk result (string_bytes text.new ≡ string_bytes text.old ++ raised_text name.now) }
 {
@@ -46,7 +46,7 @@ fn push_raised(text: &mut String, alloc: Global, name: &str) -> Result<(), Alloc
     put(text, "}")
 }
 
-/// What a ChordError says of the task that failed.
+/// Returns the message of a ChordError about the task that failed.
 fn said_of(alloc: Global, dep: TaskNo, name: &str) -> Result<String, AllocError>
     ensures { IfOk result (λ said. string_bytes said
         ≡ codes "Dependency " ++ task_text dep ++ codes " raised " ++ name.now) }
@@ -56,7 +56,7 @@ fn said_of(alloc: Global, dep: TaskNo, name: &str) -> Result<String, AllocError>
     Ok(said)
 }
 
-/// Adds a ChordError.
+/// Appends a ChordError.
 fn push_blamed(text: &mut String, alloc: Global, dep: TaskNo, name: &str) -> Result<(), AllocError>
     ensures { OnOk result
         (string_bytes text.new ≡ string_bytes text.old ++ blamed_text dep name.now) }
@@ -110,7 +110,7 @@ fn push_known(text: &mut String, alloc: Global, row: &Row) -> Result<(), AllocEr
     }
 }
 
-/// Adds a result: a value, an exception, or null where there is none yet.
+/// Appends a result: a value, an exception, or null if there is none yet.
 fn push_result(
     text: &mut String,
     alloc: Global,
@@ -126,7 +126,7 @@ fn push_result(
     }
 }
 
-/// Adds the task to blame where one was skipped, else null, as a member of its row.
+/// Appends the task to blame for a skipped one, else null, as a member of its row.
 fn push_due(text: &mut String, fate: &Option<Fate>) -> Result<(), AllocError>
     ensures { OnOk result (string_bytes text.new ≡ string_bytes text.old ++ due_text fate.now) }
 {
@@ -140,7 +140,7 @@ fn push_due(text: &mut String, fate: &Option<Fate>) -> Result<(), AllocError>
     }
 }
 
-/// Whether a task was called, as a member of its row, where that is told.
+/// Returns whether a task was called, as a member of its row, if its fate is given.
 fn ran_member(fate: &Option<Fate>) -> &'static str
     ensures { result.now ≡ ran_text fate.now }
 {
@@ -151,7 +151,7 @@ fn ran_member(fate: &Option<Fate>) -> &'static str
     }
 }
 
-/// Adds a parameter, or null, as a member of a row.
+/// Appends a parameter, or null, as a member of a row.
 fn push_parameter(
     text: &mut String,
     alloc: Global,
@@ -170,7 +170,7 @@ fn push_parameter(
     }
 }
 
-/// Adds the parameter that is at fault, as a member of a task's row, where that is told.
+/// Appends the parameter that is at fault, if it is given, as a member of a task's row.
 fn push_blame(
     text: &mut String,
     alloc: Global,
@@ -188,19 +188,19 @@ fn push_blame(
     Ok(())
 }
 
-/// What is told of a run besides its report.
+/// Facts about a run besides its report.
 #[derive(Clone, Copy)]
 pub struct Told<'a> {
-    /// What became of each task of a whole run, in the order of their numbers, from task 1 on. Of
-    /// one that was halted there is none.
+    /// The fate of each task of a whole run, in the order of their numbers, from task 1 on; empty
+    /// for a run that was halted.
     pub fates: &'a [(TaskNo, Fate)],
-    /// Tasks whose call was a TypeError, each with the parameter that is at fault, if it is one.
+    /// Tasks whose call was a TypeError, each with the parameter that is at fault, if there is one.
     pub blamed: &'a [(TaskNo, Option<String>)],
-    /// How many stores of the run answered Again, where that is asked for.
+    /// How many stores of the run answered Again, if that is to be shown.
     pub again: Option<u64>,
 }
 
-/// The members of a row in front of its result.
+/// Appends the members of a row before its result.
 fn push_front(
     text: &mut String,
     alloc: Global,
@@ -222,7 +222,7 @@ fn push_front(
     put(text, ran_member(&fate))
 }
 
-/// The result of a task, and its status up to the closing quote.
+/// Appends the result of a task, and its status up to the closing quote.
 fn push_shown(
     text: &mut String,
     alloc: Global,
@@ -238,7 +238,7 @@ fn push_shown(
     put(text, status_at(rows, task).name())
 }
 
-/// What stands behind the status.
+/// Appends the rest of a row after the status.
 fn push_identifier(text: &mut String, task: TaskNo) -> Result<(), AllocError>
     ensures { OnOk result (string_bytes text.new ≡ string_bytes text.old
         ++ (codes "\",\"task_id\":\"" ++ task_text task ++ codes "\"}\n")) }
@@ -264,7 +264,7 @@ fn push_row(
     push_identifier(text, task)
 }
 
-/// The row of a task, if the plan has it.
+/// Appends the row of a task, if the plan has it.
 fn push_task(
     text: &mut String,
     alloc: Global,
@@ -300,7 +300,7 @@ fn push_rows(
     Ok(())
 }
 
-/// The status of a group: a failure where a member failed, else pending where one is.
+/// Returns the status of a group: a failure if a member failed, else pending if one is.
 #[tactic(auto, using(crate::proofs::RowLines::worse_assoc, crate::proofs::RowLines::worse_success))]
 fn status_of_all(rows: &[Row], tasks: &[TaskNo]) -> Status
     ensures { result ≡ status_of_all (statuses rows.now tasks.now) }
@@ -336,7 +336,7 @@ fn push_results(
     Ok(())
 }
 
-/// The status of the canvas, and what stands behind it.
+/// Appends the status of the canvas, and the end of its object.
 fn push_status(text: &mut String, rows: &[Row], tasks: &[TaskNo]) -> Result<(), AllocError>
     ensures { OnOk result (string_bytes text.new
         ≡ string_bytes text.old ++ status_text rows.now tasks.now) }
@@ -346,7 +346,7 @@ fn push_status(text: &mut String, rows: &[Row], tasks: &[TaskNo]) -> Result<(), 
     put(text, "\"}\n")
 }
 
-/// Adds how many stores answered Again, where that is told.
+/// Appends how many stores answered Again, if it is given.
 fn push_again(text: &mut String, again: Option<u64>) -> Result<(), AllocError>
     ensures { OnOk result (string_bytes text.new ≡ string_bytes text.old ++ again_text again) }
 {
@@ -367,7 +367,7 @@ fn push_end_task(text: &mut String, task: TaskNo) -> Result<(), AllocError>
     Ok(())
 }
 
-/// The identifiers of the tasks that the canvas ends in.
+/// Appends the identifiers of the tasks that the canvas ends in.
 fn push_end_tasks(text: &mut String, tasks: &[TaskNo]) -> Result<(), AllocError>
     ensures { OnOk result (string_bytes text.new
         ≡ string_bytes text.old ++ identifiers_json false tasks.now) }
@@ -381,7 +381,7 @@ fn push_end_tasks(text: &mut String, tasks: &[TaskNo]) -> Result<(), AllocError>
     Ok(())
 }
 
-/// The members in front of the canvas's result.
+/// Appends the members before the canvas's result.
 fn push_end_front(text: &mut String, again: Option<u64>, tasks: &[TaskNo]) -> Result<(), AllocError>
     ensures { OnOk result (string_bytes text.new
         ≡ string_bytes text.old ++ end_front again tasks.now) }
@@ -393,7 +393,7 @@ fn push_end_front(text: &mut String, again: Option<u64>, tasks: &[TaskNo]) -> Re
     put(text, "],")
 }
 
-/// The result of a group.
+/// Appends the result of a group.
 fn push_list(
     text: &mut String,
     alloc: Global,
@@ -409,7 +409,7 @@ fn push_list(
     push_status(text, rows, tasks)
 }
 
-/// The result of another canvas: that of its last task.
+/// Appends the result of another canvas: that of its last task.
 fn push_last(text: &mut String, alloc: Global, rows: &[Row], task: TaskNo) -> Result<(), AllocError>
     ensures { OnOk result (string_bytes text.new
         ≡ string_bytes text.old ++ end_back false rows.now (task ∷ [])) }
@@ -419,7 +419,7 @@ fn push_last(text: &mut String, alloc: Global, rows: &[Row], task: TaskNo) -> Re
     push_status(text, rows, &[task])
 }
 
-/// The result of the canvas.
+/// Appends the result of the canvas.
 fn push_end(
     text: &mut String,
     alloc: Global,
@@ -455,9 +455,13 @@ fn lines_of(alloc: Global, plan: &Plan, rows: &[Row], told: Told<'_>) -> Result<
     Ok(text)
 }
 
-/// A JSON object in a line for each task, in the order of their numbers, and one for the result of
-/// the canvas. Where it is told what became of the tasks, each object says whether its task was
-/// called; and where a parameter is blamed, which.
+/// Returns a line with a JSON object for each task, in the order of their numbers, and one for the
+/// result of the canvas. If fates are given, each object says whether its task was called, and to
+/// which task a failure is due; if a parameter is blamed, also which.
+///
+/// `due_to` names the task whose exception it shows, or that its ChordError names. That one may
+/// have been skipped itself; its own `due_to` is a smaller number, and so on down to a call that
+/// failed.
 pub fn rows_text(
     alloc: Global,
     plan: &Plan,
@@ -476,7 +480,7 @@ pub fn rows_text(
     lines_of(alloc, plan, &rows, told)
 }
 
-/// The JSON object of a task in a line, as `stored_rows_text` has it.
+/// Returns the JSON object of a task in a line, as `stored_rows_text` has it.
 pub fn row_text(
     alloc: Global,
     plan: &Plan,
@@ -493,7 +497,8 @@ pub fn row_text(
     Ok(text)
 }
 
-/// The result of a task and its status as members of a JSON object, up to the closing quote.
+/// Returns the result of a task and its status as members of a JSON object, up to the closing
+/// quote.
 pub fn shown_members(alloc: Global, rows: &[Row], task: TaskNo) -> Result<String, Memory>
     ensures { IfOk result (λ text. string_bytes text ≡ shown_text (row_of rows.now task)) }
 {
@@ -502,7 +507,7 @@ pub fn shown_members(alloc: Global, rows: &[Row], task: TaskNo) -> Result<String
     Ok(text)
 }
 
-/// The JSON object of the canvas's result in a line, as `stored_rows_text` has it.
+/// Returns the JSON object of the canvas's result in a line, as `stored_rows_text` has it.
 pub fn result_text(alloc: Global, plan: &Plan, rows: &[Row]) -> Result<String, Memory>
     ensures { IfOk result (λ text. string_bytes text
         ≡ end_text None (ends_in_group (tree_of plan.now)) rows.now (ends (tree_of plan.now))) }
@@ -512,8 +517,8 @@ pub fn result_text(alloc: Global, plan: &Plan, rows: &[Row]) -> Result<String, M
     Ok(text)
 }
 
-/// The same of rows of any kind. A row whose result isn't compact JSON takes nothing from what is
-/// said of the others.
+/// Like `rows_text`, for rows of any kind. A row whose result isn't compact JSON leaves the clauses
+/// about the others as they are.
 pub fn stored_rows_text(
     alloc: Global,
     plan: &Plan,

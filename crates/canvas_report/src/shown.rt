@@ -1,4 +1,4 @@
-//! Rows as views show them: of a run, or as Celery stored them.
+//! Rows as views show them: those of a run, or those that Celery stored.
 
 ghost use Rattle.std.specs.Prelude.{◌≡◌, IfOk, map, unwrap_or, option_map, slice_get, None};
 ghost use Rattle.canvas_report.specs.declared.row.Row.TheVariants as row;
@@ -10,7 +10,7 @@ use crate::row::Row;
 use canvas_task::{Outcome, TaskNo};
 use std::alloc::{AllocError, Global};
 
-/// What became of a task, or of a canvas.
+/// The status of a task, or of a canvas.
 #[derive(Clone, Copy)]
 pub(crate) enum Status {
     Pending,
@@ -40,7 +40,7 @@ impl Status {
         }
     }
 
-    /// Of a group with members of both.
+    /// Returns the status of a group with members of both.
     pub(crate) fn worse(self, other: Status) -> Status
         ensures { result ≡ json.worse self other }
     {
@@ -54,7 +54,7 @@ impl Status {
         }
     }
 
-    /// As Celery names it.
+    /// Returns Celery's name of it.
     pub(crate) fn name(self) -> &'static str
         ensures { result.now ≡ json.status_name self }
     {
@@ -66,7 +66,7 @@ impl Status {
     }
 }
 
-/// The rows of a run.
+/// Returns the rows of a run.
 pub(crate) fn run_rows(alloc: Global, report: &Report) -> Result<Vec<Row>, AllocError>
     ensures { IfOk result (λ rows. rows.items ≡ map (λ s. row.Known s) report.now.rows) }
 {
@@ -83,7 +83,7 @@ fn row_in(rows: &[Row], index: usize) -> Option<&Row>
     rows.get(index)
 }
 
-/// A task's row. It is pending where there is none.
+/// Returns a task's row. The task is pending if there is none.
 pub(crate) fn row_at(rows: &[Row], task: TaskNo) -> Option<&Row>
     ensures { unwrap_or (option_map (λ r. r.now) result) (row.Known None) ≡ row_of rows.now task }
 {

@@ -1,4 +1,4 @@
-//! Texts, piece by piece.
+//! Texts, written piece by piece.
 ghost use Rattle.std.specs.Prelude.{◌≡◌, ◌++◌, OnOk, string_bytes};
 
 use std::alloc::AllocError;

@@ -30,7 +30,7 @@ pub(crate) enum Naming {
     Number,
 }
 
-/// Adds what a task is named.
+/// Appends the name of a task.
 fn push_named(text: &mut String, naming: Naming, task: TaskNo) -> Result<(), AllocError>
     ensures { OnOk result
         (string_bytes text.new ≡ string_bytes text.old ++ task_named naming task) }
@@ -48,7 +48,7 @@ fn push_named(text: &mut String, naming: Naming, task: TaskNo) -> Result<(), All
     }
 }
 
-/// Adds the class of an exception.
+/// Appends the class of an exception.
 fn push_class(
     text: &mut String,
     alloc: Global,
@@ -64,7 +64,7 @@ fn push_class(
     }
 }
 
-/// Adds a ChordError up to the class that it tells.
+/// Appends a ChordError up to its class.
 fn push_blamer(text: &mut String, naming: Naming, dep: TaskNo) -> Result<(), AllocError>
     ensures { OnOk result
         (string_bytes text.new ≡ string_bytes text.old ++ blamer_said naming dep) }
@@ -141,7 +141,7 @@ fn push_row_value(
     }
 }
 
-/// Adds a value or an exception, or `-` while there is neither.
+/// Appends a value or an exception, or `-` while there is neither.
 fn push_value(
     text: &mut String,
     alloc: Global,
@@ -173,7 +173,7 @@ fn push_skipped(text: &mut String, blamed: TaskNo) -> Result<(), AllocError>
     push_due(text, blamed.get())
 }
 
-/// Adds why a task was not called, where that is told and it wasn't.
+/// Appends why a task was not called, if it wasn't and its fate is given.
 fn push_reason(text: &mut String, fate: &Option<Fate>) -> Result<(), AllocError>
     ensures { OnOk result
         (string_bytes text.new ≡ string_bytes text.old ++ reason fate.now) }
@@ -209,7 +209,7 @@ fn push_row(
     put(text, "\n")
 }
 
-/// The line of a task, if the plan has it.
+/// Appends the line of a task, if the plan has it.
 fn push_task(
     text: &mut String,
     alloc: Global,
@@ -245,7 +245,7 @@ fn push_rows(
     Ok(())
 }
 
-/// Values, each behind a comma.
+/// Appends values, each after a comma.
 fn push_further(
     text: &mut String,
     alloc: Global,
@@ -282,7 +282,7 @@ fn push_values(
     }
 }
 
-/// The result of the canvas.
+/// Appends the result of the canvas.
 fn push_result(
     text: &mut String,
     alloc: Global,
@@ -321,8 +321,8 @@ pub(crate) fn worded(
     Ok(text)
 }
 
-/// The report of rows of any kind, in the form of a run's. An exception's class is written as in a
-/// JSON text, so that each task has one line.
+/// Returns the report of rows of any kind, in the form of a run's. An exception's class is written
+/// as in a JSON text, so that each task has one line.
 pub fn stored_text(alloc: Global, plan: &Plan, rows: &[Row]) -> Result<String, Memory>
     ensures said { IfOk result (λ text. string_bytes text
         ≡ stored_said rows.now (tree_of plan.now)) }
@@ -333,9 +333,9 @@ pub fn stored_text(alloc: Global, plan: &Plan, rows: &[Row]) -> Result<String, M
     worded(alloc, Naming::Identifier, plan, rows, &[])
 }
 
-/// The report of rows of any kind with `#2` in place of the identifier of task 2. With the fates of
-/// a whole run's tasks it says of each that was not called why; without any, as of a run that was
-/// halted, it doesn't. The name of an exception has no line feed.
+/// Returns the report of rows of any kind with `#2` instead of the identifier of task 2. With the
+/// fates of a whole run's tasks it says why each task that was not called was not; without any, as
+/// for a run that was halted, it doesn't. The name of an exception has no line feed.
 pub fn explained_text(
     alloc: Global,
     plan: &Plan,

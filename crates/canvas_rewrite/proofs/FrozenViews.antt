@@ -106,7 +106,13 @@ pub task_numbered : (s : TaskSig) (k : ℕ) → bare_task (number_task k (task_v
 task_numbered s k =
     let ls : List Task = map task_view (out-TaskSig s).links in
     let es : List Task = map task_view (out-TaskSig s).errbacks in
-    let c : Call = record { name = (out-TaskSig s).name; args = (out-TaskSig s).args; kwargs = (out-TaskSig s).kwargs; immutable = (out-TaskSig s).immutable } in
+    let c : Call = record {
+      name = (out-TaskSig s).name;
+      args = (out-TaskSig s).args;
+      kwargs = (out-TaskSig s).kwargs;
+      immutable =
+          (out-TaskSig s).immutable;
+    } in
     ap (λ t. bare_task (number_task k t)) (task_seen s)
     ∙ ap (λ n. p_task k c (bare_tasks (number_tasks (k + 1) (tasks_of ls))) (bare_tasks (number_tasks (k + 1 + n) (tasks_of es))) p_nowhere) (in_tasks ls)
     ∙ ap (λ ps. p_task k c ps (bare_tasks (number_tasks (k + 1 + tasks_in ls) (tasks_of es))) p_nowhere) (sym (tasks_numbered (k + 1) ls))

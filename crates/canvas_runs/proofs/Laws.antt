@@ -6,4 +6,4 @@ pub mod SecondLaw
 pub mod EventStates
 pub mod Causes
 pub mod Bodies
-pub mod Courses
+pub mod ProgramOrder

@@ -1,6 +1,5 @@
--- Evaluation with events and evaluation of the tree say the same of each task (Celery user guide,
--- Canvas). So of these two definitions of what a canvas does, the one by events has no say of its
--- own about states.
+-- Evaluation with events and evaluation of the tree give each task the same state (Celery user
+-- guide, Canvas). So the definition by events can't differ from that by the tree.
 use Rattle.std.specs.Prelude.{◌≡◌, ◌⊎◌, ℕ, Some}
 use Rattle.canvas_task.specs.Apply.{Behaviour}
 use Rattle.canvas_task.specs.declared.outcome.Fault.{Fault}
@@ -34,7 +33,7 @@ module _ (behaviour : Behaviour) (l : Line) where
   IsFailedUnrun t o = IsNotRun t × (f : Fault) × (o ≡ Failure f) × IsStored t o
 
   pub record EventStates : Type 0 where
-    -- evaluating the tree gives a task an outcome exactly where some event stores it
+    -- evaluating the tree gives a task an outcome exactly if some event stores it
     pub stored : (t : ℕ) (o : Outcome) → its_state behaviour l t ≡ Some o → IsStored t o
     pub of_stored : (t : ℕ) (o : Outcome) → IsStored t o → its_state behaviour l t ≡ Some o
     -- and no two events do

@@ -1,8 +1,8 @@
--- What it is for a worker's pass and seat to have followed a core run, from where they stood
--- (Lamport's sequential consistency, told by one caller).
---     Makes p cs q           the pass p has made these broker calls and is q then: each stands in
---                            the one legal history of its queue, after all that p had seen
---     Serves plan s cs t     the same of a seat and its backend calls
+-- When a worker's pass and seat have followed a core run, from where they were at its start
+-- (Lamport's sequential consistency, as one caller sees it).
+--     Makes p cs q           the pass p has made these broker calls and is q then: each is in the
+--                            one legal history of its queue, after all that p had seen
+--     Serves plan s cs t     like `Makes`, for a seat and its backend calls
 --     Followed X plan w v    from w on the worker's pass and seat have followed a core run of the
 --                            protocol X, and it is v then
 use Rattle.std.specs.Prelude.{◌+◌, ◌≡◌, List, [], ◌∷◌, length, Option, None}
@@ -35,9 +35,9 @@ Serves plan s (c ∷ cs) t =
     (between : Seat) × seats.Stands plan s (calls s.name c.0 c.1) between
     × Serves plan between cs t
 
--- A worker of messages M and what the members of a chord carry, C: its pass and its seat, what its
--- core has left to do, the envelope of the open script, the envelopes that it took and has not
--- given to its core, and its counts.
+-- A worker with messages M, and C for what the members of a chord carry: its pass and its seat,
+-- what its core has left to do, the envelope of the open script, the envelopes that it took and has
+-- not given to its core, and its counts.
 pub record Working (M C : Type 0) : Type 0 where
   pub pass : Pass
   pub seat : Seat
@@ -66,8 +66,8 @@ pub record Followed (X : Protocol Envelope) (plan : Roster) (w v : Working X.Mes
   pub is_core : IsCoreRun X w.left run
   pub counts : Counted plan run w.tally v.tally
   pub leaves : left_after X w.left run ≡ v.left
-  -- the calls of its pass. A take may stand before the core's, and an envelope may be delivered
-  -- again while its script is open
+  -- The calls of its pass. A take may come before the core's, and an envelope may be redelivered
+  -- while its script is open.
   pub made : List (QueueAnswered Envelope)
   pub follows : FollowsScripts w.current w.held (core_calls run) made
   pub used : length w.held + total takes_one made ≡ total takes_one (broker_calls run)

@@ -1,8 +1,8 @@
--- The law of runs: whatever the number of workers, the order of their calls and the envelopes that
--- are delivered again, a run does what evaluating the plan's canvas gives, each thing once (Celery
--- user guide, Canvas: a chord's body is called once, when all tasks of the header have returned).
--- An envelope that is delivered again is taken once more, and of the stores of its task one answers
--- that it was the first.
+-- The law of runs: for any number of workers, any order of their calls and any redeliveries, a run
+-- does what evaluating the plan's canvas gives, each thing once (Celery user guide, Canvas: a
+-- chord's body is called once, when all tasks of the header have returned).
+-- A redelivered envelope is taken once more, and one of the stores of its task answers that it was
+-- the first.
 use Rattle.std.specs.Prelude.{◌≡◌, ◌≤◌, ◌⊎◌, ◌+◌, ℕ, eqb, cond, List, Option, Some, None}
 use Rattle.canvas_task.specs.Apply.{Behaviour}
 use Rattle.canvas_task.specs.declared.outcome.Outcome.{Outcome}
@@ -29,7 +29,7 @@ use Rattle.canvas_runs.specs.Worker.{sealed, opened}
 
 -- ---- how often
 
--- 1 where the call stores the outcome of task k first, or again, or returns the part
+-- 1 if the call stores the outcome of task k first, or again, or returns the part
 abbrev pub firsts_one : ℕ → TableAnswered → ℕ
 firsts_one k (table.store t o, table.was First) = cond (eqb t k) 1 0
 firsts_one k c = 0
@@ -58,7 +58,7 @@ module _ (l : Line) where
   of_task k None = 0
   of_task k (Some c) = cond (eqb (number_of c.own) k) 1 0
 
-  -- 1 where the call publishes, or takes, or delivers again, a message of task k
+  -- 1 if the call publishes, or takes, or redelivers, a message of task k
   abbrev pub publishes_one : ℕ → QueueAnswered Envelope → ℕ
   publishes_one k (queue.publish e, r) = of_task k (opened (book_of l) e)
   publishes_one k c = 0
@@ -71,7 +71,7 @@ module _ (l : Line) where
   agains_one_of k (queue.redeliver e, r) = of_task k (opened (book_of l) e)
   agains_one_of k c = 0
 
-  -- how often a message of task k is published, and taken, and delivered again
+  -- how often a message of task k is published, and taken, and redelivered
   abbrev pub publications : ℕ → List (queue.QueueEntry Envelope) → ℕ
   publications k queue = total (publishes_one k) (seconds (queue_calls queue))
 
@@ -96,13 +96,13 @@ module _ (behaviour : Behaviour) (l : Line) where
   abbrev pub IsPart : ℕ → ℕ → Type 0
   IsPart g t = (c : PCarried) × (v : Event) × DoesIn behaviour l v (part g t c)
 
-  -- every run, closed or not
+  -- holds of every run, closed or not
   pub record FirstPart (r : Run behaviour l) : Type 0 where
     -- each outcome that is stored is the task's
     pub stored : (p t : ℕ) (o : Outcome) (a : Stored)
         → In (calls p (table.store t o) (table.was a)) r.table → its_state t ≡ Some o
-    -- one store of a task is the first, and no more answer again than its message was delivered
-    -- again: with no redelivery none does
+    -- at most one store of a task is the first, and no more answer Again than its message was
+    -- redelivered: with no redelivery none does
     pub stored_once : (k : ℕ) → first_stores k r.table ≤ 1
     pub stored_again : (k : ℕ) → again_stores k r.table ≤ redeliveries l k r.queue
     -- so each task is pending or has its state
@@ -114,7 +114,7 @@ module _ (behaviour : Behaviour) (l : Line) where
         → In (calls p (queue.publish e) a) r.queue
         → (c : Content) × (e ≡ sealed c) × (opened (book_of l) e ≡ Some c) × IsRunMessage c
     pub published_once : (k : ℕ) → publications l k r.queue ≤ 1
-    -- and so is each that is delivered again
+    -- and so is each that is redelivered
     pub redelivered : (p : ℕ) (e : Envelope) (a : Option Envelope)
         → In (calls p (queue.redeliver e) a) r.queue
         → (c : Content) × (e ≡ sealed c) × (opened (book_of l) e ≡ Some c) × IsRunMessage c
@@ -122,17 +122,17 @@ module _ (behaviour : Behaviour) (l : Line) where
     pub returned : (p g t n : ℕ) → In (calls p (table.part g t) (table.count n)) r.table
         → IsPart g t
 
-  -- a closed run besides
+  -- holds of a closed run too
   pub record SecondPart (r : Run behaviour l) : Type 0 where
     -- each task has its state; a task that evaluation leaves pending is pending
     pub rows : (t : ℕ) → (table.results (roster_of l) r.table).outcomes t ≡ its_state t
-    -- each message of the evaluation is published once, and what is published or delivered again is
-    -- taken
+    -- each message of the evaluation is published once, and each that is published or redelivered
+    -- is taken
     pub published : (c : Content) → IsRunMessage c → publications l (number_of c.own) r.queue ≡ 1
     pub taken : (k : ℕ)
         → takes_of_task l k r.queue ≡ publications l k r.queue + redeliveries l k r.queue
-    -- each outcome is stored once first, and answered again as often as its message was delivered
-    -- again
+    -- one store of each outcome is the first, and as many answer Again as its message was
+    -- redelivered
     pub stored : (t : ℕ) (o : Outcome) → its_state t ≡ Some o → first_stores t r.table ≡ 1
     pub stored_again : (t : ℕ) → again_stores t r.table ≡ redeliveries l t r.queue
     pub pending : (t : ℕ) → its_state t ≡ None → first_stores t r.table + again_stores t r.table ≡ 0

@@ -1,7 +1,7 @@
--- How runs go on and end, whatever the number of workers and the order of their calls. A run makes
--- few calls; and as long as it is not closed, some worker's next call can be answered and is no
--- take that finds nothing. So it ends closed if its workers are let go on: no message is lost, no
--- worker waits for another one, and none works for ever.
+-- How runs go on and end, for any number of workers and any order of their calls. A run makes few
+-- calls; and as long as it is not closed, some worker's next call can be answered and is no take
+-- that finds nothing. So it ends closed if its workers are let go on: no message is lost, no worker
+-- waits for another one, and none works forever.
 --     calls_made xs      how many calls a core run makes; a take that found nothing is none
 --     FewCalls           a run has few of them, by the plan's tasks and its redeliveries
 --     CanGoOn, AtRest    a worker that may make another call; one that has nothing left to do
@@ -35,7 +35,7 @@ use Rattle.canvas_runs.specs.Worker.{IsReadBack, worker}
 
 -- ---- how many calls
 
--- those of the queue with the acknowledgements, and those of the table
+-- the calls of the queue with the acknowledgements, and those of the table
 abbrev pub calls_made : List (AskedAndAnswered Envelope) → ℕ
 calls_made xs = length (core_calls xs) + length (backend_calls xs)
 
@@ -44,7 +44,7 @@ abbrev pub of_workers : ℕ → (ℕ → ℕ) → ℕ
 of_workers zero f = f 0
 of_workers (suc n) f = of_workers n f + f (suc n)
 
--- 1 where the call delivers an envelope again
+-- 1 if the call redelivers an envelope
 abbrev pub redelivers_one : QueueAnswered Envelope → ℕ
 redelivers_one (queue.redeliver e, r) = 1
 redelivers_one c = 0
@@ -53,8 +53,8 @@ abbrev pub delivered_again : List (queue.QueueEntry Envelope) → ℕ
 delivered_again queue = total redelivers_one (seconds (queue_calls queue))
 
 -- A task's message is published, taken and acknowledged once, its outcome stored and its part
--- returned once, and it is read once, where it ends a member of a completed header. A redelivery is
--- a call, and has its envelope taken, stored again and acknowledged once more.
+-- returned once, and it is read once if it ends a member of a completed header. A redelivery is a
+-- call, and its envelope is taken, stored and acknowledged once more.
 abbrev pub most_calls : Line → ℕ → ℕ
 most_calls l again = 6 * count_line l + 4 * again
 
@@ -75,7 +75,7 @@ module _ (behaviour : Behaviour) (l : Line) where
   abbrev pub left_of : Run behaviour l → ℕ → CoreState Content PCarried
   left_of r p = left_after (worker behaviour l) taking (r.core p)
 
-  -- live in both histories, not told that no more will come, and refused no publish
+  -- live in both histories, its last rest not answered with no more, and no publish refused
   abbrev pub CanGoOn : Run behaviour l → ℕ → Type 0
   CanGoOn r p =
       (among p (live r.queue) ≡ true) × (among p (live r.table) ≡ true)
@@ -96,9 +96,9 @@ module _ (behaviour : Behaviour) (l : Line) where
     pub one : ℕ
     pub goes : CanGoOn r one
 
-  -- The worker has these further asks answered in the run r, with one call among them, and the run
-  -- is s then. The histories have the call at their ends, but for a take that stands in the queue's
-  -- already.
+  -- In run r the worker has these further asks answered, with one call among them, and the run is
+  -- then s. The histories have the call at their ends, unless it is a take that is already in the
+  -- queue's history.
   pub record GoesOn (r : Run behaviour l) (p : ℕ) (s : Run behaviour l) : Type 0 where
     pub asks : List (AskedAndAnswered Envelope)
     pub one_call : calls_made asks ≡ 1
@@ -132,8 +132,8 @@ module _ (behaviour : Behaviour) (l : Line) where
     pub leads : Leads r run steps
     pub closed : Closed behaviour l run
 
--- The messages of a plan whose texts are UTF-8 read back, where no task answers a number out of
--- range: so do those of every plan that `freeze` gives, whatever the registry of tasks.
+-- The messages of a plan whose texts are UTF-8 read back if no task answers a number out of range.
+-- So those of every plan that `freeze` gives do, with any registry of tasks.
 abbrev pub PlansReadBack : Type 0
 PlansReadBack =
     (behaviour : Behaviour) → AnswersInRange behaviour
@@ -154,7 +154,7 @@ NeverStuck =
     → (r : Run behaviour l) → UnderWay behaviour l r
     → Closed behaviour l r ⊎ ((p : ℕ) × Next behaviour l r p)
 
--- nor does any go on for ever
+-- and none goes on forever
 abbrev pub FewSteps : Type 0
 FewSteps =
     (behaviour : Behaviour) (l : Line) → IsPlan l → (r s : Run behaviour l) (k : ℕ)

@@ -31,7 +31,7 @@ pub record Run (behaviour : Behaviour) (l : Line) : Type 0 where
   pub table_legal : IsTableHistory (roster_of l) table
   pub core : ℕ → List (AskedAndAnswered Envelope)
   pub is_core : (p : ℕ) → IsCoreRun (worker behaviour l) taking (core p)
-  -- What worker 0 publishes before all else, what is left of the first messages, and what it reads
+  -- What worker 0 publishes first, the first messages that it hasn't published, and what it reads
   -- at the end.
   pub opening : List Content
   pub unsent : List Content
@@ -49,7 +49,7 @@ pub record Run (behaviour : Behaviour) (l : Line) : Type 0 where
       → by p (answered_calls table) ≡ backend_calls (core p) ++ cond (eqb p 0) closing []
 
 -- All first messages are published, the queue is empty at the end, each envelope taken has its
--- script, and no core run stops inside one.
+-- script, and no core run ends inside one.
 pub record Closed (behaviour : Behaviour) (l : Line) (r : Run behaviour l) : Type 0 where
   pub all_sent : r.unsent ≡ []
   pub drained : queue_of r.queue ≡ []

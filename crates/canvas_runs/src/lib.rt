@@ -1,6 +1,20 @@
 //! Runs of canvases as data: what a worker asks, which histories of the queue and of the table of
 //! results a run has, and the law of whole runs. There is no running code here: each function has
 //! an empty body, and its contract is a law.
+//!
+//! A core run is a machine: what is left to do, what is asked next, and what an answer leads to.
+//! What it asks is a call of the queue or of the table, an acknowledgement, or whether more may
+//! come, so its calls are its asks and answers, with no translation. Takes that found nothing and
+//! refused publishes are in no history, so following a core run leaves them out.
+//!
+//! An acknowledgement is in no history either, since the queue gave the envelope away at the take.
+//! So a history says only that a redelivery comes after the take of its envelope, and before the
+//! caller's next call of the queue after the acknowledgement. In a run by turns its place is exact.
+//!
+//! A core run may have redeliveries between its own calls; one without them is the special case.
+//! The first store of a task stays, whichever caller makes it and by whichever copy of the
+//! envelope, and that caller goes on. Nothing compares the queue's history with the table's in
+//! time: the law goes by the numbers of tasks, of which every cause is smaller than its effects.
 #![tactic(auto)]
 
 mod when;
@@ -28,11 +42,11 @@ ghost use Rattle.canvas_history.specs.Queue.{IsLegal as IsQueueLegal};
 
 pub use when::When;
 
-/// The law of runs. Whatever the number of workers and the order of their calls, a run of a plan
-/// stores only the outcomes that evaluating its canvas gives, and publishes only the messages of
-/// tasks that are run, each once. A run that is closed stores all these outcomes, publishes all
-/// these messages and returns all these parts, each once. So each task of the canvas has the state
-/// that evaluating the canvas gives. In every run each chord is completed at most once.
+/// The law of runs. For any number of workers and any order of their calls, a run of a plan stores
+/// only the outcomes that evaluating its canvas gives, and publishes only the messages of tasks
+/// that are run, each once. A run that is closed stores all these outcomes, publishes all these
+/// messages and returns all these parts, each once. So each task of the canvas has the state that
+/// evaluating the canvas gives. In every run each chord is completed at most once.
 pub fn law_of_runs()
     ensures every_run { (behaviour : Behaviour) (l : Line) → IsPlan l → (r : Run behaviour l)
         → FirstPart behaviour l r }
@@ -45,22 +59,22 @@ pub fn law_of_runs()
         → (results (roster_of l) r.table).outcomes t ≡ state_of t (meaning behaviour c) }
 {}
 
-/// A run makes few calls, whatever the number of workers and the order of their calls: six for each
-/// task, a publish, a take, a store, a part, a read and an acknowledgement, and four for each
-/// redelivery. So it goes on for no longer than that.
+/// States that a run makes few calls, for any number of workers and any order of their calls: six
+/// for each task (a publish, a take, a store, a part, a read and an acknowledgement), and four for
+/// each redelivery. So it goes on for no longer than that.
 pub fn law_of_bound()
     ensures few { FewCalls }
     ensures steps { FewSteps }
 {}
 
-/// No worker waits for another one, if the messages read back from their envelopes, as those of
-/// every plan that `freeze` gives do. In a run that is under way each worker that can go on makes a
-/// call next, in the middle of a script or by a take that finds a message, unless it has nothing
-/// left to do and the queue is empty. So a run that is under way is closed or goes on, and leads to
-/// a closed one: only a refusal of memory, or that its workers aren't let go on, can keep it from
-/// that. Each plan has a run that is under way, with its first messages published, for any number
-/// of workers. A plan's messages read back since its texts are UTF-8, and the numbers that tasks
-/// answer are in range; so do those of the chord below.
+/// States that no worker waits for another one, if the messages read back from their envelopes. In
+/// a run that is under way each worker that can go on makes a call next, in the middle of a script
+/// or by a take that finds a message, unless it has nothing left to do and the queue is empty. So a
+/// run that is under way is closed or goes on, and leads to a closed one, unless memory is refused
+/// or its workers aren't let go on. Each plan has a run that is under way, with its first messages
+/// published, for any number of workers. The messages of every plan that `freeze` gives read back,
+/// since its texts are UTF-8 and the numbers that tasks answer are in range; so do those of the
+/// chord below.
 pub fn law_of_progress()
     ensures none_waits { NoneWaits }
     ensures never_stuck { NeverStuck }
@@ -70,10 +84,10 @@ pub fn law_of_progress()
     ensures chord { AllReadBack builtin_tasks small }
 {}
 
-/// The law of events. Whatever the tasks do, evaluating a plan with events gives each task the
-/// state that evaluating its tree gives: an outcome exactly where some event stores it, which no
-/// two events do. Either the task is run, and that is what its call answers, or it fails without
-/// being run. These are the states of the canvas that the plan was made from.
+/// The law of events. For any behaviour of tasks, evaluating a plan with events gives each task the
+/// state that evaluating its tree gives: an outcome exactly if some event stores it, which no two
+/// events do. Either the task is run, and that is what its call answers, or it fails without being
+/// run. These are the states of the canvas that the plan was made from.
 pub fn law_of_events()
     ensures states { (behaviour : Behaviour) (l : Line) → IsPlan l → EventStates behaviour l }
     ensures of_canvas { (behaviour : Behaviour) (c : Tree) → IsFull c
@@ -81,11 +95,12 @@ pub fn law_of_events()
         → (t : ℕ) → its_state behaviour l t ≡ state_of t (meaning behaviour c) }
 {}
 
-/// There is something of which the laws speak: a chord of two sums and the sum of both is a plan,
-/// and has a closed run by two workers, with these histories, where the first sum's envelope is
-/// delivered again. A history in which both parts find that none was returned before is none of the
-/// table, and one in which a caller delivers again what another took is none of the queue. A script
-/// that goes on after Again, or that acknowledges its envelope before its work, is no core run.
+/// States that there is something of which the laws speak. A chord of two sums and the sum of both
+/// is a plan, and has a closed run by two workers, with these histories, in which the first sum's
+/// envelope is redelivered. A log in which both parts find that none was returned before is no
+/// history of the table, and one in which a caller redelivers what another took is none of the
+/// queue. A script that goes on after Again, or that acknowledges its envelope before its work, is
+/// no core run.
 pub fn runs_of_a_chord()
     ensures planned { IsPlan small × IsUtf8Line small }
     ensures stands { (r : Run builtin_tasks small) × (r.queue ≡ queue) × (r.table ≡ table)

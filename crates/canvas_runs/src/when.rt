@@ -1,6 +1,6 @@
 //! The points of a script.
 
-/// Where in the script of a message its envelope may be delivered again.
+/// A point in the script of a message at which its envelope may be redelivered.
 #[derive(Clone, Copy, Debug, PartialEq, Eq)]
 pub enum When {
     /// Before the message's first store.

@@ -1,7 +1,7 @@
--- The lines that tell the steps of a run by turns: a JSON object (RFC 8259) in each, compact, with
--- its keys in the order of their letters.
+-- The lines of the steps of a run by turns: a JSON object (RFC 8259) in each, compact, with its
+-- keys in the order of their letters.
 --     did_text l rows held d    what a worker did that holds the envelope of this identifier
---     steps_text l rows held ss the lines of steps, where the workers hold these envelopes
+--     steps_text l rows held ss the lines of steps, if the workers hold these envelopes
 use Rattle.std.specs.Prelude.{ℕ, ◌-◌, if◌then◌else◌, Bool, List, [], ◌∷◌, ◌++◌, length, take, drop, replicate, slice_get, slice_set, Option, Some, None, unwrap_or, codes, decimal}
 use Rattle.canvas_task.specs.Identifiers.{task_text, group_text}
 use Rattle.canvas_task.specs.Text.{Text}
@@ -58,7 +58,7 @@ part_text size g k before =
 abbrev pub null_text : Text
 null_text = codes "null"
 
--- by a worker that holds the envelope of this identifier
+-- the text of what a worker did that holds the envelope of this identifier
 abbrev pub did_text : Line → List Row → Text → Did → Text
 did_text l rows held (did.Took None) = letter_text (codes "take") null_text
 did_text l rows held (did.Took (Some e)) = letter_text (codes "take") (identifier e.properties)

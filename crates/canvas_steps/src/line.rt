@@ -7,7 +7,7 @@ use canvas_backend::Stored;
 use canvas_task::{GroupNo, TaskNo, group_text, task_text};
 use std::alloc::{AllocError, Global};
 
-/// What stands in the properties of a message before the identifier of its task.
+/// The length of a message's properties before the identifier of its task.
 const BEFORE_IDENTIFIER: usize = 79;
 
 pub(crate) fn put(text: &mut Vec<u8>, piece: &[u8]) -> Result<(), AllocError>
@@ -16,21 +16,21 @@ pub(crate) fn put(text: &mut Vec<u8>, piece: &[u8]) -> Result<(), AllocError>
     text.extend_from_slice(piece)
 }
 
-/// The bytes before an index.
+/// Returns the bytes before an index.
 fn up_to(bytes: &[u8], end: usize) -> &[u8]
     ensures { result.now ≡ take end bytes.now }
 {
     &bytes[..end.min(bytes.len())]
 }
 
-/// The bytes from an index on.
+/// Returns the bytes from an index on.
 fn from(bytes: &[u8], start: usize) -> &[u8]
     ensures { result.now ≡ drop start bytes.now }
 {
     &bytes[start.min(bytes.len())..]
 }
 
-/// The identifier that the properties of a message name, in its quotes.
+/// Returns the identifier that the properties of a message name, in its quotes.
 pub(crate) fn identifier(properties: &[u8]) -> &[u8]
     ensures { result.now ≡ identifier properties.now }
 {
@@ -38,7 +38,7 @@ pub(crate) fn identifier(properties: &[u8]) -> &[u8]
     up_to(rest, rest.len().saturating_sub(1))
 }
 
-/// Adds the beginning of a line, up to what was asked.
+/// Appends the beginning of a line, up to the ask.
 pub(crate) fn put_ask(text: &mut Vec<u8>, ask: &[u8]) -> Result<(), AllocError>
     ensures { OnOk result (text.new.items ≡ text.old.items ++ ask_text ask.now) }
 {
@@ -47,7 +47,7 @@ pub(crate) fn put_ask(text: &mut Vec<u8>, ask: &[u8]) -> Result<(), AllocError>
     put(text, b"\"")
 }
 
-/// Adds the identifier of a task, or null, as a member.
+/// Appends the identifier of a task, or null, as a member.
 pub(crate) fn put_named(text: &mut Vec<u8>, identifier: &[u8]) -> Result<(), AllocError>
     ensures { OnOk result (text.new.items ≡ text.old.items ++ named_text identifier.now) }
 {
@@ -55,7 +55,7 @@ pub(crate) fn put_named(text: &mut Vec<u8>, identifier: &[u8]) -> Result<(), All
     put(text, identifier)
 }
 
-/// Adds the identifier of a task as a member.
+/// Appends the identifier of a task as a member.
 pub(crate) fn put_task(text: &mut Vec<u8>, task: TaskNo) -> Result<(), AllocError>
     ensures { OnOk result (text.new.items ≡ text.old.items ++ task_member task) }
 {
@@ -64,7 +64,7 @@ pub(crate) fn put_task(text: &mut Vec<u8>, task: TaskNo) -> Result<(), AllocErro
     put(text, b"\"")
 }
 
-/// Adds the identifier of a chord as a member.
+/// Appends the identifier of a chord as a member.
 pub(crate) fn put_group(text: &mut Vec<u8>, group: GroupNo) -> Result<(), AllocError>
     ensures { OnOk result (text.new.items ≡ text.old.items ++ group_member group) }
 {
@@ -73,7 +73,7 @@ pub(crate) fn put_group(text: &mut Vec<u8>, group: GroupNo) -> Result<(), AllocE
     put(text, b"\"")
 }
 
-/// Adds a number.
+/// Appends a number.
 fn put_decimal(text: &mut Vec<u8>, alloc: Global, number: u64) -> Result<(), AllocError>
     ensures { OnOk result (text.new.items ≡ text.old.items ++ decimal number) }
 {
@@ -81,7 +81,7 @@ fn put_decimal(text: &mut Vec<u8>, alloc: Global, number: u64) -> Result<(), All
     put(text, digits.as_bytes())
 }
 
-/// Adds a number as a member.
+/// Appends a number as a member.
 pub(crate) fn put_number(
     text: &mut Vec<u8>,
     alloc: Global,
@@ -95,7 +95,7 @@ pub(crate) fn put_number(
     put_decimal(text, alloc, number)
 }
 
-/// What a store answered, as a member.
+/// Returns the answer to a store, as a member.
 pub(crate) fn stored_member(stored: Stored) -> &'static [u8]
     ensures { result.now ≡ stored_text stored }
 {
@@ -105,7 +105,7 @@ pub(crate) fn stored_member(stored: Stored) -> &'static [u8]
     }
 }
 
-/// Whether more may come, as a member.
+/// Returns whether more may come, as a member.
 pub(crate) fn more_member(more: bool) -> &'static [u8]
     ensures { result.now ≡ more_text more }
 {

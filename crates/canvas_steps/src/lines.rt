@@ -15,13 +15,13 @@ use canvas_rewrite::Plan;
 use canvas_task::{GroupNo, Memory, TaskNo};
 use std::alloc::{AllocError, Global};
 
-/// Places for the envelopes of worker 0, which has none, and of workers 1 to 16.
+/// The places for the envelopes of worker 0, which has none, and of workers 1 to 16.
 const PLACES: usize = 17;
 
-/// What stands for the identifier of no envelope.
+/// The text instead of an identifier if there is no envelope.
 const NONE: &[u8] = b"null";
 
-/// Adds the line of an ask about an envelope, up to the worker.
+/// Appends the line of an ask about an envelope, up to the worker.
 fn put_letter(text: &mut Vec<u8>, ask: &[u8], identifier: &[u8]) -> Result<(), AllocError>
     ensures { OnOk result (text.new.items ≡ text.old.items ++ letter_text ask.now identifier.now) }
 {
@@ -29,7 +29,7 @@ fn put_letter(text: &mut Vec<u8>, ask: &[u8], identifier: &[u8]) -> Result<(), A
     put_named(text, identifier)
 }
 
-/// Adds the line of a store, up to the worker.
+/// Appends the line of a store, up to the worker.
 fn put_store(
     text: &mut Vec<u8>,
     alloc: Global,
@@ -50,7 +50,7 @@ fn put_store(
     Ok(())
 }
 
-/// Adds the line of a part, up to the worker.
+/// Appends the line of a part, up to the worker.
 fn put_part(
     text: &mut Vec<u8>,
     alloc: Global,
@@ -69,8 +69,8 @@ fn put_part(
     put_task(text, task)
 }
 
-/// Adds the line of what a worker did, up to the worker. `held` is the identifier of the envelope
-/// that it holds.
+/// Appends the line of what a worker did, up to the worker. `held` is the identifier of the
+/// envelope that it holds.
 fn put_did(
     text: &mut Vec<u8>,
     alloc: Global,
@@ -108,7 +108,7 @@ fn put_did(
     Ok(())
 }
 
-/// Adds the worker and the end of the line.
+/// Appends the worker and the end of the line.
 fn put_worker(text: &mut Vec<u8>, alloc: Global, worker: u32) -> Result<(), AllocError>
     ensures { OnOk result (text.new.items ≡ text.old.items ++ worker_text worker) }
 {
@@ -116,7 +116,7 @@ fn put_worker(text: &mut Vec<u8>, alloc: Global, worker: u32) -> Result<(), Allo
     put(text, b"}\n")
 }
 
-/// The identifier of the envelope that a worker holds.
+/// Returns the identifier of the envelope that a worker holds.
 fn held_by<'a>(held: &[&'a [u8]], worker: u32) -> &'a [u8]
     ensures { result.now ≡ held_by (map (λ h. h.now) held.now) worker }
 {
@@ -136,7 +136,7 @@ fn put_held<'a>(held: &mut [&'a [u8]], place: usize, identifier: &'a [u8])
     }
 }
 
-/// Notes which envelope a worker holds, where it took one.
+/// Records which envelope a worker holds, if it took one.
 fn hold<'a>(held: &mut [&'a [u8]], step: &'a Step)
     ensures { map (λ h. h.now) held.new
         ≡ held_after (map (λ h. h.now) held.old) step.now.worker step.now.did }

@@ -54,7 +54,7 @@ fn is_reported(
     }
 }
 
-/// A chord with a failed member has one report, whatever the turns of its two workers.
+/// A chord with a failed member has one report, for any turns of its two workers.
 fn turns_change_nothing(alloc: Global, six: &Registry) -> bool {
     is_reported(alloc, six, CHORD, 2, &[], CHORD_REPORT)
         && is_reported(alloc, six, CHORD, 2, &[1, 2, 2, 2, 1], CHORD_REPORT)

@@ -5,7 +5,8 @@ use Rattle.std.specs.List.Sorted.{IsStrictlySortedBy}
 use Rattle.std.specs.Map.{keys_of}
 use Rattle.canvas_task.specs.Entries.{named, IsBelow, Ascends}
 
-below_named : {T : Type 0} (k : String Global) (es : List (String Global × T)) → AllByRecursion (λ l. string_cmp k l ≡ Less) (keys_of es) → IsBelow (string_bytes k) (named es)
+below_named : {T : Type 0} (k : String Global) (es : List (String Global × T)) → AllByRecursion (λ l. string_cmp k l ≡ Less) (keys_of es)
+    → IsBelow (string_bytes k) (named es)
 below_named k [] h = tt
 below_named k (e ∷ es) h = (h.0, below_named k es h.1)
 

@@ -111,12 +111,15 @@ module _ (name : Text) (args : List Arg) (named : List (Text × Arg)) where
   first task is k t same ts rest (inl here) false e =
       let clash : true ≡ false = sym ((bytes_eq-Decides (task_name k) name).1 (ap (λ (u : NamedTask). u.name) (sym same ∙ here) ∙ sym is)) ∙ e in cc
 
-  found : (task : Builtin) → name ≡ task_name task → (ts : List NamedTask) → AreBuiltin ts → IsAmong (as_named task) ts → answers ts ≡ outcome (meaning task args named)
+  found : (task : Builtin) → name ≡ task_name task → (ts : List NamedTask) → AreBuiltin ts → IsAmong (as_named task) ts
+      → answers ts ≡ outcome (meaning task args named)
   found task is [] of there = absurd there
   found task is (t ∷ ts) ((k, same), of) there =
-      subst (λ u. answers (u ∷ ts) ≡ outcome (meaning task args named)) (sym same) (first task is k t same ts (found task is ts of) there (bytes_eq (task_name k) name) refl)
+      subst (λ u. answers (u ∷ ts) ≡ outcome (meaning task args named)) (sym same) (first task is k t same ts (found task is ts of) there (bytes_eq
+      (task_name k) name) refl)
 
-  none_first : builtin_named name ≡ None → (k : Builtin) (ts : List NamedTask) → answers ts ≡ Failure (Plain NotRegistered) → (b : Bool) → bytes_eq (task_name k) name ≡ b
+  none_first : builtin_named name ≡ None → (k : Builtin) (ts : List NamedTask) → answers ts ≡ Failure (Plain NotRegistered) → (b : Bool)
+      → bytes_eq (task_name k) name ≡ b
       → answers (as_named k ∷ ts) ≡ Failure (Plain NotRegistered)
   none_first none k ts rest true e = absurd (none-some k (sym none ∙ ap builtin_named (sym ((bytes_eq-Decides (task_name k) name).0 e)) ∙ known k))
   none_first none k ts rest false e = passed k ts e ∙ rest

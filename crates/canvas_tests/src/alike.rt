@@ -15,7 +15,7 @@ fn is_written_so(alloc: Global, message: &Message, written: &Envelope) -> bool {
     }
 }
 
-/// The same of what was read; None where that is a refusal.
+/// Like `is_written_so`, for a read message; None if it was refused.
 fn is_read_so(
     alloc: Global,
     read: &Result<Message, MessageFault>,
@@ -40,7 +40,7 @@ fn are_written(alloc: Global, properties: &str, headers: &str, body: &str) -> bo
     }
 }
 
-/// The same where the properties have this identifier.
+/// Like `are_written`, if the properties have this identifier.
 fn is_written(alloc: Global, task: &str, headers: &str, body: &str) -> bool {
     match format!(in alloc;
         r#"{{"content_encoding":"utf-8","content_type":"application/json","correlation_id":"{task}"}}"#
@@ -94,7 +94,7 @@ fn reads_as(
     }
 }
 
-/// The same of the message of a sum.
+/// Like `reads_as`, for the message of a sum.
 fn reads_as_sum(alloc: Global, properties: &str, headers: &str, body: &str) -> Option<bool> {
     match envelope(alloc, PROPERTIES, HEADERS, BODY) {
         Ok(written) => reads_as(alloc, properties, headers, body, &written),

@@ -163,7 +163,7 @@ fn sums_of(shares: &[Share]) -> (u32, u32) {
     (completed, found)
 }
 
-/// The same of sixteen shares that are done in threads.
+/// Like `sums_of`, for sixteen shares that are done in threads.
 fn shared<R: Threads + Sync>(
     rt: &R,
     alloc: Global,
@@ -182,7 +182,7 @@ fn shared<R: Threads + Sync>(
     }
 }
 
-/// The same at the backend of a canvas's plan.
+/// Like `shared`, with the backend of a canvas's plan.
 fn shared_by<R: Threads + Sync>(rt: &R, alloc: Global, canvas: &str) -> Option<(u32, u32)> {
     match backend_of(alloc, canvas) {
         Some((backend, seat)) => shared(rt, alloc, &backend, seat),

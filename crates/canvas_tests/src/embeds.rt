@@ -217,7 +217,7 @@ const PLACES: &[(u8, &str, &str)] = &[
     ),
 ];
 
-/// A place stands on the last task of a line, and its members have none yet.
+/// A place is on the last task of a line, and its members have none yet.
 #[test]
 fn places(rt: HostRuntime) {
     let wrong = first_wrong_place(rt.alloc(), PLACES);
@@ -268,7 +268,7 @@ fn code_around(alloc: Global, texts: &[&str; 3], text: &str) -> u8 {
     }
 }
 
-/// The same of a line of one element, which has so many members between these texts.
+/// Like `code_around`, for a line of one element, with `count` members between these texts.
 fn line_code(alloc: Global, texts: &[&str; 3], count: u32) -> u8 {
     match tasks(alloc, count) {
         Ok(members) => code_around(alloc, texts, &members),
@@ -307,7 +307,7 @@ fn carried(alloc: Global, bodies: u32) -> Result<String, AllocError> {
     Ok(text)
 }
 
-/// The same of so many bodies.
+/// Like `code_around`, for `bodies` bodies.
 fn reach_code(alloc: Global, texts: &[&str; 3], bodies: u32) -> u8 {
     match carried(alloc, bodies) {
         Ok(text) => code_around(alloc, texts, &text),

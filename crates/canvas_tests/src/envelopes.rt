@@ -75,7 +75,7 @@ fn decoded_code(alloc: Global, envelope: &Envelope) -> u8 {
     number_of(&decode(alloc, envelope))
 }
 
-/// The same of three texts.
+/// Like `decoded_code`, for three texts.
 pub(crate) fn code_of(alloc: Global, properties: &str, headers: &str, body: &str) -> u8 {
     match envelope(alloc, properties, headers, body) {
         Ok(envelope) => decoded_code(alloc, &envelope),
@@ -83,7 +83,7 @@ pub(crate) fn code_of(alloc: Global, properties: &str, headers: &str, body: &str
     }
 }
 
-/// The same of a call without arguments, and what goes with it.
+/// Like `code_of`, for a call without arguments, with this embed.
 pub(crate) fn embed_code(alloc: Global, headers: &str, embed: &str) -> u8 {
     match format!(in alloc; "[[],{{}},{embed}]") {
         Ok(body) => code_of(alloc, PLAIN, headers, &body),
@@ -125,7 +125,7 @@ fn has_sum(alloc: Global, envelope: &Envelope, wanted: &[usize; 4]) -> bool {
     is_read_sum(&decode(alloc, envelope), wanted)
 }
 
-/// The same of texts in the short notation.
+/// Like `has_sum`, for texts in the short notation.
 fn are_sum(alloc: Global, headers: &str, body: &str, wanted: &[usize; 4]) -> bool {
     match &envelope(alloc, PLAIN, headers, body) {
         Ok(envelope) => has_sum(alloc, envelope, wanted),
@@ -195,7 +195,7 @@ fn lengths_refused(alloc: Global, whole: &Envelope, part: Part) -> usize {
     0
 }
 
-/// The same of a sum's envelope, with the texts' lengths.
+/// Like `lengths_refused`, for a sum's envelope, with the texts' lengths.
 fn sum_refused(alloc: Global, part: Part) -> Option<(usize, usize)> {
     match envelope(alloc, PROPERTIES, HEADERS, BODY) {
         Ok(whole) => Some((
@@ -366,7 +366,7 @@ fn name_of(alloc: Global, length: u32) -> Result<String, AllocError> {
     Ok(name)
 }
 
-/// The same of a name of so many characters.
+/// Like `name_code`, for a name of `length` characters.
 fn length_code(alloc: Global, length: u32) -> u8 {
     match name_of(alloc, length) {
         Ok(name) => name_code(alloc, &name),

@@ -1,6 +1,6 @@
 //! What follows the ends of tasks in messages that no canvas gives: numbers in any order and twice,
-//! chords in raised chords, empty headers, groups behind raised tasks, immutable bodies. The
-//! messages stand in a short notation; what follows was worked out apart from this program, by
+//! chords in raised chords, empty headers, groups after raised tasks, immutable bodies. The
+//! messages are in a short notation; what follows was worked out independently of this program, by
 //! evaluating each line event by event.
 
 ghost use Rattle.std.specs.Prelude.{IfSome, All};
@@ -16,11 +16,10 @@ use canvas_task::{Arg, Fault, Kind, Outcome, TaskNo, Why};
 use std::alloc::{AllocError, Global};
 use std::test::*;
 
-/// What a sign of the notation stands for; a digit stands for itself. `i5';` is task 5, `j` an
-/// immutable one, `L..]` and `E..]` its links and error callbacks, `P1'` its group and `K` its
-/// chord's body; `G1(..)` is a group, `H1[..|..;` a chord with its header and body, `C..)` a chain.
-/// `S2` begins a body with its size, and goes on with `k`, `m`, `g`, `h` or `c` for `i`, `j`, `G`,
-/// `H` or `C`.
+/// The text of a sign of the notation; a digit is itself. `i5';` is task 5, `j` an immutable one,
+/// `L..]` and `E..]` its links and error callbacks, `P1'` its group and `K` its chord's body;
+/// `G1(..)` is a group, `H1[..|..;` a chord with its header and body, `C..)` a chain. `S2` begins a
+/// body with its size, and goes on with `k`, `m`, `g`, `h` or `c` for `i`, `j`, `G`, `H` or `C`.
 fn piece(sign: char) -> &'static str {
     match sign {
         'i' => r#"{"task":"tasks.ident","options":{"task_id":"00000000-0000-8000-8000-00000000000"#,
@@ -61,7 +60,7 @@ fn piece(sign: char) -> &'static str {
     }
 }
 
-/// Puts the JSON of a notation behind a text. A hexadecimal digit follows the signs that begin an
+/// Appends the JSON of a notation to a text. A hexadecimal digit follows the signs that begin an
 /// identifier, and `S`.
 fn push_json(text: &mut String, notation: &str) -> Result<(), AllocError> {
     let mut number = false;
@@ -91,7 +90,7 @@ fn headers_of(alloc: Global, task: &str, group: &str) -> Result<String, AllocErr
     filled(alloc, &text)
 }
 
-/// The same behind a text.
+/// Appends `before`, and then the JSON of a notation.
 fn push_behind(text: &mut String, before: &str, notation: &str) -> Result<(), AllocError> {
     text.push_str(before)?;
     push_json(text, notation)
@@ -300,7 +299,7 @@ fn follows_lent(alloc: Global, message: &Message, outcome: &Outcome, text: &str)
     }
 }
 
-/// The same where it is given up.
+/// Like `follows_lent`, if the message is consumed.
 fn follows_given(alloc: Global, message: Message, outcome: &Outcome, text: &str) -> bool
     requires { IsInRange outcome.now }
 {
@@ -349,7 +348,7 @@ fn number_of(sign: Option<char>) -> Option<TaskNo> {
     TaskNo::new(sign?.to_digit(16)?)
 }
 
-/// The outcome behind a task's number: a number from 0 to 9, a division by zero, or a header's
+/// The outcome after a task's number: a number from 0 to 9, a division by zero, or a header's
 /// failure.
 fn outcome_of(text: &str) -> Option<(TaskNo, Outcome)>
     ensures { IfSome result (λ e. IsInRange e.1) }

@@ -1,4 +1,8 @@
-//! Tests of calls and of runs. They stand here, so that no crate is proved a second time for them.
+//! Tests of calls and of runs. They are here so that no crate is proved a second time for them.
+//!
+//! What a core, a queue or a table answers on one thread is in its contract. So for these the tests
+//! are about what threads share, and about refused memory, since a contract doesn't promise that
+//! memory is there.
 #![tactic(auto)]
 
 #[cfg(test)]

@@ -3,7 +3,7 @@
 use crate::envelopes::{PLAIN, code_of};
 use std::alloc::{AllocError, Global};
 
-/// Nested lists, so many deep, between two texts.
+/// Lists nested to this depth, between two texts.
 fn nested(alloc: Global, before: &str, depth: u32, behind: &str) -> Result<String, AllocError> {
     let mut text = String::from_str(alloc, before)?;
     for _ in 0..depth {
@@ -18,7 +18,7 @@ fn nested(alloc: Global, before: &str, depth: u32, behind: &str) -> Result<Strin
 
 const HEADERS: &str = r#"{"id":"%1","task":"tasks.add"}"#;
 
-/// The number of the refusal of a body of nested lists, so many deep, between two texts.
+/// The number of the refusal of a body of lists nested to this depth, between two texts.
 fn nested_code_of(alloc: Global, before: &str, depth: u32, behind: &str) -> u8 {
     match nested(alloc, before, depth, behind) {
         Ok(body) => code_of(alloc, PLAIN, HEADERS, &body),
@@ -26,7 +26,7 @@ fn nested_code_of(alloc: Global, before: &str, depth: u32, behind: &str) -> u8 {
     }
 }
 
-/// The same of lists a hundred and two hundred deep.
+/// Like `nested_code_of`, for lists nested a hundred and two hundred deep.
 fn codes_of(alloc: Global, before: &str, behind: &str) -> [u8; 2] {
     [
         nested_code_of(alloc, before, 100, behind),

@@ -24,7 +24,7 @@ fn is_named(plan: &Plan, task: u32, name: Option<&str>) -> bool {
     }
 }
 
-/// Whether a group or chord has this size, which a group has not, and so many members.
+/// Whether a group or chord has this size, which a group has not, and this many members.
 fn is_sized(plan: &Plan, group: u32, size: Option<u32>, members: usize) -> bool {
     match GroupNo::new(group) {
         Some(group) => plan.size_of(group) == size && plan.members(group).len() == members,

@@ -216,7 +216,7 @@ fn digits<R: Wait>(
     }
 }
 
-/// The same of a queue of its own.
+/// Like `digits`, with a queue of its own.
 fn by_batch<R: Wait>(rt: &R, alloc: Global) -> Option<(u64, u64)> {
     let (broker, mut pass) = Broker::new(alloc).ok()?;
     if publishes_three(rt, alloc, &broker, &mut pass) {
@@ -361,7 +361,7 @@ fn plain_taken(broker: &mut PlainBroker<Letter>) -> u64 {
     sum
 }
 
-/// The same of the queue of one thread.
+/// Whether the queue of one thread gives the accepted envelopes, and has nothing else then.
 fn plain_holds_accepted(alloc: Global) -> bool {
     let mut broker = PlainBroker::new(alloc);
     match plain_accepted(alloc, &mut broker) {

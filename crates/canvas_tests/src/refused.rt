@@ -50,7 +50,7 @@ fn answered_of(alloc: Global, plan: &Plan, calls: Calls) -> Result<bool, Memory>
     }
 }
 
-/// The same of a chord's plan, whose messages carry its body with an error callback.
+/// Like `answered_of`, for a chord's plan, whose messages carry its body with an error callback.
 fn answered_of_chord(alloc: Global, calls: Calls) -> Result<bool, Memory> {
     match spelled_plan(alloc, &FAILING) {
         Some(plan) => answered_of(alloc, &plan, calls),

@@ -100,7 +100,7 @@ fn answer_numbers(registry: &Registry, none: &BTreeMap<String, Arg>) -> bool {
         && registry.apply("tasks.add", &numbers, none) == NOT_REGISTERED
 }
 
-/// What they answer to a list of two, alone and in front of a number.
+/// What they answer to a list of two, without and with a number after it.
 fn answer_lists(alloc: Global, registry: &Registry) -> bool {
     let none = BTreeMap::new(alloc);
     match list(alloc, &[5, 6]) {

@@ -4,8 +4,8 @@ use crate::embeds;
 use crate::envelopes::{BODY, HEADERS, PLAIN, PROPERTIES, code_of, embed_code};
 use std::alloc::Global;
 
-/// Where the texts of a table stand: as one of an envelope's three, as what goes with a call, or as
-/// the size of its chord.
+/// What the texts of a table are: one of an envelope's three, the embed of a call, or the size of
+/// its chord.
 #[derive(Clone, Copy)]
 pub(crate) enum Spot {
     Properties,

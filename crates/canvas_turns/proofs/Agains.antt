@@ -1,4 +1,4 @@
--- Of a run by turns with entries, where all have ended: how many stores answered Again.
+-- Runs by turns with entries in which all have ended: how many stores answered Again.
 use Rattle.std.proofs.Common.{◌≡◌, ◌⊎◌, ℕ, zero, suc, ◌+◌, ◌*◌, ◌≤◌, ◌<◌, Bool, true, false, cond, eqb, List, [], ◌∷◌, length, Option, Some, None, refl, sym, ap, ap₂, ◌∙◌, subst, inl, inr, ⊎_elim, eq-eqb, ne_eqb, arith}
 use Rattle.std.proofs.lemmas.Bool.{cases_eq, cases_lt, eqb-true}
 use Rattle.std.proofs.lemmas.Nat.{mul-le}
@@ -26,11 +26,11 @@ use Rattle.canvas_runs.proofs.Laws.SecondLaw.{second_part}
 use Rattle.canvas_runs.proofs.Runs.StoredOnce.{agains_task}
 use Rattle.canvas_runs.proofs.Lists.Sums.{sum_to-le, sum_to, sum_to-same, sum_to-zero, sum_to-both, total-zero, find_heavy, in_total}
 use Rattle.canvas_runs.proofs.Lists.Words.{each_append, each_from_in}
-use Rattle.canvas_turns.specs.Going.{most_steps}
-use Rattle.canvas_turns.specs.Spending.{Entry, is_for, ByEntries, RanAgain, answers_again, agains_in, IsRunTask, RunEntries, no_entry, one_run, one_idle}
+use Rattle.canvas_turns.specs.Termination.{most_steps}
+use Rattle.canvas_turns.specs.Redeliveries.{Entry, is_for, ByEntries, RanAgain, answers_again, agains_in, IsRunTask, RunEntries, no_entry, one_run, one_idle}
 use Rattle.canvas_turns.specs.TurnLaws.{ByTurns}
 use Rattle.canvas_turns.specs.Turns.{Step, IsWorker, left, holds, AllEnded, Begins, rounds, redeliveries_in}
-use Rattle.canvas_turns.proofs.Spending.{no_entries, ahead, are_turns, entries_for}
+use Rattle.canvas_turns.proofs.Redeliveries.{no_entries, ahead, are_turns, entries_for}
 use Rattle.canvas_turns.proofs.Spends.{spends_length, takes_in, agains_of, few_left, spends_agains, waiting, spends_all}
 use Rattle.canvas_turns.proofs.TurnEnds.{few}
 use Rattle.canvas_turns.proofs.TurnLaw.{the_run, the_closed, all_between, rounds_workers}

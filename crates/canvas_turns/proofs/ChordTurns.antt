@@ -339,7 +339,7 @@ stands = (
 
 -- ---- the near miss
 
--- what the first step of some turns is answered, and the turns behind it
+-- what the first step of some turns is answered, and the turns after it
 record Peeled (before : List Step) (x : Step) (xs : List Step) : Type 0 where
   pub answers : Answers builtin_tasks small 2 before x.1.0 x.1.1
   pub turns : List ℕ

@@ -15,7 +15,7 @@ use Rattle.canvas_runs.specs.declared.when.When.TheVariants.{Early, Late}
 use Rattle.canvas_runs.specs.Worker.{worker, sealed, IsReadBack, opened, known_one}
 use Rattle.canvas_runs.proofs.Envelopes.AsciiBack.{AreAscii, ascii_back}
 use Rattle.canvas_turns.specs.EntryWitness.{product, product_sum, product_whole, eight, sixty_four, both_points, product_steps, quotient, quotient_linked, no_quotient, link_entry, quotient_steps, unspent}
-use Rattle.canvas_turns.specs.Spending.{Entry, wanted, spent, point, point_of, comes_to, TurnedAgain, no_turn, skips, takes, spends, RanAgain, agains_in}
+use Rattle.canvas_turns.specs.Redeliveries.{Entry, wanted, spent, point, point_of, comes_to, TurnedAgain, no_turn, skips, takes, spends, RanAgain, agains_in}
 use Rattle.canvas_turns.specs.Turns.{Step, redelivery, left, holds, Answers, HasEnded, AllEnded, rounds}
 use Rattle.canvas_turns.proofs.Shorts.{take, publish, store, taken, sent, stored}
 use Rattle.canvas_turns.proofs.Turning.{left_delivers}

@@ -13,10 +13,10 @@ use Rattle.canvas_runs.specs.Core.{Ask, Reply, to_queue, from_queue, from_table,
 use Rattle.canvas_history.specs.Lists.{by}
 use Rattle.canvas_runs.specs.declared.when.When.TheVariants.{Early}
 use Rattle.canvas_runs.specs.Worker.{worker, opened}
-use Rattle.canvas_turns.specs.Spending.{message_in, point_of, point, comes_to}
+use Rattle.canvas_turns.specs.Redeliveries.{message_in, point_of, point, comes_to}
 use Rattle.canvas_turns.specs.TurnLaws.{ByTurns}
 use Rattle.canvas_turns.specs.Turns.{Step, left, holds}
-use Rattle.canvas_turns.proofs.Spending.{is_owning, past_settled, past_owned, handed_owning, read_owning}
+use Rattle.canvas_turns.proofs.Redeliveries.{is_owning, past_settled, past_owned, handed_owning, read_owning}
 use Rattle.canvas_turns.proofs.TurnLaw.{holds as sound}
 
 module _ (behaviour : Behaviour) (l : Line) where

@@ -15,9 +15,9 @@ use Rattle.canvas_runs.specs.declared.when.When.TheVariants.{Early, Late}
 use Rattle.canvas_runs.specs.Worker.{worker}
 use Rattle.canvas_runs.proofs.Lists.Sums.{sum_to, sum_to-same}
 use Rattle.canvas_runs.proofs.Runs.MoreAsks.{by_more, by_other, asks_of_scripts, held_append}
-use Rattle.canvas_turns.specs.Spending.{Entry, spent, point, comes_to, TurnedAgain, no_turn, skips, takes, spends}
+use Rattle.canvas_turns.specs.Redeliveries.{Entry, spent, point, comes_to, TurnedAgain, no_turn, skips, takes, spends}
 use Rattle.canvas_turns.specs.Turns.{Step, IsWorker, FirstsRead, left, holds, redelivery, Answers, redelivers_one, redeliveries_in}
-use Rattle.canvas_turns.proofs.Spending.{here, spent_some, spent_length, not_wanted, ahead, fails, one_step, redelivers, entries_for}
+use Rattle.canvas_turns.proofs.Redeliveries.{here, spent_some, spent_length, not_wanted, ahead, fails, one_step, redelivers, entries_for}
 use Rattle.canvas_turns.proofs.Turning.{left_here, left_delivers, left_other, answers_suit}
 use Rattle.canvas_turns.proofs.TurnStates.{Ready}
 use Rattle.canvas_turns.proofs.TurnSums.{in_queue}

@@ -10,7 +10,7 @@ use Rattle.canvas_history.specs.Lists.{Each}
 use Rattle.canvas_runs.proofs.Lists.Sums.{total-append}
 use Rattle.canvas_runs.proofs.Lists.Words.{each_left, each_right}
 use Rattle.canvas_runs.specs.Progress.{most_calls as of_a_run}
-use Rattle.canvas_turns.specs.Going.{most_calls, most_steps, IsFair, one_after_another}
+use Rattle.canvas_turns.specs.Termination.{most_calls, most_steps, IsFair, one_after_another}
 use Rattle.canvas_turns.specs.TurnLaws.{ByTurns}
 use Rattle.canvas_turns.specs.Turns.{Step, IsWorker, HasEnded, Turned, skips_turn, AllEnded, round, rounds, Begins, RanUntil, redeliveries_in, redelivers_one}
 use Rattle.canvas_turns.proofs.TurnLaw.{until_turns}

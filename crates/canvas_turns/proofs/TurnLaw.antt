@@ -180,7 +180,7 @@ module _ (behaviour : Behaviour) (l : Line) (n : ℕ) (us : List ℕ) (xs : List
   states_may = subst (EachMay (held_rows l xs)) its_rows
       (map_may (results_after xs).outcomes (its_state behaviour l) (rows_may behaviour l n us xs t) (numbers_from 1 (count_line l)))
 
--- ---- lists of turns with the rotation behind them
+-- ---- lists of turns with the rotation after them
 
 module _ (behaviour : Behaviour) where
   pub whole_turns : (l : Line) → IsPlan l → (n : ℕ) (ts : List ℕ) → Each (IsWorker n) ts → (r : RanWhole behaviour l n ts)

@@ -1,4 +1,4 @@
--- The histories of a run by turns: worker 0 makes the workers and publishes the first messages, and then each step that is a call stands with its worker.
+-- The histories of a run by turns: worker 0 makes the workers and publishes the first messages, and then they have each step that is a call, by its worker.
 use Rattle.std.proofs.Common.{◌≡◌, ◌≢◌, ℕ, zero, suc, ◌≤◌, true, false, ◌==◌, List, [], ◌∷◌, ◌++◌, refl, sym, ap, ◌∙◌, subst, ⊎_elim, arith}
 use Rattle.std.proofs.lemmas.Bool.{false≢true, eqb-true, eqb-false, cases_Bool}
 use Rattle.canvas_history.specs.History.{Entry, split, join, calls, among, live, live_from, state_from, Legal}

@@ -1,4 +1,4 @@
--- Of each two fair lists of turns one has a call, until all have ended.
+-- One of each two fair lists of turns has a call, until all have ended.
 use Rattle.std.proofs.Common.{◌≡◌, ◌≢◌, ◌⊎◌, ℕ, zero, suc, ◌+◌, ◌*◌, ◌≤◌, ◌||◌, Bool, true, false, cond, eqb, List, [], ◌∷◌, ◌++◌, length, Some, None, refl, sym, ap, ◌∙◌, subst, append_assoc, append-nil, inl, inr, ⊎_elim, ne_eqb, eq-eqb, arith}
 use Rattle.std.proofs.lemmas.Bool.{cases_eq, false≢true}
 use Rattle.canvas_history.proofs.Histories.{In, in_cases}
@@ -19,7 +19,7 @@ use Rattle.canvas_task.specs.Apply.{Behaviour}
 use Rattle.canvas_runs.proofs.Lists.Sums.{total-append}
 use Rattle.canvas_runs.proofs.Runs.MoreAsks.{asks_of_scripts}
 use Rattle.canvas_runs.proofs.Lists.Words.{each_append, each_left, each_weaker}
-use Rattle.canvas_turns.specs.Going.{IsFair, one_after_another}
+use Rattle.canvas_turns.specs.Termination.{IsFair, one_after_another}
 use Rattle.canvas_turns.proofs.TurnLaw.{round_workers}
 use Rattle.canvas_turns.proofs.TurnLogs.{round_has}
 use Rattle.canvas_turns.proofs.TurnStates.{Ready}
@@ -346,7 +346,7 @@ module _ (behaviour : Behaviour) (l : Line) where
     all_workers [] f = tt
     all_workers (us ∷ uss) f = each_append (IsWorker n) us (one_after_another uss) f.0.0 (all_workers uss f.1)
 
-    -- twice so many fair lists of turns have as many calls, or all have ended
+    -- 2 * m fair lists of turns have m calls, or all have ended
     pub lists_go : (m : ℕ) (uss : List (List ℕ)) → Each (IsFair n) uss → 2 * m ≤ length uss → (before ys : List Step) → Sound before
         → Turned behaviour l n before (one_after_another uss) ys → AllEnded behaviour l n (before ++ ys) ⊎ (m ≤ calls_in behaviour l ys)
     lists_go zero uss f many before ys s t = inr (omega arith)

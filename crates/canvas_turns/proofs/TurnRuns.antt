@@ -383,7 +383,7 @@ module _ (behaviour : Behaviour) (l : Line) where
 
   -- ---- the run
 
-  -- each worker follows a core run, and both histories are legal and stand for what is queued and stored
+  -- each worker follows a core run, and both histories are legal and replay to what is queued and stored
   pub record Lawful (n : ℕ) (xs : List Step) : Type 0 where
     pub core : (p : ℕ) → IsCoreRun (worker behaviour l) taking (scripts_of (by p xs))
     pub held : (p : ℕ) → DeliversHeld None (by p xs)

@@ -16,7 +16,7 @@ use Rattle.canvas_runs.specs.Tally.{publishing, returning}
 use Rattle.canvas_runs.proofs.Lists.Sums.{total-append, sum_to-le, sum_to-both, total_by}
 use Rattle.canvas_runs.proofs.Objects.CallsOf.{tag, seconds-append, calls_append, calls_splits, calls_entries, queue_append, queue_splits, queue_entries, broker_found, published_found}
 use Rattle.canvas_runs.proofs.Lists.Words.{each_weaker}
-use Rattle.canvas_turns.specs.Going.{most_calls}
+use Rattle.canvas_turns.specs.Termination.{most_calls}
 use Rattle.canvas_turns.specs.TurnLaws.{ByTurns}
 use Rattle.canvas_turns.specs.Turns.{Step, round, redelivers_one, redeliveries_in}
 use Rattle.canvas_turns.proofs.TurnLaw.{holds, the_run}

@@ -1,4 +1,4 @@
--- Runs by turns with entries: a sum and its product, whose first message is delivered again at both
+-- Runs by turns with entries: a sum and its product, whose first message is redelivered at both
 -- points, and a division by zero with a link, whose task isn't run, so that an entry for it does
 -- nothing.
 use Rattle.std.specs.Prelude.{false, List, [], ◌∷◌, Some, None, pos, codes}
@@ -18,7 +18,7 @@ use Rattle.canvas_runs.specs.Core.{rest, ack, rested, acked}
 use Rattle.canvas_runs.specs.declared.when.When.TheVariants.{Early, Late}
 use Rattle.canvas_runs.specs.Witness.{call, asks_queue, asks_table}
 use Rattle.canvas_runs.specs.Worker.{sealed}
-use Rattle.canvas_turns.specs.Spending.{Entry}
+use Rattle.canvas_turns.specs.Redeliveries.{Entry}
 use Rattle.canvas_turns.specs.Turns.{Step, redelivery}
 
 -- ---- 4 + 4, then 8 times that

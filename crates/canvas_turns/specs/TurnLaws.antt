@@ -1,4 +1,4 @@
--- What follows from taking turns: a run by turns is a run, so the law of runs speaks of it.
+-- Laws of turns: a run by turns is a run, so the law of runs speaks of it.
 use Rattle.std.specs.Prelude.{ℕ, ◌≡◌, ◌≢◌, ◌≤◌, ◌⊎◌, false, IsTrue, List, [], map, Some, None}
 use Rattle.canvas_task.specs.Apply.{AnswersInRange, IsInRange, Behaviour}
 use Rattle.canvas_task.specs.declared.outcome.Outcome.{Outcome}
@@ -28,7 +28,7 @@ pub record ByTurns (behaviour : Behaviour) (l : Line) (n : ℕ) (us : List ℕ) 
   pub workers : Each (IsWorker n) us
   pub turned : Turned behaviour l n [] us xs
 
--- the steps are those of a run, each worker's its core run, which is closed where all have ended
+-- the steps are those of a run, each worker's its core run, and it is closed if all have ended
 pub record RunOf (behaviour : Behaviour) (l : Line) (n : ℕ) (xs : List Step) : Type 0 where
   pub run : Run behaviour l
   pub core : (p : ℕ) → run.core p ≡ scripts_of (by p xs)
@@ -51,7 +51,7 @@ TurnRowsMay =
     → ((results_after xs).outcomes t ≡ None)
     ⊎ ((results_after xs).outcomes t ≡ its_state behaviour l t)
 
--- where all have ended each task has that state, and nothing is left on the queue
+-- if all have ended each task has that state, and nothing is left on the queue
 abbrev pub TurnRowsAre : Type 0
 TurnRowsAre =
     (behaviour : Behaviour) (l : Line) (n : ℕ) (us : List ℕ) (xs : List Step)
@@ -63,8 +63,8 @@ TurnsEmpty =
     (behaviour : Behaviour) (l : Line) (n : ℕ) (us : List ℕ) (xs : List Step)
     → ByTurns behaviour l n us xs → 1 ≤ n → AllEnded behaviour l n xs → queue_after l xs ≡ []
 
--- The outcomes held, task by task: the states that evaluation gives where all have ended, and these
--- or pending at any time.
+-- The outcomes held, task by task: if all have ended, the states that evaluation gives, and at any
+-- time these or pending.
 abbrev pub held_rows : Line → List Step → List State
 held_rows l xs = map (results_after xs).outcomes (numbers_from 1 (count_line l))
 
@@ -79,7 +79,7 @@ TurnStatesMay =
     (behaviour : Behaviour) (l : Line) (n : ℕ) (us : List ℕ) (xs : List Step)
     → ByTurns behaviour l n us xs → EachMay (held_rows l xs) (states behaviour (tree_of l))
 
--- a list of turns with the rotation behind it, whole or up to a number of steps, is such a run
+-- a list of turns with the rotation after it, whole or up to a number of steps, is such a run
 abbrev pub WholeTurns : Type 0
 WholeTurns =
     (behaviour : Behaviour) (l : Line) → IsPlan l → (n : ℕ) (ts : List ℕ) → Each (IsWorker n) ts
@@ -91,7 +91,7 @@ UntilTurns =
     → Each (IsWorker n) ts → (r : RanUntil behaviour l n ts most)
     → ByTurns behaviour l n r.turns r.steps
 
--- ---- what a worker asks next can be answered
+-- ---- a worker's next ask can be answered
 
 -- a store is of a task of the plan; a part is of a chord's member that is stored and not returned;
 -- a read is of a task of the plan that is stored
@@ -111,7 +111,7 @@ NextAnswerable =
     → (p : ℕ) → IsWorker n p
     → Answerable (roster_of l) xs (ask (worker behaviour l) (left behaviour l xs p))
 
--- where what calls answer is in range, every outcome held is
+-- if calls answer numbers in range, every outcome held is in range
 abbrev pub HeldInRange : Type 0
 HeldInRange =
     (behaviour : Behaviour) → AnswersInRange behaviour

@@ -1,5 +1,5 @@
 -- A run by turns with a chord in it: two sums and the sum of both, by two workers that take
--- fourteen turns from a list and two rounds behind it.
+-- fourteen turns from a list and two rounds after it.
 use Rattle.std.specs.Prelude.{ℕ, false, List, [], ◌∷◌, Some, None}
 use Rattle.canvas_history.specs.declared.stored.Stored.TheVariants.{First}
 use Rattle.canvas_history.specs.Table.{store, part, read, was, count, found}
@@ -26,8 +26,8 @@ witness_steps =
     ∷ (1, (ack, acked)) ∷ (1, asks_queue take None) ∷ (2, asks_queue take None)
     ∷ (1, (rest, rested false)) ∷ (2, (rest, rested false)) ∷ []
 
--- ---- a near miss: the second worker is told that nothing more will come, while the first is
--- inside the script of the second sum
+-- ---- a near miss: the second worker's rest is answered with no more, while the first is inside
+-- the script of the second sum
 
 abbrev pub hasty : List Step
 hasty =

@@ -8,16 +8,16 @@
 --                                                open script, what is queued and what is stored
 --                                                after these steps
 --     Answers n before a r    the reply r to the ask a is what the queue and the table say at that
---                             time; a worker that asks whether there will be more to do is told so
---                             while something is queued or some worker is inside the script of a
---                             message
+--                             time; the rest of a worker is answered with more while something is
+--                             queued or some worker is inside the script of a message, and else
+--                             with no more
 --     Turned n before us xs    after the steps before, the turns us are taken, and the steps xs are
 --                              those that they make
 --     AllEnded n before   after these steps no worker asks for anything more
 --     RanWhole n ts       the turns of the list and then as many rounds as it takes until all have
 --                         ended
---     RanUntil n ts steps    the turns of the list, and then turns in rotation, up to so many
---                            steps, with some worker that has not ended
+--     RanUntil n ts steps    the turns of the list, and then turns in rotation, up to this number
+--                            of steps, with some worker that has not ended
 use Rattle.std.specs.Prelude.{ℕ, zero, suc, ◌≡◌, ◌≤◌, ◌||◌, Bool, true, false, List, [], ◌∷◌, ◌++◌, map, length, Option, Some, None}
 use Rattle.canvas_task.specs.Apply.{Behaviour}
 use Rattle.canvas_semantics.specs.Line.{Line}
@@ -54,7 +54,7 @@ abbrev pub results_from : Results → List Step → Results
 results_from s [] = s
 results_from s (x ∷ xs) = results_from (results_next s x.1.0) xs
 
--- with the table empty at first
+-- the table is empty at first
 abbrev pub results_after : List Step → Results
 results_after before = results_from no_results before
 
@@ -66,7 +66,7 @@ is_queued (e ∷ es) = true
 abbrev pub holds : List Step → ℕ → Option Envelope
 holds before p = held_after None (by p before)
 
--- the worker's envelope is delivered again
+-- the worker's envelope is redelivered
 abbrev pub redelivery : ℕ → Envelope → Step
 redelivery p e = (p, (to_queue (queue.redeliver e), from_queue None))
 
@@ -78,7 +78,7 @@ redelivers_one a = 0
 abbrev pub redeliveries_in : List Step → ℕ
 redeliveries_in xs = total (λ x. redelivers_one x.1.0) xs
 
--- how many workers a run may have
+-- the most workers that a run may have
 abbrev pub most_workers : ℕ
 most_workers = 16
 
@@ -87,7 +87,7 @@ abbrev pub IsWorker : ℕ → ℕ → Type 0
 IsWorker n p = (1 ≤ p) × (p ≤ n)
 
 module _ (l : Line) where
-  -- with the first messages queued at first
+  -- the first messages are queued at first
   abbrev pub queue_after : List Step → List Envelope
   queue_after before = queue_from (map sealed (first_messages l)) before
 
@@ -119,9 +119,9 @@ module _ (behaviour : Behaviour) (l : Line) where
   abbrev pub HasEnded : List Step → ℕ → Type 0
   HasEnded before p = ask (worker behaviour l) (left before p) ≡ end
 
-  -- Steps before, turns, the steps that the turns make. An envelope that is sent reads back as its
-  -- message. Before a step of its turn a worker may have the envelope of its open script delivered
-  -- again.
+  -- The arguments are the steps before, the turns, and the steps that the turns make. An envelope
+  -- that is sent reads back as its message. Before a step of its turn a worker may redeliver the
+  -- envelope of its open script.
   pub data Turned (n : ℕ) : List Step → List ℕ → List Step → Type 0 where
     all_taken : {before : List Step} → Turned n before [] []
     skips_turn : {before : List Step} {p : ℕ} {us : List ℕ} {xs : List Step} → HasEnded before p
@@ -139,7 +139,7 @@ module _ (behaviour : Behaviour) (l : Line) where
   abbrev pub AllEnded : ℕ → List Step → Type 0
   AllEnded n before = (p : ℕ) → IsWorker n p → HasEnded before p
 
--- the numbers 1 to n, and so many times
+-- the numbers 1 to n, and these several times
 abbrev pub round : ℕ → List ℕ
 round zero = []
 round (suc n) = round n ++ suc n ∷ []
@@ -148,7 +148,7 @@ abbrev pub rounds : ℕ → ℕ → List ℕ
 rounds n zero = []
 rounds n (suc k) = round n ++ rounds n k
 
--- the turns so far are the first of the list's and then those in rotation
+-- the turns so far are the first of the list's, and then those in rotation
 abbrev pub Begins : List ℕ → List ℕ → ℕ → Type 0
 Begins us ts n = (k : ℕ) × (rest : List ℕ) × (us ++ rest ≡ ts ++ rounds n k)
 
@@ -169,7 +169,7 @@ pub record RanUntil (behaviour : Behaviour) (l : Line) (n : ℕ) (ts : List ℕ)
   pub steps : List Step
   pub turned : Turned behaviour l n [] turns steps
   pub many : length steps ≡ most
-  -- nothing was delivered again
+  -- nothing was redelivered
   pub plain : redeliveries_in steps ≡ 0
   -- a worker that has not ended
   pub going : ℕ

@@ -9,7 +9,13 @@ use Rattle.canvas_values.specs.declared.node.Node as node
 use Rattle.canvas_values.specs.declared.node.Node.{Node, Chain, Group, Chord}
 
 pub task_seen : (s : TaskSig)
-    → task_view s ≡ task 0 (record { name = (out-TaskSig s).name; args = (out-TaskSig s).args; kwargs = (out-TaskSig s).kwargs; immutable = (out-TaskSig s).immutable })
+    → task_view s ≡ task 0 (record {
+      name = (out-TaskSig s).name;
+      args = (out-TaskSig s).args;
+      kwargs = (out-TaskSig s).kwargs;
+      immutable =
+          (out-TaskSig s).immutable;
+    })
     (tasks_of (map task_view (out-TaskSig s).links)) (tasks_of (map task_view (out-TaskSig s).errbacks))
 task_seen s = sig.fold_out-TaskSig Task task_step s
 

@@ -24,8 +24,8 @@ use Rattle.canvas_warning.specs.Parameters.{Blamed, fits, wrong_with, or_next, f
 use Rattle.canvas_warning.specs.ParameterLaws.{EachTypeErrorHasItsCause, BlamesTheSameWhateverComes, NamesATask}
 use Rattle.canvas_warning.specs.declared.parameter.Wrong.{Wrong}
 use Rattle.canvas_warning.specs.declared.parameter.Wrong.TheVariants.{OtherKind}
-use Rattle.canvas_warning.specs.declared.stand.Input.{Input}
-use Rattle.canvas_warning.specs.declared.stand.Input.TheVariants.{Nothing, Number, Numbers, Identifier}
+use Rattle.canvas_warning.specs.declared.position.Input.{Input}
+use Rattle.canvas_warning.specs.declared.position.Input.TheVariants.{Nothing, Number, Numbers, Identifier}
 use Rattle.canvas_warning.proofs.Rules.{bad, bad_without, fits_fine, meant_filled}
 use Rattle.canvas_warning.proofs.Inputs.{some_task_named}
 

@@ -17,8 +17,8 @@ use Rattle.canvas_semantics.specs.Tree.{Call}
 use Rattle.canvas_semantics.specs.Evaluation.{Flow, nothing, num, list, id, skip, raised, value}
 use Rattle.canvas_warning.specs.Calls.{is_type_error, is_unknown_outcome, some_task, fails_behind}
 use Rattle.canvas_warning.specs.BuiltinLaws.{IsUnknownToAll, FailsWhateverComes, kind_of}
-use Rattle.canvas_warning.specs.declared.stand.Input.{Input}
-use Rattle.canvas_warning.specs.declared.stand.Input.TheVariants.{Nothing, Number, Numbers, Identifier}
+use Rattle.canvas_warning.specs.declared.position.Input.{Input}
+use Rattle.canvas_warning.specs.declared.position.Input.TheVariants.{Nothing, Number, Numbers, Identifier}
 use Rattle.canvas_warning.proofs.Rules.{bad, fits_fine}
 
 -- ---- names

@@ -8,14 +8,14 @@ use Rattle.canvas_values.specs.declared.task_sig.TaskSig.{TaskSig, out-TaskSig}
 use Rattle.canvas_values.specs.declared.node.Node.{Node}
 use Rattle.canvas_values.proofs.Views.{task_seen}
 use Rattle.canvas_warning.specs.Calls.{expected}
-use Rattle.canvas_warning.specs.Standing.{before, behind, of_callback}
+use Rattle.canvas_warning.specs.Positions.{before, behind, of_callback}
 use Rattle.canvas_warning.specs.Foreseen.{of_task, task_told, tasks_told, told, elements_told, out_of, out_of_each, trees_count, tasks_count}
 use Rattle.canvas_warning.specs.declared.forecast.Forecast.{Forecast}
-use Rattle.canvas_warning.specs.declared.stand.Stand.{Stand}
-use Rattle.canvas_warning.specs.declared.stand.Input.{Input}
-use Rattle.canvas_warning.specs.declared.stand.Input.TheVariants.{Number, Identifier}
+use Rattle.canvas_warning.specs.declared.position.Position.{Position}
+use Rattle.canvas_warning.specs.declared.position.Input.{Input}
+use Rattle.canvas_warning.specs.declared.position.Input.TheVariants.{Number, Identifier}
 
-pub task_is : (b : Behaviour) (t : TaskSig) (s : Stand)
+pub task_is : (b : Behaviour) (t : TaskSig) (s : Position)
     → task_told b (task_view t) s
     ≡ of_task (expected b (its_call (task_view t)) s.input) (tasks_count (tasks_of (map task_view (out-TaskSig t).errbacks))) s
     ∷ tasks_told b (tasks_of (map task_view (out-TaskSig t).links)) (of_callback Number)
@@ -47,31 +47,31 @@ two before x ys zs ys' zs' a b ha hb hy hz =
 
 -- ---- one element, and then the others
 
-elements_are : (b : Behaviour) (n : Node) (rest : List Node) (s : Stand) (k : ℕ) → k ≡ length rest
+elements_are : (b : Behaviour) (n : Node) (rest : List Node) (s : Position) (k : ℕ) → k ≡ length rest
     → elements_told b (trees_of (map view (n ∷ rest))) s
     ≡ told b (view n) (before k s) ++ elements_told b (trees_of (map view rest)) (behind (out_of (view n) s.input) s)
 elements_are b n rest s k h =
     ap (λ m. told b (view n) (before m s) ++ elements_told b (trees_of (map view rest)) (behind (out_of (view n) s.input) s))
     (counted rest ∙ sym h)
 
-next_stand : (n : Node) (here at next : Stand) (k : ℕ) (o : Input) → at ≡ before k here → o ≡ out_of (view n) at.input
+next_position : (n : Node) (here at next : Position) (k : ℕ) (o : Input) → at ≡ before k here → o ≡ out_of (view n) at.input
     → next ≡ behind o here → next ≡ behind (out_of (view n) here.input) here
-next_stand n here at next k o ha ho hn = hn ∙ ap (λ i. behind i here) (ho ∙ ap (λ s. out_of (view n) s.input) ha)
+next_position n here at next k o ha ho hn = hn ∙ ap (λ i. behind i here) (ho ∙ ap (λ s. out_of (view n) s.input) ha)
 
-pub step_told : (b : Behaviour) (l p : List Forecast) (n : Node) (ns rest : List Node) (here at next : Stand) (k : ℕ) (o : Input)
+pub step_told : (b : Behaviour) (l p : List Forecast) (n : Node) (ns rest : List Node) (here at next : Position) (k : ℕ) (o : Input)
     → ns ≡ n ∷ rest → k ≡ length rest → at ≡ before k here → o ≡ out_of (view n) at.input → next ≡ behind o here
     → p ≡ l ++ told b (view n) at
     → p ++ elements_told b (trees_of (map view rest)) next ≡ l ++ elements_told b (trees_of (map view ns)) here
 step_told b l p n ns rest here at next k o hns hk ha ho hn hp =
-    let E : List Node → Stand → List Forecast = λ xs s. elements_told b (trees_of (map view xs)) s in
+    let E : List Node → Position → List Forecast = λ xs s. elements_told b (trees_of (map view xs)) s in
     ap (λ w. w ++ E rest next) hp ∙ append_assoc l (told b (view n) at) (E rest next)
     ∙ ap (λ w. l ++ w) (ap (λ s. told b (view n) s ++ E rest next) ha
-    ∙ ap (λ s. told b (view n) (before k here) ++ E rest s) (next_stand n here at next k o ha ho hn)
+    ∙ ap (λ s. told b (view n) (before k here) ++ E rest s) (next_position n here at next k o ha ho hn)
     ∙ sym (elements_are b n rest here k hk) ∙ ap (λ xs. E xs here) (sym hns))
 
-pub step_out : (n : Node) (ns rest : List Node) (here at next : Stand) (k : ℕ) (o : Input)
+pub step_out : (n : Node) (ns rest : List Node) (here at next : Position) (k : ℕ) (o : Input)
     → ns ≡ n ∷ rest → at ≡ before k here → o ≡ out_of (view n) at.input → next ≡ behind o here
     → out_of_each (trees_of (map view rest)) next.input ≡ out_of_each (trees_of (map view ns)) here.input
 step_out n ns rest here at next k o hns ha ho hn =
-    ap (λ s. out_of_each (trees_of (map view rest)) s.input) (next_stand n here at next k o ha ho hn)
+    ap (λ s. out_of_each (trees_of (map view rest)) s.input) (next_position n here at next k o ha ho hn)
     ∙ ap (λ xs. out_of_each (trees_of (map view xs)) here.input) (sym hns)

@@ -6,8 +6,8 @@ use Rattle.canvas_task.specs.declared.arg.Arg.{Arg}
 use Rattle.canvas_semantics.specs.Tree.{Call}
 use Rattle.canvas_semantics.specs.Evaluation.{Flow, nothing, num, list, id, skip, raised, arguments}
 use Rattle.canvas_warning.specs.Calls.{is_type_error, is_unknown_outcome, is_unknown, taken, fails_behind}
-use Rattle.canvas_warning.specs.declared.stand.Input.{Input}
-use Rattle.canvas_warning.specs.declared.stand.Input.TheVariants.{Nothing, Number, Numbers, Identifier}
+use Rattle.canvas_warning.specs.declared.position.Input.{Input}
+use Rattle.canvas_warning.specs.declared.position.Input.TheVariants.{Nothing, Number, Numbers, Identifier}
 
 -- a name that no task answers to without arguments is unknown for all arguments
 abbrev pub IsUnknownToAll : Type 0

@@ -13,8 +13,8 @@ use Rattle.canvas_task.specs.declared.outcome.Outcome.TheVariants.{Failure}
 use Rattle.canvas_semantics.specs.Tree.{Call}
 use Rattle.canvas_warning.specs.declared.forecast.Expected.{Expected}
 use Rattle.canvas_warning.specs.declared.forecast.Expected.TheVariants.{Answer, Unknown, TypeError}
-use Rattle.canvas_warning.specs.declared.stand.Input.{Input}
-use Rattle.canvas_warning.specs.declared.stand.Input.TheVariants.{Nothing, Number, Numbers, Identifier}
+use Rattle.canvas_warning.specs.declared.position.Input.{Input}
+use Rattle.canvas_warning.specs.declared.position.Input.TheVariants.{Nothing, Number, Numbers, Identifier}
 
 abbrev pub is_type_error : Outcome → Bool
 is_type_error (Failure (Plain BadCall)) = true

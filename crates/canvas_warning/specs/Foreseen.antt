@@ -5,13 +5,13 @@ use Rattle.std.specs.Prelude.{ℕ, zero, suc, Bool, true, false, not, ◌&&◌, 
 use Rattle.canvas_task.specs.Apply.{Behaviour}
 use Rattle.canvas_semantics.specs.Tree.{Task, task, Tasks, no_tasks, and_task, Tree, one, chain, group, chord, Trees, no_trees, and_tree}
 use Rattle.canvas_warning.specs.Calls.{expected}
-use Rattle.canvas_warning.specs.Standing.{start, before, of_elements, behind, of_member, of_body, of_callback}
+use Rattle.canvas_warning.specs.Positions.{start, before, of_elements, behind, of_member, of_body, of_callback}
 use Rattle.canvas_warning.specs.declared.forecast.Expected.{Expected}
 use Rattle.canvas_warning.specs.declared.forecast.Expected.TheVariants.{Answer, Unknown}
 use Rattle.canvas_warning.specs.declared.forecast.Forecast.{Forecast}
-use Rattle.canvas_warning.specs.declared.stand.Input.{Input}
-use Rattle.canvas_warning.specs.declared.stand.Input.TheVariants.{Number, Numbers, Identifier}
-use Rattle.canvas_warning.specs.declared.stand.Stand.{Stand}
+use Rattle.canvas_warning.specs.declared.position.Input.{Input}
+use Rattle.canvas_warning.specs.declared.position.Input.TheVariants.{Number, Numbers, Identifier}
+use Rattle.canvas_warning.specs.declared.position.Position.{Position}
 
 -- ---- outputs
 
@@ -47,7 +47,7 @@ is_unknown_call Unknown = true
 is_unknown_call e = false
 
 -- A task with n error callbacks. A body that something follows is the first of several tasks.
-abbrev pub of_task : Expected → ℕ → Stand → Forecast
+abbrev pub of_task : Expected → ℕ → Position → Forecast
 of_task e n s =
     record (of_call e) {
       has_no_identifier = s.is_body && s.is_followed;
@@ -56,12 +56,12 @@ of_task e n s =
     }
 
 -- a chain, which as a body is never stored: nothing gives it an identifier
-abbrev pub of_chain : Stand → Forecast
+abbrev pub of_chain : Position → Forecast
 of_chain s = record (of_call Answer) { has_no_identifier = s.is_body }
 
 -- A group of n members. Celery replaces a group of one in the middle of a chain by its member. A
 -- group that something follows is a chord.
-abbrev pub of_group : ℕ → Stand → Forecast
+abbrev pub of_group : ℕ → Position → Forecast
 of_group n s =
     record (of_call Answer) {
       is_left_pending = s.is_behind_task && nat_lt 1 n;
@@ -73,7 +73,7 @@ of_group n s =
     }
 
 -- a chord with n members in its header
-abbrev pub of_chord : ℕ → Stand → Forecast
+abbrev pub of_chord : ℕ → Position → Forecast
 of_chord n s =
     record (of_call Answer) {
       is_left_pending = s.is_behind_task;
@@ -95,17 +95,17 @@ module _ (behaviour : Behaviour) where
   -- a task, its links, whose input is its result, and its error callbacks, whose input is its
   -- identifier
   abbrev mutual
-    pub task_told : Task → Stand → List Forecast
+    pub task_told : Task → Position → List Forecast
     task_told (task k call links errbacks) s =
         of_task (expected behaviour call s.input) (tasks_count errbacks) s
         ∷ tasks_told links (of_callback Number) ++ tasks_told errbacks (of_callback Identifier)
 
-    pub tasks_told : Tasks → Stand → List Forecast
+    pub tasks_told : Tasks → Position → List Forecast
     tasks_told no_tasks s = []
     tasks_told (and_task t ts) s = task_told t s ++ tasks_told ts s
 
   abbrev mutual
-    pub told : Tree → Stand → List Forecast
+    pub told : Tree → Position → List Forecast
     told (one t) s = task_told t s
     told (chain ts) s = of_chain s ∷ elements_told ts (of_elements s)
     told (group g ms) s =
@@ -114,12 +114,12 @@ module _ (behaviour : Behaviour) where
         of_chord (trees_count h) s
         ∷ members_told h (of_member true s) ++ told b (of_body (trees_count h) s)
 
-    pub elements_told : Trees → Stand → List Forecast
+    pub elements_told : Trees → Position → List Forecast
     elements_told no_trees s = []
     elements_told (and_tree t ts) s =
         told t (before (trees_count ts) s) ++ elements_told ts (behind (out_of t s.input) s)
 
-    pub members_told : Trees → Stand → List Forecast
+    pub members_told : Trees → Position → List Forecast
     members_told no_trees s = []
     members_told (and_tree t ts) s = told t s ++ members_told ts s
 

@@ -1,5 +1,5 @@
 pub mod Calls
-pub mod Standing
+pub mod Positions
 pub mod Foreseen
 pub mod BuiltinLaws
 pub mod Parameters

@@ -12,7 +12,7 @@ use Rattle.canvas_semantics.specs.Evaluation.{Flow, nothing, num, list, id, skip
 use Rattle.canvas_warning.specs.Calls.{is_type_error, taken}
 use Rattle.canvas_warning.specs.Parameters.{at_fault, blamed}
 use Rattle.canvas_warning.specs.BuiltinLaws.{kind_of}
-use Rattle.canvas_warning.specs.declared.stand.Input.{Input}
+use Rattle.canvas_warning.specs.declared.position.Input.{Input}
 
 abbrev pub has_too_many : Builtin → List Arg → Bool
 has_too_many task args = nat_lt (length (parameters task)) (length args)

@@ -15,8 +15,8 @@ use Rattle.canvas_task.specs.declared.builtin.Builtin.{Builtin}
 use Rattle.canvas_warning.specs.Calls.{some_task}
 use Rattle.canvas_warning.specs.declared.parameter.Wrong.{Wrong}
 use Rattle.canvas_warning.specs.declared.parameter.Wrong.TheVariants.{NoParameter, Missing, Twice, OtherKind}
-use Rattle.canvas_warning.specs.declared.stand.Input.{Input}
-use Rattle.canvas_warning.specs.declared.stand.Input.TheVariants.{Nothing, Number, Numbers, Identifier}
+use Rattle.canvas_warning.specs.declared.position.Input.{Input}
+use Rattle.canvas_warning.specs.declared.position.Input.TheVariants.{Nothing, Number, Numbers, Identifier}
 
 -- the name of a parameter, and its fault
 abbrev pub Blamed : Type 0

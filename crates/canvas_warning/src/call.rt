@@ -2,7 +2,7 @@
 
 ghost use Rattle.std.specs.Prelude.{◌≡◌, ◌∷◌, [], pos, IfOk};
 ghost use Rattle.canvas_task.specs.declared.arg.Arg.TheVariants.{Num, List, Text};
-ghost use Rattle.canvas_warning.specs.declared.stand.Input.TheVariants.{Number, Numbers};
+ghost use Rattle.canvas_warning.specs.declared.position.Input.TheVariants.{Number, Numbers};
 ghost use Rattle.canvas_values.specs.SignatureView.{task_view};
 ghost use Rattle.canvas_warning.specs.Calls.{is_type_error, is_unknown_outcome, is_unknown, takes, takes_some, some_task, fails, fails_behind, taken, expected};
 ghost use Rattle.canvas_values.specs.ComposedRefusals.{its_call};

@@ -4,7 +4,7 @@ ghost use Rattle.std.specs.Prelude.{◌≡◌, IfOk};
 ghost use Rattle.canvas_warning.specs.Foreseen.{forecasts};
 
 use crate::Forecast;
-use crate::stand::Stand;
+use crate::position::Position;
 use crate::walk::push_node;
 use canvas_task::{Memory, Tasks};
 use canvas_values::Canvas;
@@ -25,6 +25,6 @@ pub fn forecasts<T: Tasks>(
         (λ found. found.items ≡ forecasts (T.behaviour tasks.now) canvas.now) }
 {
     let mut found = Vec::new(alloc);
-    let _out = push_node(alloc, tasks, canvas.node(), Stand::start(), &mut found)?;
+    let _out = push_node(alloc, tasks, canvas.node(), Position::start(), &mut found)?;
     Ok(found)
 }

@@ -9,7 +9,7 @@ mod foreseeing;
 mod laws;
 mod listing;
 mod parameter;
-mod stand;
+mod position;
 mod walk;
 
 pub use blaming::blamed;
@@ -18,4 +18,4 @@ pub use foreseeing::forecasts;
 pub use laws::{law_of_builtin_forecasts, law_of_parameters};
 pub use listing::tasks_in;
 pub use parameter::{Blame, Wrong};
-pub use stand::Input;
+pub use position::Input;

@@ -5,7 +5,7 @@ ghost use Rattle.canvas_values.specs.SignatureView.{view, task_view, tasks_of, t
 ghost use Rattle.canvas_warning.specs.Foreseen.{task_told, tasks_told, told, elements_told, members_told, out_of, out_of_each, trees_count, tasks_count};
 
 use crate::call::expected;
-use crate::stand::Stand;
+use crate::position::Position;
 use crate::{Forecast, Input};
 use canvas_task::Tasks;
 use canvas_values::{Node, TaskSig};
@@ -26,26 +26,26 @@ fn push_task<T: Tasks>(
     alloc: Global,
     tasks: &T,
     sig: &TaskSig,
-    stand: Stand,
+    position: Position,
     found: &mut Vec<Forecast>,
 ) -> Result<(), AllocError>
     ensures { OnOk result (found.new.items
-        ≡ found.old.items ++ task_told (T.behaviour tasks.now) (task_view sig.now) stand) }
+        ≡ found.old.items ++ task_told (T.behaviour tasks.now) (task_view sig.now) position) }
 {
-    let call = expected(alloc, tasks, sig, stand.input)?;
-    found.push(stand.of_task(call, count_tasks(sig.errbacks.get())))?;
+    let call = expected(alloc, tasks, sig, position.input)?;
+    found.push(position.of_task(call, count_tasks(sig.errbacks.get())))?;
     push_tasks(
         alloc,
         tasks,
         sig.links.get(),
-        Stand::of_callback(Input::Number),
+        Position::of_callback(Input::Number),
         found,
     )?;
     push_tasks(
         alloc,
         tasks,
         sig.errbacks.get(),
-        Stand::of_callback(Input::Identifier),
+        Position::of_callback(Input::Identifier),
         found,
     )
 }
@@ -55,14 +55,14 @@ fn push_tasks<T: Tasks>(
     alloc: Global,
     tasks: &T,
     sigs: &[TaskSig],
-    stand: Stand,
+    position: Position,
     found: &mut Vec<Forecast>,
 ) -> Result<(), AllocError>
     ensures { OnOk result (found.new.items ≡ found.old.items
-        ++ tasks_told (T.behaviour tasks.now) (tasks_of (map task_view sigs.now)) stand) }
+        ++ tasks_told (T.behaviour tasks.now) (tasks_of (map task_view sigs.now)) position) }
 {
     for sig in sigs {
-        push_task(alloc, tasks, sig, stand, found)?;
+        push_task(alloc, tasks, sig, position, found)?;
     }
     Ok(())
 }
@@ -81,38 +81,38 @@ pub(crate) fn push_node<T: Tasks>(
     alloc: Global,
     tasks: &T,
     node: &Node,
-    stand: Stand,
+    position: Position,
     found: &mut Vec<Forecast>,
 ) -> Result<Input, AllocError>
     ensures told { OnOk result (found.new.items
-        ≡ found.old.items ++ told (T.behaviour tasks.now) (view node.now) stand) }
-    ensures out { IfOk result (λ i. i ≡ out_of (view node.now) stand.input) }
+        ≡ found.old.items ++ told (T.behaviour tasks.now) (view node.now) position) }
+    ensures out { IfOk result (λ i. i ≡ out_of (view node.now) position.input) }
 {
     match node {
         Node::Task(sig) => {
-            push_task(alloc, tasks, sig, stand, found)?;
+            push_task(alloc, tasks, sig, position, found)?;
             Ok(Input::Number)
         }
         Node::Chain(nodes) => {
-            found.push(stand.of_chain())?;
-            push_elements(alloc, tasks, nodes.get(), stand.of_elements(), found)
+            found.push(position.of_chain())?;
+            push_elements(alloc, tasks, nodes.get(), position.of_elements(), found)
         }
         Node::Group(nodes) => {
-            found.push(stand.of_group(count(nodes.get())))?;
+            found.push(position.of_group(count(nodes.get())))?;
             push_members(
                 alloc,
                 tasks,
                 nodes.get(),
-                stand.of_member(stand.is_followed),
+                position.of_member(position.is_followed),
                 found,
             )?;
             Ok(Input::Numbers)
         }
         Node::Chord { header, body } => {
             let members = count(header.get());
-            found.push(stand.of_chord(members))?;
-            push_members(alloc, tasks, header.get(), stand.of_member(true), found)?;
-            push_node(alloc, tasks, body, stand.of_body(members), found)
+            found.push(position.of_chord(members))?;
+            push_members(alloc, tasks, header.get(), position.of_member(true), found)?;
+            push_node(alloc, tasks, body, position.of_body(members), found)
         }
     }
 }
@@ -123,14 +123,15 @@ fn push_elements<T: Tasks>(
     alloc: Global,
     tasks: &T,
     nodes: &[Node],
-    stand: Stand,
+    position: Position,
     found: &mut Vec<Forecast>,
 ) -> Result<Input, AllocError>
     ensures told { OnOk result (found.new.items ≡ found.old.items
-        ++ elements_told (T.behaviour tasks.now) (trees_of (map view nodes.now)) stand) }
-    ensures out { IfOk result (λ i. i ≡ out_of_each (trees_of (map view nodes.now)) stand.input) }
+        ++ elements_told (T.behaviour tasks.now) (trees_of (map view nodes.now)) position) }
+    ensures out { IfOk result
+        (λ i. i ≡ out_of_each (trees_of (map view nodes.now)) position.input) }
 {
-    let mut here = stand;
+    let mut here = position;
     let mut left = nodes.len();
     for node in nodes {
         left -= 1;
@@ -145,14 +146,14 @@ fn push_members<T: Tasks>(
     alloc: Global,
     tasks: &T,
     nodes: &[Node],
-    stand: Stand,
+    position: Position,
     found: &mut Vec<Forecast>,
 ) -> Result<(), AllocError>
     ensures { OnOk result (found.new.items ≡ found.old.items
-        ++ members_told (T.behaviour tasks.now) (trees_of (map view nodes.now)) stand) }
+        ++ members_told (T.behaviour tasks.now) (trees_of (map view nodes.now)) position) }
 {
     for node in nodes {
-        push_node(alloc, tasks, node, stand, found)?;
+        push_node(alloc, tasks, node, position, found)?;
     }
     Ok(())
 }

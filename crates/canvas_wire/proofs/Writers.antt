@@ -74,7 +74,13 @@ task_parts k call links errbacks = simp append_assoc
 pub task_tokens : (s : TaskSig) → data_tokens (task_wire (task_view s))
     ≡ parts (out-TaskSig s).args (out-TaskSig s).immutable (out-TaskSig s).kwargs (links_wire (task_view s)) (errbacks_wire (task_view s)) (out-TaskSig s).name
 task_tokens s =
-    let call : Call = record { name = (out-TaskSig s).name; args = (out-TaskSig s).args; kwargs = (out-TaskSig s).kwargs; immutable = (out-TaskSig s).immutable } in
+    let call : Call = record {
+      name = (out-TaskSig s).name;
+      args = (out-TaskSig s).args;
+      kwargs = (out-TaskSig s).kwargs;
+      immutable =
+          (out-TaskSig s).immutable;
+    } in
     ap (λ t. data_tokens (task_wire t)) (task_seen s) ∙ task_parts 0 call _ _
     ∙ ap (λ t. parts call.args call.immutable call.kwargs (links_wire t) (errbacks_wire t) call.name) (sym (task_seen s))
 

@@ -1,4 +1,4 @@
--- The words that stand for the program's commands.
+-- The names of the program's commands.
 use Rattle.std.specs.Prelude.{ℕ, List, codes}
 use Rattle.canvas_words.specs.declared.subcommand.Subcommand.{Subcommand}
 use Rattle.canvas_words.specs.declared.subcommand.Subcommand.TheVariants.{Run, Turns, Normal, Check, Adapt, Graph, Page, Messages, Export, Keys, Collect}

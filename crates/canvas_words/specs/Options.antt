@@ -1,5 +1,5 @@
 -- The words of the program: its commands, and the options of each, as the crate `clap` reads words
--- by them (clap_builder 4.6.7: what a word is and what a command's matches are, `subcommand_of`).
+-- (clap_builder 4.6.7: what a word is and what a command's matches are, `subcommand_of`).
 use Rattle.std.specs.Prelude.{◌≡◌, ◌≢◌, ℕ, List, [], ◌∷◌, Option, Some, None, map, true, false, codes, if◌then◌else◌}
 use Rattle.std.specs.Str.{bytes_eq}
 use Rattle.clap.specs.Simple.{App, Shape, new_rule, new_shape, subcommand_of}
@@ -14,7 +14,7 @@ use Rattle.canvas_words.specs.declared.subcommand.Subcommand.TheVariants.{Run, T
 
 -- ---- kinds of options
 
--- the word without a name: it has to be there
+-- the word without a name: it is required
 abbrev pub file : Rule
 file = record (new_rule (codes "FILE")) { required = true }
 
@@ -26,15 +26,15 @@ flag name = record (new_rule name) { long = Some name; action = Some SetTrue }
 abbrev pub text : List ℕ → Rule
 text name = record (new_rule name) { long = Some name; value_names = 1 }
 
--- the same as often as it is given
+-- like `text`, but may be given several times
 abbrev pub texts : List ℕ → Rule
 texts name = record (text name) { action = Some Append }
 
--- `--NAME N`, a whole number between two
+-- `--NAME N`, a whole number from `least` to `most`
 abbrev pub number : List ℕ → (least most : ℕ) → Rule
 number name least most = record (text name) { parser = Some (Unsigned least most) }
 
--- where it isn't given it is this
+-- if it isn't given it is this
 abbrev pub or_else : List ℕ → Rule → Rule
 or_else value r = record r { defaults = value ∷ [] }
 
@@ -130,7 +130,7 @@ abbrev pub first_word : List (List ℕ) → List ℕ
 first_word [] = []
 first_word (w ∷ ws) = w
 
--- The parser is given the command that the first word names, or all where it names none.
+-- The parser gets the command that the first word names, or all if it names none.
 abbrev pub offered : Option Subcommand → List Subcommand
 offered (Some c) = c ∷ []
 offered None = all
@@ -142,6 +142,6 @@ program_for words = program (offered (named_among all (first_word words)))
 abbrev pub IsAsked : List (List ℕ) → Subcommand → List Row → Type 0
 IsAsked words c given = subcommand_of (program_for words) words ≡ Some (command_name c, given)
 
--- what the parser says that is no answer: neither help nor the version
+-- an error of the parser: neither help nor the version
 abbrev pub IsMistake : ErrorKind → Type 0
 IsMistake kind = (kind ≢ DisplayHelp) × (kind ≢ DisplayVersion)

@@ -10,17 +10,17 @@ use clap::builder::ValueParser;
 use clap::{Arg, ArgAction};
 use std::alloc::{AllocError, Global};
 
-/// What comes after an argument's name.
+/// The value after an argument's name.
 #[derive(Clone, Copy)]
 pub(crate) enum Takes {
-    /// Nothing, and no name is written either: the word is the argument.
+    /// Nothing, not even a name: the word is the argument.
     Word,
-    /// Nothing: it is there or not.
+    /// Nothing: the name is there or not.
     Nothing,
     Text(&'static str),
-    /// A text, as often as the argument is given.
+    /// A text, any number of times.
     Texts(&'static str),
-    /// A whole number between two.
+    /// A whole number from the first number to the second.
     Number(&'static str, u64, u64),
 }
 
@@ -29,11 +29,11 @@ pub(crate) enum Takes {
 pub(crate) enum Given {
     Always,
     Maybe,
-    /// It is this where it isn't.
+    /// If it isn't given it is this.
     Else(&'static str),
 }
 
-/// An argument as the commands' lists have it.
+/// An argument in a command's list.
 #[derive(Clone, Copy)]
 pub(crate) struct Argument {
     name: &'static str,
@@ -49,7 +49,7 @@ pub(crate) const FILE: Argument = Argument {
     help: "The canvas as JSON; `-` is standard input",
 };
 
-/// The file where standard input has something else.
+/// The file of a command that reads something else from standard input.
 pub(crate) const FILE_ALONE: Argument = Argument {
     name: "FILE",
     takes: Takes::Word,
@@ -99,7 +99,7 @@ pub(crate) const FAILURES: Argument = Argument {
     help: "Prints what becomes of it if only one task fails, for each task, as JSON; WORD is raise:CLASS",
 };
 
-/// The same, where there is such a word even if none is given.
+/// Like `FAILURES`, with a default word.
 pub(crate) const PAGE_FAILURES: Argument = Argument {
     name: "failures",
     takes: Takes::Text("WORD"),
@@ -323,7 +323,7 @@ impl Argument {
     }
 }
 
-/// The arguments of a list, in its order.
+/// Returns the arguments of a list, in its order.
 pub(crate) fn arguments_of<'a>(alloc: Global, list: &[Argument]) -> Result<Vec<Arg<'a>>, AllocError>
     ensures rules { IfOk result (λ args. map rule_of args.items ≡ map rule list.now) }
     ensures local { IfOk result (λ args. All (λ a. a.global ≡ false) args.items) }

@@ -1,4 +1,4 @@
-//! What help says of each command, and its arguments.
+//! The help of each command, and its arguments.
 
 ghost use Rattle.std.specs.Prelude.{◌≡◌, false, map, IfOk};
 ghost use Rattle.std.specs.List.{All};
@@ -22,12 +22,12 @@ static RUN_ARGUMENTS: [Argument; 12] = [
     FILE, WORKERS, ADAPT, TASK, TASKS, JSON, EXPLAIN, FAILURES, EACH, NULL, WITH_TASKS, FAIL,
 ];
 
-/// Those of `turns`.
+/// The arguments of `turns`.
 static TURNS_ARGUMENTS: [Argument; 10] = [
     FILE, WORKERS, TURNS, AGAIN, STEPS, ADAPT, TASK, TASKS, JSON, FAIL,
 ];
 
-/// Those of `graph`.
+/// The arguments of `graph`.
 static GRAPH: [Argument; 10] = [
     FILE,
     STATES,
@@ -41,10 +41,10 @@ static GRAPH: [Argument; 10] = [
     REFUSAL_JSON,
 ];
 
-/// Those of `page`.
+/// The arguments of `page`.
 static PAGE: [Argument; 6] = [FILE, PAGE_FAILURES, ADAPT, TASK, TASKS, REFUSAL_JSON];
 
-/// Those of `messages`.
+/// The arguments of `messages`.
 static MESSAGES: [Argument; 8] = [
     FILE,
     WORKERS,
@@ -56,7 +56,7 @@ static MESSAGES: [Argument; 8] = [
     REFUSAL_JSON,
 ];
 
-/// Those of `export`.
+/// The arguments of `export`.
 static EXPORT: [Argument; 11] = [
     FILE,
     RUN,
@@ -71,19 +71,19 @@ static EXPORT: [Argument; 11] = [
     REFUSAL_JSON,
 ];
 
-/// Those of `normal`.
+/// The arguments of `normal`.
 static NORMAL: [Argument; 4] = [FILE, NUMBERS, ADAPT, REFUSAL_JSON];
 
-/// Those of `check`.
+/// The arguments of `check`.
 static CHECK: [Argument; 6] = [FILE, ADAPT, TASK, TASKS, FIGURES_JSON, STRICT];
 
-/// Those of `adapt`.
+/// The arguments of `adapt`.
 static ADAPT_ARGUMENTS: [Argument; 3] = [FILE, RENAME, REFUSAL_JSON];
 
-/// Those of `keys`.
+/// The arguments of `keys`.
 static KEYS: [Argument; 5] = [FILE, RUN, ADAPT, PREFIX, REFUSAL_JSON];
 
-/// Those of `collect`.
+/// The arguments of `collect`.
 static COLLECT: [Argument; 5] = [FILE_ALONE, RUN, ADAPT, COMPLETE, JSON];
 
 impl Subcommand {
@@ -147,7 +147,7 @@ impl Subcommand {
     }
 }
 
-/// Some commands, in their order.
+/// Returns some commands, in their order.
 fn commands_in<'a>(alloc: Global, list: &[Subcommand]) -> Result<Vec<Command<'a>>, AllocError>
     ensures shapes { IfOk result (λ made. map shape_of made.items ≡ map command list.now) }
     ensures local { IfOk result
@@ -160,7 +160,7 @@ fn commands_in<'a>(alloc: Global, list: &[Subcommand]) -> Result<Vec<Command<'a>
     Ok(commands)
 }
 
-/// The command of a name, or all where none has it.
+/// Returns the command of a name, or all if none has it.
 pub(crate) fn commands_of<'a>(alloc: Global, name: &str) -> Result<Vec<Command<'a>>, AllocError>
     ensures shapes { IfOk result (λ made.
         map shape_of made.items ≡ map command (offered (named_among all name.now))) }

@@ -1,4 +1,4 @@
-//! The words of the program `canvas`: its commands, their arguments, and what help says.
+//! The words of the program `canvas`: its commands, their arguments, and their help.
 #![tactic(auto)]
 
 mod arguments;

@@ -21,7 +21,7 @@ use std::alloc::{AllocError, Global};
 /// The version of the program.
 const VERSION: &str = "1.0.0";
 
-/// The program without its commands.
+/// Returns the program without its commands.
 fn plain_program<'a>(alloc: Global) -> Result<Command<'a>, AllocError>
     ensures { IfOk result (λ c. app_of c ≡ record {
       top = record (new_shape (codes "canvas")) { no_binary_name = true; has_version = true };
@@ -36,7 +36,7 @@ fn plain_program<'a>(alloc: Global) -> Result<Command<'a>, AllocError>
     Ok(program.bin_name("canvas")?)
 }
 
-/// The program with the command of a name, or with all where none has it.
+/// Returns the program with the command of a name, or with all if none has it.
 fn program_of<'a>(alloc: Global, name: &str) -> Result<Command<'a>, AllocError>
     ensures { IfOk result (λ c. app_of c ≡ program (offered (named_among all name.now))) }
 {
@@ -45,7 +45,7 @@ fn program_of<'a>(alloc: Global, name: &str) -> Result<Command<'a>, AllocError>
     Ok(plain.subcommands(commands)?)
 }
 
-/// The first of the words.
+/// Returns the first of the words.
 fn first_of(words: &[String]) -> &str
     ensures { result.now ≡ first_word (map string_bytes words.now) }
 {
@@ -55,23 +55,20 @@ fn first_of(words: &[String]) -> &str
     }
 }
 
-/// Parses the words after the program's name. If they begin with a command, the others aren't
-/// made, since none of them is asked.
+/// Parses the words after the program's name. If they begin with a command, the others aren't made,
+/// since none of them is asked.
 fn matches_of<'w>(alloc: Global, words: &'w [String]) -> Result<ArgMatches<'w>, Error>
     ensures ok { IfOk result (λ m. subcommand_rows_of m
         ≡ subcommand_of (program_for (map string_bytes words.entry.now))
         (map string_bytes words.entry.now)) }
     ensures err { IfErr result (λ e. takes (program_for (map string_bytes words.entry.now))
-        (map string_bytes words.entry.now) ≡ true → IsMistake (kind_of e)) }
+        (map string_bytes words.entry.now) ≡ true → kind_of e ≡ OutOfMemory) }
 {
     let program = program_of(alloc, first_of(words))?;
-    match program.try_get_matches_from(words) {
-        Ok(matches) => Ok(matches),
-        Err(error) => Err(with_topic(alloc, words, error)),
-    }
+    program.try_get_matches_from(words)
 }
 
-/// The topic that `help TOPIC` asks for, if there is one of this name.
+/// Returns the topic that `help TOPIC` asks for, if there is one of this name.
 fn topic_in<'t>(words: &[String]) -> Option<&'t str> {
     match words {
         [first, name] if first.as_str() == "help" => topic(name.as_str()),
@@ -79,8 +76,8 @@ fn topic_in<'t>(words: &[String]) -> Option<&'t str> {
     }
 }
 
-/// Puts the text of a topic in the place of the parser's refusal of `help TOPIC`, or below the help
-/// of the command that has the topic's name.
+/// Replaces the parser's refusal of `help TOPIC` by the text of the topic, or appends the text to
+/// the help of the command that has the topic's name.
 fn with_topic(alloc: Global, words: &[String], error: Error) -> Error
     ensures { kind_of error ≡ OutOfMemory → IsMistake (kind_of result) }
 {
@@ -93,7 +90,7 @@ fn with_topic(alloc: Global, words: &[String], error: Error) -> Error
     }
 }
 
-/// A text as help, below the help of a command if that is asked for.
+/// Returns a text as help, after the help of a command if that is asked for.
 fn explained(alloc: Global, text: &str, error: &Error) -> Error {
     match help_with(alloc, text, error) {
         Ok(help) => help,
@@ -115,9 +112,9 @@ fn help_with(alloc: Global, text: &str, error: &Error) -> Result<Error, Error> {
     }
 }
 
-/// The command that the words after the program's name ask for, with its arguments. Help, the
-/// version and a mistake are what the parser says, and that an option is there without the one that
-/// it belongs to, or beside one that it can't be given with.
+/// Returns the command that the words after the program's name ask for, with its arguments. Fails
+/// with the parser's help, version or error, or if an option is given without the one that it
+/// belongs to, or beside one that excludes it.
 pub fn read_words<'w>(
     alloc: Global,
     words: &'w [String],
@@ -127,7 +124,10 @@ pub fn read_words<'w>(
     ensures err { IfErr result (λ e. takes (program_for (map string_bytes words.entry.now))
         (map string_bytes words.entry.now) ≡ true → IsMistake (kind_of e)) }
 {
-    let mut matches = matches_of(alloc, words)?;
+    let mut matches = match matches_of(alloc, words) {
+        Ok(matches) => matches,
+        Err(error) => return Err(with_topic(alloc, words, error)),
+    };
     let Some((name, given)) = matches.remove_subcommand() else {
         return Err(no_command(alloc));
     };
@@ -140,7 +140,7 @@ pub fn read_words<'w>(
     }
 }
 
-/// Refuses options that don't go together.
+/// Refuses options that can't be given together.
 fn check_ties(alloc: Global, command: Subcommand, given: &ArgMatches<'_>) -> Result<(), Error>
     ensures { IfErr result (λ e. IsMistake (kind_of e)) }
 {
@@ -153,7 +153,7 @@ fn check_ties(alloc: Global, command: Subcommand, given: &ArgMatches<'_>) -> Res
     }
 }
 
-/// The text if no command is asked for, which the parser says before.
+/// Returns the error if there is no command, which the parser reports earlier.
 fn no_command(alloc: Global) -> Error
     ensures { IsMistake (kind_of result) }
 {
@@ -164,7 +164,7 @@ fn no_command(alloc: Global) -> Error
     )
 }
 
-/// The refusal of words that aren't UTF-8.
+/// Returns the error for words that aren't UTF-8.
 pub fn bad_text(alloc: Global) -> Error {
     refused(
         alloc,

@@ -21,7 +21,7 @@ pub enum Subcommand {
 }
 
 impl Subcommand {
-    /// All of them, in the order in which help names them.
+    /// All commands, in the order in which help names them.
     pub(crate) const ALL: [Subcommand; 11] = [
         Subcommand::Run,
         Subcommand::Turns,
@@ -36,7 +36,7 @@ impl Subcommand {
         Subcommand::Collect,
     ];
 
-    /// The word for it.
+    /// Returns its name.
     pub fn name<'a>(self) -> &'a str
         ensures { result.now ≡ command_name self }
     {
@@ -55,7 +55,7 @@ impl Subcommand {
         }
     }
 
-    /// The command of a name.
+    /// Returns the command of a name.
     pub fn named(name: &str) -> Option<Subcommand>
         ensures named { result ≡ named_among all name.now }
         ensures its_name { IfSome result (λ command. name.now ≡ command_name command) }

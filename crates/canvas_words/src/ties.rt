@@ -1,24 +1,27 @@
 //! Options that are given only with another, or only without it.
+//!
+//! They are checked after parsing: a contract of `clap` says for which words it gives matches only
+//! if no option is tied to another.
 
 use crate::Subcommand;
 use clap::ArgMatches;
 use clap::parser::ValueSource;
 
-/// Why options don't go together.
+/// Why options can't be given together.
 #[derive(Clone, Copy)]
 pub(crate) enum Tie {
-    /// One is there without the one that it belongs to.
+    /// One is given without the one that it belongs to.
     Lacks(&'static str),
-    /// One is there beside another.
+    /// One is given beside another that excludes it.
     Excludes(&'static str),
 }
 
-/// Whether the words have an option.
+/// Returns whether the words have an option.
 fn has(given: &ArgMatches<'_>, option: &str) -> bool {
     given.value_source(option) == Some(ValueSource::CommandLine)
 }
 
-/// What is wrong with the options of a picture.
+/// Returns what is wrong with the options of a picture.
 fn broken_tie_of_picture(given: &ArgMatches<'_>) -> Option<Tie> {
     let results = has(given, "results");
     if results && has(given, "run") {
@@ -32,7 +35,7 @@ fn broken_tie_of_picture(given: &ArgMatches<'_>) -> Option<Tie> {
     }
 }
 
-/// What is wrong with a command's options, if they don't go together.
+/// Returns what is wrong with a command's options, if they can't be given together.
 pub(crate) fn broken_tie(command: Subcommand, given: &ArgMatches<'_>) -> Option<Tie> {
     match command {
         Subcommand::Run if has(given, "null") && !has(given, "each") => {

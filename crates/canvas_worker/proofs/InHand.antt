@@ -16,7 +16,7 @@ use Rattle.canvas_history.specs.Lists.{Each}
 use Rattle.canvas_runs.proofs.Lists.Words.{each_append, each_weaker}
 use Rattle.canvas_core.specs.Asks.{Asked, Answer}
 use Rattle.canvas_core.specs.CoreState.{Left, held}
-use Rattle.canvas_worker.specs.Polls.{Work, CanDeliver, in_hand, Ready, delivers, Redelivered, Pends, EndsWith}
+use Rattle.canvas_worker.specs.Polls.{WorkerView, CanDeliver, in_hand, Ready, delivers, Redelivered, Pends, EndsWith}
 use Rattle.canvas_core.specs.declared.cause.Cause.TheVariants.{Memory}
 use Rattle.canvas_worker.specs.declared.working.End.{End}
 use Rattle.canvas_worker.proofs.Polls.Redelivering.{just_has, still_has}
@@ -69,12 +69,12 @@ call_can a r h es p q suit m c = elim suit [ ]
 not_resting : (s : Left) → is_inside s ≡ true → s ≡ C.resting → ⊥
 not_resting s i e = false≢true (subst (λ l. is_inside l ≡ true) e i)
 
-pub redelivered : (behaviour : Behaviour) (w v : Work) → Ready w → is_inside w.core.left ≡ true → Redelivered w v → Pends behaviour w v
+pub redelivered : (behaviour : Behaviour) (w v : WorkerView) → Ready w → is_inside w.core.left ≡ true → Redelivered w v → Pends behaviour w v
 redelivered behaviour w v ready inside d =
     subst (λ z. Pends behaviour w z) (sym d.3)
     (record {
       broker = refl;
-      desk = refl;
+      backend = refl;
       number = refl;
       ready = record {
         of = d.2.0 ∙ ready.of;
@@ -92,7 +92,7 @@ redelivered behaviour w v ready inside d =
       moved = delivers d.0 (d.1, (v.pass, d.2, refl), refl, refl, refl, refl, refl);
     })
 
-pub delivered_well : {A : Type 0} (behaviour : Behaviour) (w v : Work) (result : Result A End) → Ready w → is_inside w.core.left ≡ true
+pub delivered_well : {A : Type 0} (behaviour : Behaviour) (w v : WorkerView) (result : Result A End) → Ready w → is_inside w.core.left ≡ true
     → MatchResult result (λ _. Redelivered w v) (λ e. (v ≡ w) × (e.fault ≡ Some Memory))
     → MatchResult result (λ _. Pends behaviour w v) (λ e. EndsWith behaviour w e.fault v)
 delivered_well behaviour w v (Ok _) ready inside d = redelivered behaviour w v ready inside d

@@ -8,7 +8,7 @@ use Rattle.canvas_runs.specs.Calls.{takes_one}
 use Rattle.canvas_runs.specs.Tally.{Tally, IsTally, Counted, CountsMore, publishing, storing, returning, dropping, greatest_count}
 use Rattle.canvas_core.specs.Asks.{Asked, Answer}
 use Rattle.canvas_core.proofs.Cores.Counts.{of_queue, of_table}
-use Rattle.canvas_worker.specs.Polls.{Work, progress, with_alone, Ready, FindsNone, finds_none, acts, does_nothing, Pends, Acted, EndsWith}
+use Rattle.canvas_worker.specs.Polls.{WorkerView, progress, with_alone, Ready, FindsNone, finds_none, acts, does_nothing, Pends, Acted, EndsWith}
 use Rattle.canvas_core.specs.declared.cause.Cause.{Cause}
 use Rattle.canvas_worker.specs.declared.working.End.{End}
 
@@ -37,7 +37,7 @@ tallied plan a r t u c = (
 pub some_none : (c : Cause) → ◌≡◌ {A = Option Cause} (Some c) None → ⊥
 some_none c e = cc
 
-pub ends_acting : (behaviour : Behaviour) (w : Work) (c : Cause) → Ready w → EndsWith behaviour w (Some c) w
+pub ends_acting : (behaviour : Behaviour) (w : WorkerView) (c : Cause) → Ready w → EndsWith behaviour w (Some c) w
 ends_acting behaviour w c ready r leaves = record {
   ended = progress w;
   counted = ready.counts;
@@ -54,7 +54,7 @@ ends_acting behaviour w c ready r leaves = record {
 
 -- ---- where the batch that was due gave none
 
-ready_alone : (w : Work) → Ready w → Ready (with_alone w)
+ready_alone : (w : WorkerView) → Ready w → Ready (with_alone w)
 ready_alone w ready = record {
   of = ready.of;
   home = ready.home;
@@ -68,12 +68,12 @@ ready_alone w ready = record {
   counts = ready.counts;
 }
 
-pub found_none : (behaviour : Behaviour) (w v : Work) → Ready w → FindsNone w v → Acted behaviour w v
+pub found_none : (behaviour : Behaviour) (w v : WorkerView) → Ready w → FindsNone w v → Acted behaviour w v
 found_none behaviour w v ready found =
     subst (λ z. Acted behaviour w z) (sym found.3)
     (record {
       broker = refl;
-      desk = refl;
+      backend = refl;
       number = refl;
       ready = ready_alone w ready;
       alone = λ alone. absurd (false≢true (sym found.2 ∙ alone));
@@ -82,10 +82,10 @@ found_none behaviour w v ready found =
 
 -- ---- where nothing was delivered again
 
-acts_pending : (behaviour : Behaviour) (w v : Work) → Acted behaviour w v → Pends behaviour w v
-acts_pending behaviour w v a = record { broker = a.broker; desk = a.desk; number = a.number; ready = a.ready; alone = a.alone; moved = acts a.moved }
+acts_pending : (behaviour : Behaviour) (w v : WorkerView) → Acted behaviour w v → Pends behaviour w v
+acts_pending behaviour w v a = record { broker = a.broker; backend = a.backend; number = a.number; ready = a.ready; alone = a.alone; moved = acts a.moved }
 
-pub acted_well : {A : Type 0} (behaviour : Behaviour) (w v : Work) (result : Result A End)
+pub acted_well : {A : Type 0} (behaviour : Behaviour) (w v : WorkerView) (result : Result A End)
     → MatchResult result (λ _. Acted behaviour w v) (λ e. EndsWith behaviour w e.fault v)
     → MatchResult result (λ _. Pends behaviour w v) (λ e. EndsWith behaviour w e.fault v)
 acted_well behaviour w v (Ok _) a = acts_pending behaviour w v a

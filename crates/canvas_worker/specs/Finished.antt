@@ -1,5 +1,5 @@
--- What a new worker's record says, where its backend is one of a plan: in words of the worker that
--- the law of runs speaks of.
+-- What a new worker's record says if its backend is that of a plan, in terms of the worker that the
+-- law of runs speaks of.
 use Rattle.std.specs.Prelude.{◌≡◌, ℕ, Bool, true, None}
 use Rattle.canvas_task.specs.Apply.{Behaviour}
 use Rattle.canvas_history.specs.Passes.{QueueId, Empties}
@@ -7,7 +7,7 @@ use Rattle.canvas_semantics.specs.Line.{Line}
 use Rattle.canvas_rewrite.specs.FrozenView.{PCarried}
 use Rattle.canvas_rewrite.specs.Planned.{IsPlan}
 use Rattle.canvas_envelope.specs.Content.{Content}
-use Rattle.canvas_history.specs.Seats.{Desk}
+use Rattle.canvas_history.specs.Seats.{BackendView}
 use Rattle.canvas_history.specs.Roster.{Roster, roster_of}
 use Rattle.canvas_runs.specs.Following.{Pass, Seat, Working, Followed, starting, IsOver}
 use Rattle.canvas_history.specs.Lists.{Each}
@@ -15,9 +15,9 @@ use Rattle.canvas_runs.specs.Worker.{worker_of}
 use Rattle.canvas_worker.specs.Polls.{Ready, IsWanted, TellsOf, working_begun, tally_of}
 use Rattle.canvas_worker.specs.declared.record.Record.{Record}
 
--- The record's pass and seat have followed a core run from where they were given to the worker, and
--- each envelope that it delivered again was wanted of it; without a fault it ended with a rest that
--- was answered with no more, and the last take found nothing.
+-- The record's pass and seat have followed a core run from where the worker got them, and the gate
+-- may have wanted each redelivery. Without a fault the last ask was a rest answered with no more,
+-- and the last take found nothing.
 pub record Finished (behaviour : Behaviour) (may_want : ℕ → ℕ → Type 0) (plan : Roster) (number : ℕ)
     (pass : Pass) (seat : Seat) (r : Record) : Type 0 where
   pub same_number : r.number ≡ number
@@ -34,15 +34,15 @@ pub record Finished (behaviour : Behaviour) (may_want : ℕ → ℕ → Type 0) 
 abbrev pub WorkersStart : Type 0
 WorkersStart =
     (l : Line) → IsPlan l
-    → (broker : QueueId) (desk : Desk) (number : ℕ) (pass : Pass) (seat : Seat)
-    → desk.plan ≡ roster_of l → pass.of ≡ broker → seat.of ≡ desk.id
-    → Ready (working_begun broker desk number pass seat)
+    → (broker : QueueId) (backend : BackendView) (number : ℕ) (pass : Pass) (seat : Seat)
+    → backend.plan ≡ roster_of l → pass.of ≡ broker → seat.of ≡ backend.id
+    → Ready (working_begun broker backend number pass seat)
 
--- and its record says so, whatever was wanted of which worker for which task
+-- and its record says so, for any gate
 abbrev pub WorkersFinish : Type 0
 WorkersFinish =
     (behaviour : Behaviour) (wanted : ℕ → ℕ → Bool) (l : Line) → IsPlan l
-    → (broker : QueueId) (desk : Desk) (number : ℕ) (pass : Pass) (seat : Seat)
-    → desk.plan ≡ roster_of l → (r : Record)
-    → TellsOf behaviour (λ p k. wanted p k ≡ true) (working_begun broker desk number pass seat) r
+    → (broker : QueueId) (backend : BackendView) (number : ℕ) (pass : Pass) (seat : Seat)
+    → backend.plan ≡ roster_of l → (r : Record)
+    → TellsOf behaviour (λ p k. wanted p k ≡ true) (working_begun broker backend number pass seat) r
     → Finished behaviour (λ p k. wanted p k ≡ true) (roster_of l) number pass seat r

@@ -1,5 +1,5 @@
--- A step in front of what is followed from then on is followed too, and where nothing is done that
--- is followed.
+-- A step before a followed run gives a followed run, and a worker that does nothing has followed
+-- the empty run.
 use Rattle.std.specs.Prelude.{◌≡◌, List, [], Option, Some}
 use Rattle.canvas_task.specs.Apply.{Behaviour}
 use Rattle.canvas_envelope.specs.declared.envelope.Envelope.{Envelope}
@@ -41,7 +41,7 @@ AgainFirst =
     (behaviour : Behaviour) (plan : Roster) (w v x : Progress) (e : Envelope) → Delivered w v e
     → HasFollowed behaviour plan v x → HasFollowed behaviour plan w x
 
--- What a pass has just taken it may deliver again, and what it might before it still may after a
+-- A pass may redeliver what it has just taken. What it might redeliver before, it still may after a
 -- call of its own.
 abbrev pub TakenCan : Type 0
 TakenCan =

@@ -13,7 +13,7 @@ use Rattle.canvas_runs.specs.Tally.{Counted}
 use Rattle.canvas_core.specs.EnvelopeWorker.{enveloped}
 use Rattle.canvas_core.specs.CoreState.{Progress}
 
--- an envelope is taken from the broker only where none is held
+-- an envelope is taken from the broker only if none is held
 abbrev pub OnlyBare : Ask Envelope → Reply Envelope → List Envelope → Type 0
 OnlyBare (to_queue take) (from_queue (Some e)) held = held ≡ []
 OnlyBare a r held = Unit
@@ -45,7 +45,7 @@ Batched w v es =
     (v.held ≡ w.held ++ es) × passes.Took w.pass es v.pass × (v.seat ≡ w.seat) × (v.left ≡ w.left)
     × (v.tally ≡ w.tally) × (v.current ≡ w.current)
 
--- the envelope of the open script is delivered again
+-- the envelope of the open script is redelivered
 abbrev pub Delivered : Progress → Progress → Envelope → Type 0
 Delivered w v e =
     (w.current ≡ Some e) × Makes w.pass ((redeliver e, None) ∷ []) v.pass × (v.current ≡ w.current)

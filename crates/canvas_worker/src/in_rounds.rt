@@ -6,12 +6,12 @@ ghost use Rattle.futures.specs.Task.{Covers, Keeps};
 use futures::Future;
 use futures::task::{Context, Poll};
 
-/// How many polls are made in a row.
+/// The number of polls in a row.
 const ROUND: u32 = 32;
 
-/// A future that polls another so many times in a row while that is pending, and then asks for one
-/// more round: what an executor does between two polls costs a part of what a light message does.
-/// It suits a future that yields and waits for no other task.
+/// A future that polls another `ROUND` times in a row while that is pending, and then yields for
+/// one more round, since an executor's own work between two polls is a part of what a light message
+/// costs. It suits a future that yields and waits for no other task.
 #[derive(Drop)]
 pub(crate) struct InRounds<F> {
     pub future: F,

@@ -27,9 +27,9 @@ pub use stop::Stop;
 pub use to_end::work_to_end;
 pub use worker::Worker;
 
-/// Where a worker does nothing that is followed, and a step in front of what is followed is
-/// followed with it: an ask of its core answered by its pass or seat, one answered from the
-/// envelopes that it holds, a batch taken, and the envelope of its open script delivered again.
+/// States that a worker which does nothing follows the empty run, and that a step before a followed
+/// run gives a followed run: an ask of its core answered by its pass or seat, one answered from the
+/// envelopes that it holds, a batch taken, and the envelope of its open script redelivered.
 pub fn steps_of_workers()
     ensures rests { Rests }
     ensures call_first { CallFirst }
@@ -40,8 +40,8 @@ pub fn steps_of_workers()
     ensures still_can { StillCan }
 {}
 
-/// At a backend of a plan a new worker may be polled, and its record says what its pass and its
-/// seat have followed.
+/// States that a new worker may be polled at the backend of a plan, and what its record says: which
+/// run its pass and its seat have followed.
 pub fn law_of_workers()
     ensures starts { WorkersStart }
     ensures finishes { WorkersFinish }

@@ -1,17 +1,17 @@
-//! What a worker leaves.
+//! The record of a worker.
 
 use crate::Cause;
 use canvas_backend::BackendSeat;
 use canvas_broker::BrokerPass;
 use canvas_envelope::Letter;
 
-/// A worker's calls, counted, with its pass and its seat, and why it ended early, if it did. Each
-/// count stays at its greatest value.
+/// A worker's counts, with its pass and its seat, and why it ended early, if it did. Each count
+/// saturates.
 #[derive(Drop)]
 pub struct Record {
-    /// The number that the worker was made with; in a run 0 is the one that takes in all others.
+    /// The number that the worker was made with; in a run, 0 is the one that joins all others.
     pub number: u32,
-    /// The envelopes that its core was given.
+    /// The envelopes that its core was given. One for which the core had no memory is left out.
     pub taken: u64,
     /// The publishes that were accepted.
     pub published: u64,
@@ -21,10 +21,10 @@ pub struct Record {
     pub parts: u64,
     /// The envelopes that were dropped.
     pub dropped: u64,
-    /// What it has seen of the queue, to be joined by another pass.
+    /// Its pass, which another pass can join.
     pub pass: BrokerPass<Letter>,
-    /// What it has seen of the table, to be joined by another seat.
+    /// Its seat, which another seat can join.
     pub seat: BackendSeat,
-    /// None where it ended by itself.
+    /// None if it ended by itself.
     pub fault: Option<Cause>,
 }

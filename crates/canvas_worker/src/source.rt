@@ -1,4 +1,4 @@
-//! Where a worker's next envelope comes from.
+//! The source of a worker's next envelope.
 
 ghost use Rattle.std.specs.Prelude.{◌≡◌, [], ◌∷◌, Some, MatchOption, false};
 ghost use Rattle.canvas_worker.specs.steps.Held.{held_in, alone_in};
@@ -6,23 +6,23 @@ ghost use Rattle.canvas_worker.specs.steps.Held.{held_in, alone_in};
 use canvas_broker::Batch;
 use canvas_envelope::Letter;
 
-/// A worker takes one by one until it is given its first envelope, so that no worker holds back
-/// what another could begin with. From then on it takes batches, and one alone after a batch of
-/// none.
+/// The source of a worker's next envelope. A worker takes single envelopes until one gives it its
+/// first, so that it doesn't hold back what another could begin with. From then on it takes
+/// batches, and a single envelope after an empty batch.
 #[derive(Drop)]
 pub(crate) enum Source {
-    /// Nothing was given yet.
+    /// No envelope was found yet.
     First,
-    /// What is left of a batch.
+    /// The rest of a batch.
     Batched(Batch<Letter>),
     /// A batch is due.
     Next,
-    /// The batch that was due had none.
+    /// The batch that was due was empty.
     Alone,
 }
 
 impl Source {
-    /// The next of the batch that is held.
+    /// Removes and returns the next envelope of the batch that is held.
     pub(crate) fn next(&mut self) -> Option<Letter>
         ensures next { MatchOption result ((held_in self.old ≡ []) × (held_in self.new ≡ []))
             (λ e. held_in self.old ≡ e ∷ held_in self.new) }
@@ -35,14 +35,14 @@ impl Source {
         }
     }
 
-    /// Whether one envelope is to be taken, and no batch.
+    /// Returns whether the next take is of one envelope, and not of a batch.
     pub(crate) fn is_alone(&self) -> bool
         ensures { result ≡ alone_in self.now }
     {
         matches!(self, Source::First | Source::Alone)
     }
 
-    /// After a take that found nothing.
+    /// Returns the source after a take that found nothing.
     pub(crate) fn after_none(&self) -> Source
         ensures { held_in result ≡ [] }
     {

@@ -17,8 +17,8 @@ use std::alloc::{AllocGlobal, Global};
 use std::random::RandomSource;
 use std::sync::Wait;
 
-/// Runs a worker to its end on this thread. None where its executor failed: its pass and its seat
-/// are lost then, and the stop is asked, so that all others end too.
+/// Runs a worker to its end on this thread. Returns None if its executor failed: its pass and its
+/// seat are then lost, and the stop is asked, so that all others end too.
 pub fn work_to_end<R, T, G>(
     rt: &R,
     alloc: Global,

@@ -1,4 +1,8 @@
 //! The worker.
+//!
+//! A worker remembers nothing of its calls. Its promise looks forward: from its present state on,
+//! its record will have followed a core run. Each poll puts one answered ask before that, so no
+//! list of calls is kept, not even as a ghost.
 
 ghost use Rattle.std.specs.Prelude.{◌≡◌, Some, None, IfSome, IsSome, IsSomeAnd};
 ghost use Rattle.canvas_worker.specs.Polled.{Polled};
@@ -19,13 +23,13 @@ use std::alloc::Global;
 use std::sync::Wait;
 
 /// A worker, as a future of its record. One poll answers one ask of its core, unless its gate holds
-/// it back, or the batch that was due had none: then the next poll takes one envelope alone.
+/// it back, or the batch that was due was empty: then the next poll takes one envelope.
 ///
-/// Where the stop was asked it is ready. Before a message's first store and before its
-/// acknowledgement it asks its gate. Where that holds it back it only yields, and where that wants
-/// the message's envelope delivered again it does that alone, in a poll of its own. It ends by
-/// itself once it rests while no message is in flight. Its pass and seat are used with the broker
-/// and the backend that they came from.
+/// It is ready once the stop was asked. It asks its gate before a message's first store and before
+/// its acknowledgement. If the gate holds it back, it only yields. If the gate wants the message's
+/// envelope redelivered, it does only that, in a poll of its own. It ends by itself once it rests
+/// while no message is in flight. Its pass and seat are used with the broker and the backend that
+/// they came from.
 #[derive(Drop)]
 pub struct Worker<'a, R: Wait, T: Tasks, G: Gate> {
     working: Option<Working<'a, R>>,
@@ -36,7 +40,7 @@ pub struct Worker<'a, R: Wait, T: Tasks, G: Gate> {
 }
 
 impl<'a, R: Wait, T: Tasks, G: Gate> Worker<'a, R, T, G> {
-    /// A worker that has done nothing yet.
+    /// Returns a worker that has done nothing yet.
     pub fn new(
         rt: &'a R,
         alloc: Global,
@@ -65,7 +69,7 @@ impl<'a, R: Wait, T: Tasks, G: Gate> Worker<'a, R, T, G> {
         }
     }
 
-    /// As `new`, at what the workers of a run share.
+    /// Like `new`, but takes what the workers of a run share.
     pub fn with(
         rt: &'a R,
         alloc: Global,
@@ -90,8 +94,8 @@ impl<'a, R: Wait, T: Tasks, G: Gate> Worker<'a, R, T, G> {
 }
 
 impl<R: Wait, T: Tasks, G: Gate> Worker<'_, R, T, G> {
-    /// The record of a worker that has ended. It is made apart, since a function that only may move
-    /// a worker pays for the room each time.
+    /// Returns the record of a worker that has ended. It is a function of its own, since one that
+    /// only may move a worker pays for the room each time.
     fn leave(&mut self, end: End) -> Record
         requires { IsSome self.old.working }
         ensures { IfSome self.old.working (λ w. Leaves w end.fault result) }
@@ -111,7 +115,7 @@ impl<R: Wait, T: Tasks, G: Gate> Future for Worker<'_, R, T, G> {
     ghost gives = { λ w r. IfSome w.working
         (λ v. TellsOf (T.behaviour w.tasks.now) (G.may_want w.gate.now) v r) };
 
-    // The first five are those of any future, at this one.
+    // The first five clauses are those of any future, for this one.
     fn poll(&mut self, cx: &mut Context<'_>) -> Poll<Record>
         requires { IsSomeAnd self.old.working Ready }
         ensures value { IfReady result

@@ -1,4 +1,4 @@
-//! A worker in the middle of its work.
+//! A worker until it ends.
 
 ghost use Rattle.std.specs.Prelude.{◌≡◌, Some, Ok, IsSome, IfOk, IfErr, OnErr, MatchResult, true};
 ghost use Rattle.canvas_runs.specs.Book.{book_on};
@@ -10,7 +10,7 @@ ghost use Rattle.canvas_worker.specs.Polls.{Ready, EndsFor, Acted, Pends, EndsWi
 ghost use Rattle.canvas_core.specs.declared.ask.Ask.TheVariants as ask;
 ghost use Rattle.canvas_core.specs.declared.ask.Reply.TheVariants.{Taken};
 ghost use Rattle.canvas_core.specs.declared.cause.Cause.TheVariants as cause;
-ghost use Rattle.canvas_worker.specs.declared.working.Said.TheVariants.{Wait, Again, On};
+ghost use Rattle.canvas_worker.specs.declared.working.GateAnswer.TheVariants.{Wait, Again, On};
 
 mod answering;
 
@@ -32,18 +32,18 @@ pub(crate) struct End {
     pub fault: Option<Cause>,
 }
 
-/// What the gate says at a point of the open script.
+/// A gate's answer at a point of the open script.
 #[derive(Clone, Copy, Drop)]
-pub(crate) enum Said {
+pub(crate) enum GateAnswer {
     /// To do nothing yet.
     Wait,
-    /// To deliver its envelope again.
+    /// To redeliver its envelope.
     Again,
     /// To go on.
     On,
 }
 
-/// What a worker has, until it ends.
+/// The state of a worker until it ends.
 #[derive(Drop)]
 pub(crate) struct Working<'a, R: Wait> {
     rt: &'a R,
@@ -72,15 +72,15 @@ impl<'a, R: Wait> Model for Working<'a, R> {
     ghost use Rattle.canvas_envelope.specs.codes.ContentCode.{content_code};
     ghost use Rattle.canvas_core.specs.codes.CoreCode.{carried_code};
     ghost use Rattle.canvas_worker.specs.steps.Held.{held_in, alone_in};
-    ghost use Rattle.canvas_worker.specs.Polls.{Work};
+    ghost use Rattle.canvas_worker.specs.Polls.{WorkerView};
 
-    ghost Value = { Work };
+    ghost Value = { WorkerView };
 
     ghost coded = { Prim.hlevel (codes, content_code, carried_code) };
 
     ghost view = { λ w. record {
       broker = w.queue.broker.now;
-      desk = w.backend.now;
+      backend = w.backend.now;
       number = w.number;
       pass = w.pass;
       seat = w.seat;
@@ -129,7 +129,7 @@ impl<'a, R: Wait> Working<'a, R> {
         }
     }
 
-    /// The record of a worker that has ended. What is left of a batch is dropped.
+    /// Returns the record of a worker that has ended. The rest of a batch is dropped.
     pub(crate) fn record(self, end: End) -> Record
         ensures { Leaves self.entry end.fault result }
     {
@@ -147,8 +147,8 @@ impl<'a, R: Wait> Working<'a, R> {
         }
     }
 
-    /// Asks the stop of all workers, so that the others end too, and gives the end where memory was
-    /// refused.
+    /// Asks the stop of all workers, so that the others end too, and returns the end for refused
+    /// memory.
     fn fail(&self) -> End
         ensures { result.fault ≡ Some cause.Memory }
     {
@@ -161,7 +161,7 @@ impl<'a, R: Wait> Working<'a, R> {
     /// Answers the core.
     fn answer<T: Tasks>(&mut self, tasks: &T, reply: Reply) -> Result<(), End>
         requires suits { suits (next self.old.core) reply ≡ true }
-        requires found { FoundOf (book_on self.old.desk.plan) reply (next self.old.core) }
+        requires found { FoundOf (book_on self.old.backend.plan) reply (next self.old.core) }
         requires in_range { FoundInRange reply }
         ensures value { MatchResult result
             (λ _. self.new ≡ with_answer (T.behaviour tasks.now) self.old reply)
@@ -174,10 +174,10 @@ impl<'a, R: Wait> Working<'a, R> {
         }
     }
 
-    /// Answers the core inside the script of a message, which may end with that.
+    /// Answers the core inside the script of a message, which the answer may end.
     fn reply<T: Tasks>(&mut self, tasks: &T, reply: Reply) -> Result<(), End>
         requires suits { suits (next self.old.core) reply ≡ true }
-        requires found { FoundOf (book_on self.old.desk.plan) reply (next self.old.core) }
+        requires found { FoundOf (book_on self.old.backend.plan) reply (next self.old.core) }
         requires in_range { FoundInRange reply }
         ensures value { MatchResult result
             (λ _. self.new ≡ with_answer (T.behaviour tasks.now) self.old reply)
@@ -211,7 +211,7 @@ impl<'a, R: Wait> Working<'a, R> {
         }
     }
 
-    /// A copy of the envelope of the open script.
+    /// Returns a clone of the envelope of the open script.
     fn copied(&self) -> Result<Letter, Memory>
         requires { IsSome (held self.now.core) }
         ensures { IfOk result (λ e. held self.now.core ≡ Some e) }
@@ -222,8 +222,8 @@ impl<'a, R: Wait> Working<'a, R> {
         }
     }
 
-    /// Delivers the envelope of the open script again, and does nothing else. Where memory is
-    /// refused nothing is delivered.
+    /// Redelivers the envelope of the open script, and does nothing else. Redelivers nothing if
+    /// memory is refused.
     fn deliver_again(&mut self) -> Result<(), End>
         requires ready { Ready self.old }
         requires inside { is_inside self.old.core.left ≡ true }
@@ -240,9 +240,9 @@ impl<'a, R: Wait> Working<'a, R> {
         }
     }
 
-    /// What the gate says at the point to which the open script has come. The worker goes on where
-    /// there is none, and from a point that it has passed: there the gate isn't asked anew.
-    fn ask_gate<G: Gate>(&self, gate: &G, passed: &mut Option<When>) -> Said
+    /// Returns what the gate says at the point that the open script has reached. If there is none,
+    /// or the worker has passed it, the worker goes on without asking.
+    fn ask_gate<G: Gate>(&self, gate: &G, passed: &mut Option<When>) -> GateAnswer
         ensures said { Heard (G.may_answer gate.now self.now.number)
             (G.may_want gate.now self.now.number) (asks_at self.now.core passed.old) result }
         ensures passed { passed.new ≡ passed_after self.now.core passed.old result }
@@ -252,26 +252,26 @@ impl<'a, R: Wait> Working<'a, R> {
             if !self.core.is_inside() {
                 *passed = None;
             }
-            return Said::On;
+            return GateAnswer::On;
         };
         if *passed == Some(point) {
-            return Said::On;
+            return GateAnswer::On;
         }
         if point == When::Early && !gate.go(self.number, task) {
-            return Said::Wait;
+            return GateAnswer::Wait;
         }
         *passed = Some(point);
         if gate.again(self.number, task) {
-            Said::Again
+            GateAnswer::Again
         } else {
-            Said::On
+            GateAnswer::On
         }
     }
 
-    /// One step, as the gate says: where it holds the worker back nothing is done, and where it
-    /// wants the envelope of the open script delivered again that is all.
+    /// Makes one step, as the gate says: none if it holds the worker back, and only the redelivery
+    /// if it wants the envelope of the open script redelivered.
     #[tactic(auto, using(crate::proofs::Turns::acted_well, crate::proofs::InHand::delivered_well))]
-    fn step<T: Tasks>(&mut self, tasks: &T, said: Said) -> Result<(), End>
+    fn step<T: Tasks>(&mut self, tasks: &T, said: GateAnswer) -> Result<(), End>
         requires ready { Ready self.old }
         requires inside { said ≡ Again → is_inside self.old.core.left ≡ true }
         ensures turned { MatchResult result (λ _. Pends (T.behaviour tasks.now) self.old self.new)
@@ -287,13 +287,16 @@ impl<'a, R: Wait> Working<'a, R> {
             (λ e. EndsFor (next self.old.core) e.fault) }
     {
         match said {
-            Said::Wait => Ok(()),
-            Said::Again => self.deliver_again(),
-            Said::On => self.go_on(tasks),
+            GateAnswer::Wait => Ok(()),
+            GateAnswer::Again => self.deliver_again(),
+            GateAnswer::On => self.go_on(tasks),
         }
     }
 
-    /// One poll. It says where the worker has ended.
+    /// Makes one poll. Fails with the end of a worker that has ended.
+    ///
+    /// It changes the worker in place: a function from a worker to a worker would move all that it
+    /// has, with the rest of its batch, through each poll.
     #[tactic(auto, using(crate::proofs::Turns::ends_acting, crate::proofs::Ending::left_for))]
     pub(crate) fn turn<T: Tasks, G: Gate>(
         &mut self,

@@ -65,7 +65,8 @@ a_tail l b e = ap tail_tokens (line_some l b e) ∙ tail_steps (map p_task_view 
     ∙ tail_by b.value (out-FrozenEnd b.value).body refl
 
 -- a chain, around its last element where that is a group or chord
-chain_around : (size : Option ℕ) (l : PLine) → (chain_before size (tasks_of_line l) ++ tail_tokens l) ++ chain_behind ≡ data_tokens (chain_wire size (elements_wire l))
+chain_around : (size : Option ℕ) (l : PLine) → (chain_before size (tasks_of_line l) ++ tail_tokens l) ++ chain_behind ≡ data_tokens (chain_wire size
+    (elements_wire l))
 chain_around size l =
     let c : List Token = closing_tokens (string (codes "chain")) (codes "celery.chain") in
     together (opening_tokens size) (each_tokens (tasks_of_line l)) (tail_tokens l) c (key (codes "tasks")) begin_array end_array end_object

@@ -1,4 +1,4 @@
--- What tasks answer, with a stub before all others, and without it again.
+-- The answers of tasks, with a stub put before all others, and without it again.
 use Rattle.std.specs.Prelude.{◌≡◌, ℕ, ◌∷◌}
 use Rattle.canvas_adapt.specs.Renamed.{renamed}
 use Rattle.canvas_adapt.specs.declared.renames.Rename.{Rename}
@@ -29,7 +29,7 @@ pub record AreAlike (before after : Answers) : Type 0 where
   pub errors : after.errors.items ≡ before.errors.items
   pub said : after.said ≡ before.said
 
--- what is told where task k fails with this word, and the plans and answers of that
+-- the results if task k fails with this word, and the plans and answers for that
 pub record IsFailed (its : Asking) (behaviour : Behaviour) (word : Text) (c : Tree)
     (shown : Line) (k : ℕ) (before : Answers) (e : Evaluated) (ready : Ready) : Type 0 where
   pub stub : Stub

@@ -4,7 +4,7 @@ use Rattle.canvas_task.specs.Text.{Text}
 use Rattle.canvas_answer.specs.declared.items.Piece.{Piece}
 use Rattle.canvas_answer.specs.declared.items.Piece.TheVariants as piece
 
--- what is taken of the input with the bytes of a piece
+-- the bytes that are taken of the input with a piece
 abbrev pub taken : (end : ℕ) → Piece → Text → Text
 taken end piece.Last bs = bs ++ end ∷ []
 taken end piece.Part bs = bs

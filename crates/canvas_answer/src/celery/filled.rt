@@ -1,4 +1,4 @@
-//! The start of a canvas some of whose arguments are places, which have the values of a file.
+//! The start of a canvas some of whose arguments are places, which get the values of a file.
 ghost use Rattle.std.specs.Prelude.{◌≡◌, IfOk};
 ghost use Rattle.canvas_semantics.specs.Line.{Line};
 ghost use Rattle.canvas_answer.specs.OnCelery.{IsFilledAnswer};
@@ -42,7 +42,7 @@ impl fmt::Display for ValueFault {
 pub enum PlaceFault {
     /// It is the name of a task.
     Name,
-    /// It is none of the places that so many values have.
+    /// There is no such place, since there are only this many values.
     NoPlace(usize),
 }
 
@@ -64,7 +64,7 @@ impl fmt::Display for PlaceFault {
     }
 }
 
-/// The refusal of what is wrong with the values of a file, or with the canvas where it has them.
+/// Returns the refusal for a fault of a file's values, or of the canvas that has them.
 fn refused(alloc: Global, file: &str, fault: FillFault) -> Refusal {
     match fault {
         FillFault::NotJson => Refusal::of_values(alloc, file, ValueFault::NotJson),
@@ -81,7 +81,7 @@ fn refused(alloc: Global, file: &str, fault: FillFault) -> Refusal {
     }
 }
 
-/// The commands that start a plan with the values of a file.
+/// Returns the commands that start a plan with the values of a file.
 fn filled_start<S, R: Read>(
     rt: &S,
     plan: &Plan,
@@ -102,8 +102,8 @@ where
     }
 }
 
-/// The commands for Redis that start a canvas with the values of a file, and what the workers get
-/// of it otherwise.
+/// Returns the commands for Redis that start a canvas with the values of a file, with a remark on
+/// what the workers get otherwise.
 pub(super) fn answer_filled<S, R: Read>(
     rt: &S,
     run: &Run,

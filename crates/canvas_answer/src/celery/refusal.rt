@@ -10,11 +10,11 @@ use std::fmt::{self, Display};
 pub enum CeleryRefusal {
     /// The run isn't 22 lower-case hexadecimal digits.
     BadRun,
-    /// More bytes of results than are taken.
+    /// More bytes of results than are accepted.
     TooLarge,
-    /// Fewer or more results than tasks.
+    /// The number of results is not the number of tasks.
     BadCount,
-    /// A task's result.
+    /// A fault of a task's result.
     Stored(TaskNo, StoredFault),
 }
 
@@ -28,7 +28,7 @@ impl CeleryRefusal {
         })
     }
 
-    /// Whether a line for people says more than the name.
+    /// Returns whether a line for people has more than the name.
     pub(crate) fn has_note(&self) -> bool {
         matches!(self, CeleryRefusal::TooLarge | CeleryRefusal::Stored(..))
     }

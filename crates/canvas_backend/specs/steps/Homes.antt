@@ -1,9 +1,9 @@
--- What a roster keeps of each task, to answer whether it is a member's last: the group or chord
--- where it is.
+-- What a plan's index keeps of each task, to answer whether it is a member's last: the group or
+-- chord that it is in.
 use Rattle.std.specs.Prelude.{◌≡◌, ◌==◌, ◌-◌, ℕ, zero, suc, Bool, false, List, [], ◌∷◌, set, slice_get, Option, Some, None}
 use Rattle.canvas_history.specs.Roster.{Roster, is_member}
 
--- what stands at a task, from 1
+-- what a task has, from 1
 abbrev pub home_or : Option (Option ℕ) → Option ℕ
 home_or None = None
 home_or (Some h) = h
@@ -16,7 +16,7 @@ abbrev pub is_home : Option ℕ → ℕ → Bool
 is_home None g = false
 is_home (Some h) g = h == g
 
--- each task has the group or chord where it is the last of a member
+-- each task has the group or chord in which it is the last of a member
 abbrev pub AreHomes : Roster → List (Option ℕ) → Type 0
 AreHomes plan homes = (g t : ℕ) → is_member plan g t ≡ is_home (home_at homes t) g
 

@@ -1,6 +1,6 @@
 -- The rule that each step on a shared object keeps: there is one legal history, and what the
--- callers share is what it leaves. A caller stands in a view as a hat. In the middle of a split or
--- a join a view has two hats, and a spent one has none.
+-- callers share is what it leaves. A view has a hat for its caller. In the middle of a split or a
+-- join a view has two hats, and a spent one has none.
 use Rattle.std.specs.Prelude.{◌≡◌, ◌≤◌, ℕ, length, true, List, ◌++◌}
 use mathlib.Core.Option.{some}
 use lib.ListN.{get_elem?}
@@ -8,8 +8,8 @@ use Rattle.canvas_history.specs.Callers.{Hat}
 use Rattle.canvas_history.specs.History.{Entry, among, live, split_off, AllOthers, Legal, replay}
 
 module _ {C R : Type 0} where
-  -- this caller has seen a beginning of the history, and the rest has no entry of it. `at` says in
-  -- which view it stands, and where there
+  -- this caller has seen a beginning of the history, and the rest has no entry of it. `at` says
+  -- which view has its hat, and at which index
   pub record Agrees (log : List (Entry C R)) (at : ℕ → ℕ × ℕ) (seat place : ℕ) (h : Hat C R) :
       Type 0 where
     pub rest : List (Entry C R)

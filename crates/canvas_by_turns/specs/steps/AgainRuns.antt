@@ -1,8 +1,8 @@
--- What a run by turns with entries leaves, of at most so many answered asks.
+-- What a run by turns with entries leaves, with at most `most` answered asks.
 --     IsAgainWithin l n turns es most rows m    the rows of one that went on until all workers had
 --                                               ended, and how many of its stores answered Again
 --     IsNotedWithin .. keeps .. steps           the same, with what it noted of its steps
---     IsCutAgain l n turns es most rows         the rows of one that was cut off, with some worker
+--     IsCutAgain l n turns es most rows         the rows of one that was stopped, with some worker
 --                                               that had not ended
 --     IsAgainFault                              why there is no whole report
 use Rattle.std.specs.Prelude.{◌≡◌, ◌≤◌, ◌+◌, ◌++◌, ℕ, List, length, Some, None, IfSome}
@@ -10,7 +10,7 @@ use Rattle.canvas_task.specs.Apply.{Behaviour}
 use Rattle.canvas_semantics.specs.Evaluation.{State}
 use Rattle.canvas_semantics.specs.Line.{Line, tree_of}
 use Rattle.canvas_semantics.specs.States.{states, EachMay}
-use Rattle.canvas_turns.specs.Spending.{Entry, ByEntries}
+use Rattle.canvas_turns.specs.Redeliveries.{Entry, ByEntries}
 use Rattle.canvas_turns.specs.TurnLaws.{held_rows}
 use Rattle.canvas_turns.specs.Turns.{Step, IsWorker, HasEnded, Begins, redeliveries_in}
 use Rattle.canvas_core.specs.declared.cause.Cause.TheVariants.{Memory, Stopped}

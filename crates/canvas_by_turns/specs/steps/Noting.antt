@@ -1,4 +1,4 @@
--- What a stage has noted of the steps of a run.
+-- The steps of a run that a stage has noted.
 use Rattle.std.specs.Prelude.{◌≡◌, Bool, true, false, List, [], ◌++◌, map, filter}
 use Rattle.canvas_envelope.specs.declared.envelope.Envelope.{Envelope}
 use Rattle.canvas_history.specs.Queue as queue
@@ -13,13 +13,13 @@ abbrev pub publishes : Ask Envelope → Bool
 publishes (to_queue (queue.publish e)) = true
 publishes a = false
 
--- of these steps it keeps none, those that publish, or all
+-- the stage keeps none of these steps, those that publish, or all
 abbrev pub kept : Keeps → List Step → List Step
 kept Nothing xs = []
 kept Published xs = filter (λ x. publishes x.1.0) xs
 kept All xs = xs
 
--- these were noted behind those that were there
+-- these were noted after those that were there
 abbrev pub Noted : Notes → List Step → Notes → Type 0
 Noted s xs t =
     (t.keeps ≡ s.keeps)

@@ -4,7 +4,7 @@ use Rattle.canvas_semantics.proofs.NumberLemmas.{law}
 use Rattle.canvas_runs.proofs.Laws.Causes.{by_cause, completed_once, by_its_cause}
 use Rattle.canvas_runs.proofs.Laws.FirstLaw.{first_part}
 use Rattle.canvas_runs.proofs.Laws.SecondLaw.{second_part}
-use Rattle.canvas_callers.proofs.FromCrew.{the_run, the_closed}
+use Rattle.canvas_callers.proofs.FromCallerRuns.{the_run, the_closed}
 use Rattle.canvas_callers.proofs.law_of_callers.Goals as goal
 
 pub returns-clause-rows_may : goal.returns-clause-rows_may

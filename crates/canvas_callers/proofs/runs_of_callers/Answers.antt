@@ -1,7 +1,7 @@
 use Rattle.std.proofs.Common.{refl}
 use Rattle.canvas_callers.proofs.Closing.{closing_held}
-use Rattle.canvas_callers.proofs.FromCrew.{passes, seats, the_run, the_closed}
-use Rattle.canvas_callers.proofs.Mates.{mates_of, ran}
+use Rattle.canvas_callers.proofs.FromCallerRuns.{passes, seats, the_run, the_closed}
+use Rattle.canvas_callers.proofs.CallerRunLists.{callers_of, ran}
 use Rattle.canvas_callers.proofs.runs_of_callers.Goals as goal
 
 pub returns-clause-passes : goal.returns-clause-passes
@@ -16,8 +16,8 @@ returns-clause-run c = λ behaviour l pass seat r. (the_run behaviour l pass sea
 pub returns-clause-reads : goal.returns-clause-reads
 returns-clause-reads c = λ behaviour l pass seat r. closing_held behaviour l pass seat r
 
-pub returns-clause-mates : goal.returns-clause-mates
-returns-clause-mates c = mates_of
+pub returns-clause-callers : goal.returns-clause-callers
+returns-clause-callers c = callers_of
 
 pub returns-clause-sides : goal.returns-clause-sides
 returns-clause-sides c = ran

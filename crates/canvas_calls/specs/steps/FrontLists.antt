@@ -1,4 +1,4 @@
--- What lists of tasks and of lines come behind, one after another.
+-- The fronts of lists of tasks and of lines, one after another.
 use Rattle.std.specs.Prelude.{ℕ, List, [], ◌∷◌, ◌++◌, Option, Some, None, Box}
 use Rattle.std.specs.declared.alloc.Global.{Global}
 use Rattle.canvas_rewrite.specs.FrozenView.{end_in}

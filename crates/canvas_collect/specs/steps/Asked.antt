@@ -1,4 +1,4 @@
--- What the row shows that was looked up; it is pending where there is none.
+-- The look of the row that was looked up; it is pending if there is none.
 use Rattle.std.specs.Prelude.{Option, Some, None}
 use Rattle.std.specs.Borrow.{Bor}
 use Rattle.canvas_report.specs.declared.row.Row.{Row}

@@ -1,4 +1,4 @@
--- What a look-up in an object found.
+-- The value that a look-up in an object found.
 use Rattle.std.specs.Prelude.{Option, option_map, unwrap_or}
 use Rattle.std.specs.Borrow.{Bor}
 use Rattle.serde_json.specs.Data.{Data, null}

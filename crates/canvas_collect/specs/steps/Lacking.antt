@@ -1,4 +1,4 @@
--- Why a result is no outcome of the engine's own tasks.
+-- Why a result is not an outcome of the engine's own tasks.
 use Rattle.std.specs.Prelude.{◌≡◌, ◌≢◌, ℕ, ℤ, true, Some, codes}
 use Rattle.serde_json.specs.Data.{Data}
 use Rattle.canvas_task.specs.Text.{Text}
@@ -11,7 +11,7 @@ use Rattle.canvas_collect.specs.declared.stored.Lack.TheVariants as lack
 use Rattle.canvas_collect.specs.Stored.{state_of, result_of, class_of, message_of, integer_in}
 use Rattle.canvas_collect.specs.Stored.{Blames, Waits}
 
--- of an exception
+-- the reasons for an exception
 abbrev pub LacksFault : (run : Text) → (count : ℕ) → Data → Lack → Type 0
 LacksFault run count d lack.Exception =
     (class_of d ≢ codes "ChordError") × ((kind : Kind) → class_of d ≢ kind_name kind)
@@ -21,7 +21,7 @@ LacksFault run count d lack.Dependency =
 LacksFault run count d lack.State = ⊥
 LacksFault run count d lack.Number = ⊥
 
--- of a result of the task in this run
+-- the reasons for a result of the task in this run
 abbrev pub LacksOutcome : (run : Text) → (count : ℕ) → Data → Lack → Type 0
 LacksOutcome run count d lack.State =
     (state_of d ≢ codes "SUCCESS") × (state_of d ≢ codes "FAILURE") × (¬ Waits (state_of d))

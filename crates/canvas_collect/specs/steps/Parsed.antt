@@ -5,7 +5,7 @@ use Rattle.canvas_values.specs.CanvasText.{json_of}
 use Rattle.canvas_collect.specs.declared.stored.StoredFault.{StoredFault}
 use Rattle.canvas_collect.specs.declared.stored.StoredFault.TheVariants.{NotJson, Memory}
 
--- it is none, or memory was refused
+-- it is not JSON, or memory was refused
 abbrev pub IsUnread : Text → StoredFault → Type 0
 IsUnread text NotJson = json_of text ≡ None
 IsUnread text Memory = Unit {0}

@@ -1,4 +1,4 @@
--- One row more of any kind, and how far the lines of a text are read.
+-- One row more of any kind, and the lines of a text that were read.
 use Rattle.std.specs.Prelude.{◌≡◌, ◌≢◌, ℕ, List, [], ◌∷◌, ◌++◌, length, string_bytes}
 use Rattle.serde_json.specs.Data.{Data}
 use Rattle.canvas_task.specs.Text.{Text}
@@ -35,7 +35,7 @@ LacksClass class stored.UnknownException = class ≡ []
 LacksClass class stored.Memory = Unit {0}
 LacksClass class fault = ⊥
 
--- of a ChordError
+-- the row of a ChordError
 abbrev pub IsChordRow : (run : Text) → (count : ℕ) → Data → Row → Type 0
 IsChordRow run count d (Raised name) = IsRaised run count d (string_bytes name)
 IsChordRow run count d (Blamed dep name) = IsBlamed run count d dep (string_bytes name)
@@ -46,24 +46,24 @@ abbrev pub ResultFault : Data → StoredFault → Type 0
 ResultFault d stored.Memory = Unit {0}
 ResultFault d fault = RefusesResult d fault
 
--- the same of a line
+-- like `ResultFault`, for a line
 abbrev pub LineFault : (run : Text) → (count : ℕ) → ℕ → Text → StoredFault → Type 0
 LineFault run count k line stored.Memory = Unit {0}
 LineFault run count k line fault = Refuses run count k line fault
 
--- the same, with the task
+-- like `LineFault`, with the task
 abbrev pub RowFault : (run : Text) → (count : ℕ) → ℕ → Text → CollectFault → Type 0
 RowFault run count k line (fault.Stored task fault) =
     (task ≡ k) × Refuses run count task line fault
 RowFault run count k line fault.BadCount = ⊥
 RowFault run count k line fault.Memory = Unit {0}
 
--- the last row is what the line says of task k
+-- the last row is the one that the line gives for task k
 abbrev pub Gains : (run : Text) → (count : ℕ) → ℕ → Text → (old new : List Row) → Type 0
 Gains run count k line old new =
     (row : Row) × (new ≡ old ++ row ∷ []) × Says run count k line row
 
--- so many lines of the text have their rows, and the rest is to be read
+-- n lines of the text have their rows, and the rest is to be read
 abbrev pub IsRead : (run : Text) → (count : ℕ) → (text rest : Text) → ℕ → List Row → Type 0
 IsRead run count text rest n rows =
     (before : List Text) × (lines_in text ≡ before ++ lines_in rest) × (length before ≡ n)

@@ -50,7 +50,7 @@ pub first_so : (book : Book) (u : Unplaced) → ((k : ℕ) → k ≤ u.greatest 
     → EachFirst (λ t. task_known book t ≡ true) u.count l
 first_so book u all l h = weaker (IsUnplaced u.greatest) (λ t. task_known book t ≡ true) (λ t is. task_so book u.greatest all t is.0 is.1) u.count l h
 
--- ---- the tasks behind them
+-- ---- the tasks after them
 
 skipped : (book : Book) (n : ℕ) (ts : List PTask) (e : PLine) → EachFirst (λ t. task_known book t ≡ true) n (p_steps ts e)
     → tasks_known book (p_tasks_of (drop n ts)) ≡ tasks_known book (p_tasks_of ts)

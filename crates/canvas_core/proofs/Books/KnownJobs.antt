@@ -135,7 +135,7 @@ module _ (book : Book) where
         each_append (Known (StoredIn (js ++ ks))) js ks (known_more (StoredIn js) (StoredIn (js ++ ks)) js (λ d z s. stored_left js ks d s) a)
         (known_more (StoredIn ks) (StoredIn (js ++ ks)) ks (λ d z s. stored_right js ks d s) b)
 
-    -- where no task is behind a line
+    -- no task precedes the line
     alone_known : (js : Jobs) → Each (Known (Behind 0 js)) js → Each (Known (StoredIn js)) js
     alone_known js h = known_more (Behind 0 js) (StoredIn js) js (λ d z s. ⊎_elim (λ e. absurd (z e)) (λ y. y) s) h
 

@@ -172,7 +172,7 @@ module _ (behaviour : Behaviour) (book : Book) where
         unsuited C.end r is suit = suit
         unsuited a r is suit = true≢false (sym is)
 
-    -- behind this step, or behind one of those after it
+    -- after this step, or after one of those that follow it
     next : (s : Left) (x : Asked × Answer) (xs : List (Asked × Answer)) (b : Bool) → is_end (asked (answered X s x.1)) ≡ b → EndsOr s x.1
         → IsCoreRun X s (x ∷ xs) → (Well (answered X s x.1) → Behind xs) → Behind (x ∷ xs)
     next s x xs b is (inr w) run later = let rest = later w in (x ∷ rest.0, rest.1, ap (λ zs. x ∷ zs) rest.2, rest.3)
@@ -239,7 +239,7 @@ failed_so : (s : Left) (out : Bool) → is_failed (if out then unsent s else s) 
 failed_so s true = unsent_failed s
 failed_so s false = refl
 
--- behind a rest that was answered with no more it hasn't failed
+-- after a rest that was answered with no more it hasn't failed
 over_then : (behaviour : Behaviour) (book : Book) (ys : List (Asked × Answer))
     → IsCoreRun (enveloped_by behaviour book) taking (ys ++ (C.rest, rested false) ∷ [])
     → is_failed (left_by behaviour book (ys ++ (C.rest, rested false) ∷ [])) ≡ false

@@ -45,7 +45,7 @@ pub located_sound : (book : Book) (s : Left) → Sound book s → located book s
 located_sound book (reading g c t fs) h = ap (λ m. reading g c (unwrap_or m 0) fs) h.2
 located_sound book s h = refl
 
--- what is published reads back, whatever the tasks and the book
+-- what is published reads back, for any tasks and any book
 pub reads_located : (behaviour : Behaviour) (a b : Book) (s : Left) → C.ReadsBack (enveloped_by no_tasks no_book) s
     → C.ReadsBack (enveloped_by behaviour a) (located b s)
 reads_located behaviour a b (doing (publish e ∷ js) d) h = h

@@ -16,7 +16,7 @@ use Rattle.canvas_runs.specs.Worker.{opened}
 use Rattle.canvas_core.specs.Asks.{Asked, Answer, to_send, replied}
 use Rattle.canvas_core.specs.Books.{no_book}
 use Rattle.canvas_core.specs.EnvelopeWorker.{no_tasks, enveloped_by}
-use Rattle.canvas_core.specs.CoreState.{Standing, Left, located, asked, next, next_in, left_told, unread, drops, held_out, handed, unsent, after_reply, kept_next, task_next}
+use Rattle.canvas_core.specs.CoreState.{CoreView, Left, located, asked, next, next_in, left_told, unread, drops, held_out, handed, unsent, after_reply, kept_next, task_next}
 use Rattle.canvas_core.specs.declared.ask.Ask.{Ask}
 use Rattle.canvas_core.specs.declared.ask.Ask.TheVariants.{Take, Publish, Store, Part, Read, Rest, Ack, End}
 use Rattle.canvas_core.specs.declared.ask.Reply.{Reply}
@@ -50,26 +50,26 @@ module _ (book : Book) where
   back x (C.reading g c t fs) p q = refl
   back x C.acking p q = refl
 
-  shown_is : (c : Standing) (v : Ask) → next c ≡ v → (v ≡ Publish → ⊥) → (v ≡ End → ⊥) → asked (located book c.left) ≡ by_shown v
+  shown_is : (c : CoreView) (v : Ask) → next c ≡ v → (v ≡ Publish → ⊥) → (v ≡ End → ⊥) → asked (located book c.left) ≡ by_shown v
   shown_is c v e p q = back c.task c.left (λ h. p (sym e ∙ h)) (λ h. q (sym e ∙ h)) ∙ ap by_shown e
 
-  pub is_take : (c : Standing) → next c ≡ Take → asked (located book c.left) ≡ C.to_queue queue.take
+  pub is_take : (c : CoreView) → next c ≡ Take → asked (located book c.left) ≡ C.to_queue queue.take
   is_take c e = shown_is c Take e (λ h. cc) (λ h. cc)
 
-  pub is_rest : (c : Standing) → next c ≡ Rest → asked (located book c.left) ≡ C.rest
+  pub is_rest : (c : CoreView) → next c ≡ Rest → asked (located book c.left) ≡ C.rest
   is_rest c e = shown_is c Rest e (λ h. cc) (λ h. cc)
 
-  pub is_store : (t : ℕ) (o : Outcome) (c : Standing) → next c ≡ Store t o → asked (located book c.left) ≡ C.to_table (table.store t o)
+  pub is_store : (t : ℕ) (o : Outcome) (c : CoreView) → next c ≡ Store t o → asked (located book c.left) ≡ C.to_table (table.store t o)
   is_store t o c e = shown_is c (Store t o) e (λ h. cc) (λ h. cc)
 
-  pub is_part : (g t : ℕ) (c : Standing) → next c ≡ Part g t → asked (located book c.left) ≡ C.to_table (table.part g t)
+  pub is_part : (g t : ℕ) (c : CoreView) → next c ≡ Part g t → asked (located book c.left) ≡ C.to_table (table.part g t)
   is_part g t c e = shown_is c (Part g t) e (λ h. cc) (λ h. cc)
 
   -- the member of the place that is asked for
-  pub is_read : (g i t : ℕ) (c : Standing) → next c ≡ Read g i → book.member g i ≡ Some t → asked (located book c.left) ≡ C.to_table (table.read t)
+  pub is_read : (g i t : ℕ) (c : CoreView) → next c ≡ Read g i → book.member g i ≡ Some t → asked (located book c.left) ≡ C.to_table (table.read t)
   is_read g i t c e there = shown_is c (Read g i) e (λ h. cc) (λ h. cc) ∙ ap (λ m. C.to_table (table.read (unwrap_or m 0))) there
 
-  pub is_ack : (x : Option ℕ) (c : Standing) → next c ≡ Ack x → asked (located book c.left) ≡ C.ack
+  pub is_ack : (x : Option ℕ) (c : CoreView) → next c ≡ Ack x → asked (located book c.left) ≡ C.ack
   is_ack x c e = shown_is c (Ack x) e (λ h. cc) (λ h. cc)
 
 -- only a core that rests asks to
@@ -83,7 +83,7 @@ rests_over book s e = absurd cc
 
 module _ (book : Book) where
   -- an end is shown as one, and a rest
-  pub is_end : (c : Standing) → next c ≡ End → asked (located book c.left) ≡ C.end
+  pub is_end : (c : CoreView) → next c ≡ End → asked (located book c.left) ≡ C.end
   is_end c e = go c.left e
     where
       go : (s : Left) → next_in s c.task ≡ End → asked (located book s) ≡ C.end
@@ -95,7 +95,7 @@ module _ (book : Book) where
       go (C.doing (part g t l ∷ js) b) e = absurd cc
       go s e = absurd cc
 
-  pub shown_end : (c : Standing) → asked (located book c.left) ≡ C.end → next c ≡ End
+  pub shown_end : (c : CoreView) → asked (located book c.left) ≡ C.end → next c ≡ End
   shown_end c e = go c.left e
     where
       go : (s : Left) → asked (located book s) ≡ C.end → next_in s c.task ≡ End
@@ -107,7 +107,7 @@ module _ (book : Book) where
       go (C.doing (part g t l ∷ js) b) e = absurd cc
       go s e = absurd cc
 
-  pub shown_rest : (c : Standing) → asked (located book c.left) ≡ C.rest → next c ≡ Rest
+  pub shown_rest : (c : CoreView) → asked (located book c.left) ≡ C.rest → next c ≡ Rest
   shown_rest c e = ap (λ s. next_in s c.task) (rests_over book c.left e)
 
 pub is_send : (x : Envelope) (a : Asked) → to_send a ≡ Some x → a ≡ C.to_queue (queue.publish x)
@@ -115,7 +115,7 @@ is_send x (C.to_queue (queue.publish y)) e = cc
 is_send x a e = absurd cc
 
 -- the envelope that is handed out is the one that the ask publishes
-pub handed_out : (book : Book) (x : Envelope) (c : Standing) → c.is_out ≡ false → held_out c ≡ Some x
+pub handed_out : (book : Book) (x : Envelope) (c : CoreView) → c.is_out ≡ false → held_out c ≡ Some x
     → asked (located book c.left) ≡ C.to_queue (queue.publish x)
 handed_out book x c out e =
     is_send x (asked (located book c.left)) (located_same (λ u. to_send (asked u)) (λ g c t v fs. refl) book c.left
@@ -130,7 +130,7 @@ unsent_task : (book : Book) (s : Left) (x : Option ℕ) (r : Answer) → task_ne
 unsent_task book (C.doing (publish e ∷ js) b) x r = refl
 unsent_task book s x r = refl
 
-pub handed_same : (behaviour : Behaviour) (book : Book) (c : Standing) (r : Reply) → after_reply behaviour book (handed c) r ≡ after_reply behaviour book c r
+pub handed_same : (behaviour : Behaviour) (book : Book) (c : CoreView) (r : Reply) → after_reply behaviour book (handed c) r ≡ after_reply behaviour book c r
 handed_same behaviour book c r =
     ap₂ (λ (s : Left) (n : ℕ). record {
       left = s;

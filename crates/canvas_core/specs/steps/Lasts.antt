@@ -1,4 +1,4 @@
--- The last tasks of lines, where there may be none.
+-- The last tasks of lines, if there are any.
 use Rattle.std.specs.Prelude.{ℕ, List, map, Option, Some, None}
 use Rattle.canvas_semantics.specs.PlacedLine.{p_stop}
 use Rattle.canvas_rewrite.specs.FrozenView.{p_steps, p_task_view}

@@ -28,8 +28,8 @@ use Rattle.canvas_broker.specs.contracts.pass.BrokerPass as BrokerPass
 use Rattle.canvas_worker.specs.contracts.in_flight.InFlight as InFlight
 use Rattle.canvas_worker.specs.contracts.record.Record as Record
 use Rattle.canvas_worker.specs.contracts.stop.Stop as Stop
-use Rattle.canvas_engine.specs.contracts.threads.slot.Post as Post
-use Rattle.canvas_engine.specs.contracts.threads.slot.Slot as Slot
+use Rattle.canvas_engine.specs.contracts.threads.slot.SlotState as SlotState
+use Rattle.canvas_engine.specs.contracts.threads.slot.WorkerSlot as WorkerSlot
 
 ruleset plain = (list_send, list_sync, group_send, group_sync, task_send, task_sync, sendable, crosses)
 
@@ -42,11 +42,11 @@ seat = search (table_seat_send, plain) depth 20
 left : IsSend (Record.the_field).row
 left = search (pass, seat, plain) depth 20
 
-post : IsSend (Post.the_field).row
-post = search (pass, seat, left, plain) depth 20
+state : IsSend (SlotState.the_field).row
+state = search (pass, seat, left, plain) depth 20
 
-pub slot : IsSend Slot.the_row
-slot = search (post, plain) depth 20
+pub slot : IsSend WorkerSlot.the_row
+slot = search (state, plain) depth 20
 
 pub broker : IsSync (Broker.the_row Letter.the_row)
 broker = broker_of Letter.the_row letter

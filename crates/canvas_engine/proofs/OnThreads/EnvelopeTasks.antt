@@ -41,7 +41,7 @@ some_there (Some a) e = (a, refl)
 its_number : (h b : Data) (j : ℕ) → task_of (field (codes "id") h) ≡ Some j → number_of (content_in h b).own ≡ j
 its_number h b j e = ap (λ x. unwrap_or x 0) e
 
--- the refusals from that of an identifier on, and those behind it
+-- the refusals from that of an identifier on, and those after it
 abbrev behind_id : (p h b : Data) → List (Bool × MessageFault)
 behind_id p h b = (bad_content_type p, BadContentType) ∷ (bad_body b, BadBody) ∷ (bad_args b, BadArgs) ∷ (bad_embed h b, BadEmbed) ∷ []
 

@@ -15,7 +15,7 @@ use Rattle.canvas_history.specs.Table.{part, count, results}
 use Rattle.canvas_history.specs.Roster.{roster_of}
 use Rattle.canvas_history.specs.Queue.{publish, queue_of}
 use Rattle.canvas_runs.specs.Calls.{TableAnswered}
-use Rattle.canvas_runs.specs.Courses.{Course, published_in}
+use Rattle.canvas_runs.specs.ProgramOrder.{ProgramOrder, published_in}
 use Rattle.canvas_runs.proofs.Lists.Sums.{total-append}
 use Rattle.canvas_engine.specs.Headline.{of_task, task_in, Headline}
 use Rattle.canvas_engine.specs.declared.threads.records.Records.{Records}
@@ -35,9 +35,9 @@ weighs k p e named = ap (of_task k) named ∙ ap (λ b. cond b 1 0) (eq-eqb k k 
 left_over : (e : Envelope) → ◌≡◌ {A = List Envelope} (e ∷ []) [] → ⊥
 left_over e q = cc
 
-module _ (behaviour : Behaviour) (l : Line) (n : ℕ) (rows : List State) (r : Records) (did : ℕ → Course)
+module _ (behaviour : Behaviour) (l : Line) (n : ℕ) (rows : List State) (r : Records) (did : ℕ → ProgramOrder)
     (h : Headline behaviour l n rows r did) where
-  -- a run of a plan with a task that publishes nothing, whatever it stores
+  -- a run of a plan with a task that publishes nothing, with any stores
   pub none_idle : (k : ℕ) → In k (starts l) → published_in (told r.pass) ≡ [] → ⊥
   none_idle k i none = let one : total (weight k) [] ≡ 1 = subst (λ xs. total (weight k) xs ≡ 1) none (h.started k i) in absurd (omega (arith, one))
 
@@ -56,7 +56,7 @@ module _ (behaviour : Behaviour) (l : Line) (n : ℕ) (rows : List State) (r : R
       ))
 
   -- a body that is published by a worker that had not returned a part of its header: another worker, or too early
-  pub none_early : (g k p : ℕ) (e : Envelope) (before after : Course) → In {X = ℕ × ℕ} (g, k) (bodies l) → did p ≡ before ++ inl e ∷ after
+  pub none_early : (g k p : ℕ) (e : Envelope) (before after : ProgramOrder) → In {X = ℕ × ℕ} (g, k) (bodies l) → did p ≡ before ++ inl e ∷ after
       → task_in e ≡ Some k
       → ((t m : ℕ) → In {X = Envelope ⊎ TableAnswered} (inr (part g t, count m)) before → ⊥) → ⊥
   none_early g k p e before after i is named none = let c = h.body g k p e before after i is named in none c.0 c.1 c.2

@@ -19,14 +19,14 @@ use Rattle.canvas_history.specs.Table.{results}
 use Rattle.canvas_history.specs.Roster.{roster_of}
 use Rattle.canvas_history.specs.Queue.{QueueEntry, publish, take, redeliver, queue_of}
 use Rattle.canvas_runs.specs.Book.{book_of}
-use Rattle.canvas_runs.specs.Courses.{Course, sent_in, published_in, course_of}
+use Rattle.canvas_runs.specs.ProgramOrder.{ProgramOrder, sent_in, published_in, program_order}
 use Rattle.canvas_runs.specs.Law as law
 use Rattle.canvas_runs.specs.Law.{SecondPart}
 use Rattle.canvas_runs.specs.Worker.{opened}
 use Rattle.canvas_runs.proofs.Laws.Bodies.{start_sends}
-use Rattle.canvas_runs.proofs.Laws.Courses.{course_sends, course_calls, completed_before}
+use Rattle.canvas_runs.proofs.Laws.ProgramOrder.{order_sends, order_calls, completed_before}
 use Rattle.canvas_runs.proofs.Laws.SecondLaw.{second_part}
-use Rattle.canvas_callers.specs.Crew.{numbers_along}
+use Rattle.canvas_callers.specs.CallerRuns.{numbers_along}
 use Rattle.canvas_engine.specs.Evidence.{IsRun}
 use Rattle.canvas_engine.specs.Headline.{of_task, publications, Headline}
 use Rattle.canvas_engine.specs.declared.threads.records.Records.{Records}
@@ -61,8 +61,8 @@ entry_of p e (calls q (redeliver x) a ∷ es) i = let r = entry_of p e es i in (
 entry_of p e (calls q (publish x) a ∷ es) (inl s) = (a, inl (λ j. calls (s j).0 (publish (s j).1) a))
 entry_of p e (calls q (publish x) a ∷ es) (inr i) = let r = entry_of p e es i in (r.0, inr r.1)
 
--- what stands in a course is sent in it
-sent_there : (before : Course) (e : Envelope) (after : Course) → In e (sent_in (before ++ inl e ∷ after))
+-- each envelope in a course is sent in it
+sent_there : (before : ProgramOrder) (e : Envelope) (after : ProgramOrder) → In e (sent_in (before ++ inl e ∷ after))
 sent_there [] e after = inl refl
 sent_there (inl x ∷ before) e after = inr (sent_there before e after)
 sent_there (inr c ∷ before) e after = sent_there before e after
@@ -88,15 +88,15 @@ module _ (l : Line) where
       ∙ ap (λ m. law.of_task l k (opened (book_of l) e) + m) (same_count k es (λ c e a i. f c e a (inr i))))
 
 pub headline : (behaviour : Behaviour) (l : Line) (n : ℕ) (rows : List State) (r : Records) → IsPlan l → (h : IsRun behaviour l n rows r)
-    → Headline behaviour l n rows r (course_of h.run)
+    → Headline behaviour l n rows r (program_order h.run)
 headline behaviour l n rows r plan h =
-    let numbers = along 1 h.ran.to.ran.mates ∙ ap (λ m. numbers_from 1 m) h.workers in
+    let numbers = along 1 h.ran.to.ran.callers ∙ ap (λ m. numbers_from 1 m) h.workers in
     let second : SecondPart behaviour l h.run = second_part behaviour l plan h.run h.closed in
     let its : ℕ → State = λ k. state_of k (eval behaviour (tree_of l) nothing).rows in
     let opens : Opens l (told r.pass) = λ p e a i. let q = h.by_cause p e a i in (q.0, q.3) in
     let count : (k : ℕ) → publications k (told r.pass) ≡ law.publications l k (told r.pass) = λ k. same_count l k (told r.pass) opens in
-    let sent : (p : ℕ) → sent_in (course_of h.run p) ≡ by p (published_in (told r.pass)) =
-    λ p. course_sends behaviour l plan h.run p ∙ ap (λ log. by p (published_in log)) h.queue in
+    let sent : (p : ℕ) → sent_in (program_order h.run p) ≡ by p (published_in (told r.pass)) =
+    λ p. order_sends behaviour l plan h.run p ∙ ap (λ log. by p (published_in log)) h.queue in
     record {
       are = h.are;
       objects = h.objects;
@@ -110,7 +110,7 @@ headline behaviour l n rows r plan h =
           ∙ same_rows its (results (roster_of l) r.seat.seen).outcomes
           (λ k. sym (ap (λ log. (results (roster_of l) log).outcomes k) (sym h.table) ∙ second.rows k)) (numbers_from 1 (count_line l)));
       sent = sent;
-      called = λ p. course_calls behaviour l plan h.run p ∙ ap (λ log. by p (answered_calls log)) h.table;
+      called = λ p. order_calls behaviour l plan h.run p ∙ ap (λ log. by p (answered_calls log)) h.table;
       named = λ x i. let a = entry_of x.0 x.1 (told r.pass) i in let q = opens x.0 x.1 a.0 a.1 in ap is_some (opened_names (book_of l) x.1 q.0 q.1);
       once = λ k. subst (λ m. m ≤ 1) (sym (count k)) (h.once k);
       started = λ k i.
@@ -128,6 +128,6 @@ headline behaviour l n rows r plan h =
 
 pub headline_ok : {E : Type 0} (behaviour : Behaviour) (l : Line) (n : ℕ) (x : Result (Report × Records) E) → IsPlan l
     → IfOk x (λ r. IsRun behaviour l n r.0.rows r.1)
-    → IfOk x (λ r. (ran : IsRun behaviour l n r.0.rows r.1) × Headline behaviour l n r.0.rows r.1 (course_of ran.run))
+    → IfOk x (λ r. (ran : IsRun behaviour l n r.0.rows r.1) × Headline behaviour l n r.0.rows r.1 (program_order ran.run))
 headline_ok behaviour l n (Ok r) plan h = (h, headline behaviour l n r.0.rows r.1 plan h)
 headline_ok behaviour l n (Err e) plan h = tt

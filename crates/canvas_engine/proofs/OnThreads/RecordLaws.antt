@@ -1,4 +1,4 @@
--- The histories of a run have few calls, and behind a gate that wants nothing no call is made again.
+-- The histories of a run have few calls, and with a gate that wants nothing no call is made again.
 use Rattle.std.proofs.Common.{◌≡◌, ◌∙◌, ◌≤◌, ℕ, suc, ◌+◌, Bool, true, false, cond, eqb, List, [], ◌∷◌, ◌++◌, map, length, Option, Some, None, inl, inr, refl, ap, subst, arith}
 use Rattle.std.proofs.lemmas.List.{length-append}
 use Rattle.canvas_task.specs.Apply.{Behaviour}
@@ -25,9 +25,9 @@ use Rattle.canvas_runs.proofs.Ends.FewCalls.{same_sum, few_calls}
 use Rattle.canvas_runs.proofs.Laws.FirstLaw.{inner_run, callers}
 use Rattle.canvas_runs.proofs.Laws.SecondLaw.{second_part}
 use Rattle.canvas_runs.proofs.Lists.Sums.{total-append, sum_to-le, sum_to-both, total_by, at_zero}
-use Rattle.canvas_callers.specs.Crew.{Ran, EndedWell}
+use Rattle.canvas_callers.specs.CallerRuns.{Ran, EndedWell}
 use Rattle.canvas_callers.specs.Rows.{reads_from}
-use Rattle.canvas_callers.proofs.FromCrew.{the_run, the_closed}
+use Rattle.canvas_callers.proofs.FromCallerRuns.{the_run, the_closed}
 use Rattle.canvas_engine.specs.RecordLaws.{FewEntries, AllArePlain}
 
 -- ---- how long a list is

@@ -22,16 +22,16 @@ use Rattle.canvas_runs.specs.Following.{Pass, Seat, Serves}
 use Rattle.canvas_runs.specs.Run.{published_all}
 use Rattle.canvas_runs.specs.Worker.{opened}
 use Rattle.canvas_runs.proofs.Lists.Words.{in_each, in_append_cases}
-use Rattle.canvas_callers.specs.Accounts.{HasQueueCalls, QueueAccounts}
-use Rattle.canvas_callers.specs.Crew.{Mate, Ran, numbers_along}
+use Rattle.canvas_callers.specs.PerCaller.{HasQueueCalls, QueuePerCaller}
+use Rattle.canvas_callers.specs.CallerRuns.{CallerRun, Ran, numbers_along}
 use Rattle.canvas_callers.specs.Rows.{reads_from}
-use Rattle.canvas_callers.proofs.FromCrew.{passes, sent}
+use Rattle.canvas_callers.proofs.FromCallerRuns.{passes, sent}
 use Rattle.canvas_core.specs.CoreState.{task_of}
 use Rattle.canvas_worker.specs.Finished.{Finished}
 use Rattle.canvas_worker.specs.Polls.{IsWanted}
 use Rattle.canvas_worker.specs.declared.record.Record.{Record}
 use Rattle.canvas_engine.specs.Headline.{task_in, OnlyWanted}
-use Rattle.canvas_engine.specs.steps.Crews.{Crew, AreWanted}
+use Rattle.canvas_engine.specs.steps.Gathering.{JoinedWorkers, AreWanted}
 use Rattle.canvas_engine.proofs.OnThreads.EnvelopeTasks.{opened_names}
 use Rattle.canvas_engine.proofs.OnThreads.ThreadRuns.{ran_with}
 
@@ -98,11 +98,11 @@ module _ (behaviour : Behaviour) (l : Line) (may_want : ℕ → ℕ → Type 0) 
   named e k None is h = absurd (cc)
   named e k (Some c) is h = opened_names (book_of l) e c is ∙ h
 
-  by_mate : (k : ℕ) (ms : List (Mate behaviour P)) (log : Log) → HasQueueCalls behaviour P k ms log → AreWanted behaviour P may_want k ms
+  by_caller : (k : ℕ) (ms : List (CallerRun behaviour P)) (log : Log) → HasQueueCalls behaviour P k ms log → AreWanted behaviour P may_want k ms
       → (p : ℕ) → among p (numbers_along k ms) ≡ true → (e : Envelope) (a : Option Envelope) → In (calls p (redeliver e) a) log
       → IsWanted (may_want p) P (redeliver e, a)
-  by_mate k [] log h w p there e a i = absurd (false≢true there)
-  by_mate k (m ∷ ms) log h w p there e a i =
+  by_caller k [] log h w p there e a i = absurd (false≢true there)
+  by_caller k (m ∷ ms) log h w p there e a i =
       ⊎_elim (λ (s : (k == p) ≡ true).
       let same : k ≡ p = eqb-true k p s in
       let mine : made_by p log ≡ entries_by p m.followed.made = subst (λ n. made_by n log ≡ entries_by n m.followed.made) same h.0 in
@@ -110,7 +110,7 @@ module _ (behaviour : Behaviour) (l : Line) (may_want : ℕ → ℕ → Type 0) 
       in_each (IsWanted (may_want p) P) m.followed.made wants (redeliver e, a)
       (in_entries p p (redeliver e) a m.followed.made (subst (In (calls p (redeliver e) a)) mine (in_made p (redeliver e) a log i))))
       (λ (d : (k == p) ≡ false).
-      by_mate (suc k) ms log h.1 w.1 p (subst (λ b. (b || among p (numbers_along (suc k) ms)) ≡ true) d there) e a i)
+      by_caller (suc k) ms log h.1 w.1 p (subst (λ b. (b || among p (numbers_along (suc k) ms)) ≡ true) d there) e a i)
       (cases_Bool (k == p))
 
   -- worker 0 wanted nothing
@@ -128,16 +128,16 @@ module _ (behaviour : Behaviour) (l : Line) (may_want : ℕ → ℕ → Type 0) 
       (in_append_cases (joins_of qs) (entries_by 0 last) (calls 0 (redeliver e) a) u))
       (in_append_cases (splits_of qs ++ entries_by 0 (published_all es)) (joins_of qs ++ entries_by 0 last) (calls 0 (redeliver e) a) there)
 
-  module _ (pass : Pass) (seat : Seat) (r : Ran behaviour l pass seat) (w : AreWanted behaviour P may_want 1 r.mates)
+  module _ (pass : Pass) (seat : Seat) (r : Ran behaviour l pass seat) (w : AreWanted behaviour P may_want 1 r.callers)
       (z : Each (IsWanted (λ _. ⊥) P) r.works.made) where
-    accounts : QueueAccounts behaviour P r.mates (sent behaviour l pass seat r) r.works.made (told pass)
+    accounts : QueuePerCaller behaviour P r.callers (sent behaviour l pass seat r) r.works.made (told pass)
     accounts = (passes behaviour l pass seat r).1
 
     by_other : (p : ℕ) → (p == 0) ≡ false → (e : Envelope) (a : Option Envelope) → In (calls p (redeliver e) a) (told pass)
         → IsWanted (may_want p) P (redeliver e, a)
     by_other p d e a i =
         ⊎_elim (λ (there : among p (split_off (told pass)) ≡ true).
-        by_mate 1 r.mates (told pass) accounts.each w p (ap (among p) (sym accounts.names) ∙ there) e a i)
+        by_caller 1 r.callers (told pass) accounts.each w p (ap (among p) (sym accounts.names) ∙ there) e a i)
         (λ (off : among p (split_off (told pass)) ≡ false).
         let none : made_by p (told pass) ≡ [] = fresh_from [] answer_of next May p [] (told pass) accounts.legal d off in
         elim (subst (In (calls p (redeliver e) a)) none (in_made p (redeliver e) a (told pass) i)) [ ])
@@ -147,13 +147,13 @@ module _ (behaviour : Behaviour) (l : Line) (may_want : ℕ → ℕ → Type 0) 
     wanted p e a i =
         let it : IsWanted (may_want p) P (redeliver e, a) =
         ⊎_elim (λ (s : (p == 0) ≡ true).
-        absurd (by_none (numbers_along 1 r.mates) _ r.works.made (told pass) accounts.own z e a
+        absurd (by_none (numbers_along 1 r.callers) _ r.works.made (told pass) accounts.own z e a
         (subst (λ n. In (calls n (redeliver e) a) (told pass)) (eqb-true p 0 s) i)))
         (λ (d : (p == 0) ≡ false). by_other p d e a i) (cases_Bool (p == 0)) in
         (it.0, named e it.0 (opened (book_of l) e) refl it.1, it.2)
 
 pub only_wanted : (behaviour : Behaviour) (l : Line) (n : ℕ) (queue : QueueId) (table : TableId) (pass : Pass) (seat : Seat)
-    (c : Crew behaviour l n queue table pass seat) (may_want : ℕ → ℕ → Type 0) → AreWanted behaviour (roster_of l) may_want 1 c.mates
+    (c : JoinedWorkers behaviour l n queue table pass seat) (may_want : ℕ → ℕ → Type 0) → AreWanted behaviour (roster_of l) may_want 1 c.callers
     → (r : Record) → Finished behaviour (λ _ _. ⊥) (roster_of l) 0 pass seat r → (after : Seat) (rows : List State)
     → Serves (roster_of l) r.seat (reads_from 1 rows) after → OnlyWanted may_want (told r.pass)
 only_wanted behaviour l n queue table pass seat c may_want w r f after rows reads =

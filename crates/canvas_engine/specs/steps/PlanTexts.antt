@@ -11,7 +11,7 @@ IsReadFault bytes (Sig e) = text_reading bytes ≡ Err e
 IsReadFault bytes (Run f) = ⊥
 IsReadFault bytes Memory = Unit {0}
 
--- of a plan, the faults of whose run say this
+-- why a text that has a plan has no report, if `Says` holds of its run's fault
 abbrev pub IsPlanFault : (RunFault → Type 0) → TextFault → Type 0
 IsPlanFault Says (Sig e) = ⊥
 IsPlanFault Says (Run f) = Says f

@@ -1,4 +1,4 @@
-//! The end of a run on threads: worker 0 works on by itself, and reads the rows.
+//! The end of a run on threads: worker 0 works until it finds nothing, and reads the rows.
 ghost use Rattle.std.specs.Prelude.{◌≡◌, ◌<◌, List, length, Option, Some, None, IfSome, IfOk, IfErr};
 ghost use Rattle.canvas_core.specs.declared.cause.Cause.{Cause};
 ghost use Rattle.canvas_semantics.specs.Line.{Line, count_line, tree_of};
@@ -14,10 +14,10 @@ ghost use Rattle.canvas_by_turns.specs.Correct.{AreWorkers};
 ghost use Rattle.canvas_by_turns.specs.declared.fault.RunFault.TheVariants as fault;
 ghost use Rattle.canvas_engine.specs.Evidence.{IsRun, IsThreadFault};
 ghost use Rattle.canvas_engine.specs.Headline.{OnlyWanted};
-ghost use Rattle.canvas_engine.specs.steps.Crews.{AreGathered, AreRead, HaveWorked, IsHaltedFor, leaves};
-ghost use Rattle.canvas_engine.specs.steps.Slots.{AreOfSite};
+ghost use Rattle.canvas_engine.specs.steps.Gathering.{AreGathered, AreRead, HaveWorked, IsHaltedFor, leaves};
+ghost use Rattle.canvas_engine.specs.steps.WorkerSlots.{AreOfObjects};
 
-use crate::threads::crew::{Hands, Site};
+use crate::threads::handles::{Handles, Objects};
 use crate::{Cause, Records, Report, RunFault, Tally};
 use canvas_backend::{Backend, BackendSeat};
 use canvas_rewrite::Plan;
@@ -30,13 +30,13 @@ use std::sync::Wait;
 /// What a run has besides its workers' places: before they begin, and once they have ended.
 #[derive(Drop)]
 pub(crate) struct Run {
-    pub site: Site,
-    /// Worker 0's, with what it has taken in.
-    pub hands: Hands,
-    /// How many messages are published before the workers begin.
+    pub objects: Objects,
+    /// Worker 0's pass and seat, with those that were joined.
+    pub handles: Handles,
+    /// The number of messages published before the workers begin.
     pub first: usize,
     pub rows: Vec<Option<Outcome>>,
-    /// Worker 0's, still to be counted, and the others', once they have ended.
+    /// Worker 0's tally, still to be counted, and the others', once they have ended.
     pub tallies: Vec<Tally>,
 }
 
@@ -53,25 +53,29 @@ fn read_rows(backend: &Backend, seat: &mut BackendSeat, plan: &Plan, rows: &mut 
     }
 }
 
-/// Worker 0's own work, once it has taken in all others: it goes on by itself until it finds
-/// nothing. None where its executor failed.
+/// Runs worker 0 on this thread, once it has joined all others, until it finds nothing. Returns
+/// None if its executor failed.
+///
+/// Worker 0 is a `Worker` too: without a fault its record says that its last take found nothing,
+/// which for the only live caller makes the history end in the empty queue. A loop over takes would
+/// need a measure, which nothing that a caller sees gives.
 fn work_alone<R: Wait + RandomSource + AllocGlobal, T: Tasks>(
     rt: &R,
     alloc: Global,
-    site: &Site,
+    objects: &Objects,
     tasks: &T,
     stop: &Stop,
-    hands: Hands,
+    handles: Handles,
 ) -> Option<Record>
-    requires plan { (l : Line) × IsPlan l × (site.now.backend.plan ≡ roster_of l) }
-    requires own { AreOfSite site.now hands }
-    ensures { IfSome result (Finished (T.behaviour tasks.now) (λ _ _. ⊥) site.now.backend.plan 0
-        hands.pass hands.seat) }
+    requires plan { (l : Line) × IsPlan l × (objects.now.backend.plan ≡ roster_of l) }
+    requires own { AreOfObjects objects.now handles }
+    ensures { IfSome result (Finished (T.behaviour tasks.now) (λ _ _. ⊥) objects.now.backend.plan 0
+        handles.pass handles.seat) }
 {
-    let Hands { pass, seat } = hands;
+    let Handles { pass, seat } = handles;
     let shared = Shared {
-        broker: &site.broker,
-        backend: &site.backend,
+        broker: &objects.broker,
+        backend: &objects.backend,
         tasks,
         gate: &OpenGate,
         stop,
@@ -80,56 +84,56 @@ fn work_alone<R: Wait + RandomSource + AllocGlobal, T: Tasks>(
     work_to_end(rt, alloc, &shared, 0, pass, seat)
 }
 
-/// What a run leaves whose worker 0 left this, with what that has counted.
-fn records_of(site: Site, left: Record, first: usize, tallies: Vec<Tally>) -> Records
+/// Returns what a run leaves, if worker 0 left this record and the others counted this.
+fn records_of(objects: Objects, left: Record, first: usize, tallies: Vec<Tally>) -> Records
     requires { 0 < length tallies.items }
-    ensures { result ≡ leaves site left left.seat first tallies.items }
+    ensures { result ≡ leaves objects left left.seat first tallies.items }
 {
     let mut workers = tallies;
     workers[0] = Tally::of(0, &left).with_published(first);
     Records {
-        broker: site.broker,
+        broker: objects.broker,
         pass: left.pass,
-        backend: site.backend,
+        backend: objects.backend,
         seat: left.seat,
         workers: ListOf::of(workers),
     }
 }
 
-/// Reads each task once, and hands out what the run leaves.
+/// Reads each task once, and returns what the run leaves.
 fn finish(
     plan: &Plan,
-    site: Site,
+    objects: Objects,
     mut left: Record,
     first: usize,
     mut rows: Vec<Option<Outcome>>,
     tallies: Vec<Tally>,
 ) -> Result<(Report, Records), RunFault>
-    requires own { left.seat.of ≡ site.backend.id }
-    requires plan { site.backend.plan ≡ roster_of plan.now }
+    requires own { left.seat.of ≡ objects.backend.id }
+    requires plan { objects.backend.plan ≡ roster_of plan.now }
     requires rows { length rows.items ≡ count_line plan.now }
     requires tallies { 0 < length tallies.items }
-    ensures ok { IfOk result (λ r. (left.fault ≡ None) × (t : Seat) × (t.of ≡ site.backend.id)
+    ensures ok { IfOk result (λ r. (left.fault ≡ None) × (t : Seat) × (t.of ≡ objects.backend.id)
         × AreRead plan.now left.seat r.0.rows t
-        × (r.1 ≡ leaves site left t first tallies.items)) }
+        × (r.1 ≡ leaves objects left t first tallies.items)) }
     ensures err { IfErr result (λ f. (cause : Cause) × (rows : List State) × (t : Seat)
         × (f ≡ fault.Halted cause (Some (record { rows = rows })))
         × AreRead plan.now left.seat rows t) }
 {
-    read_rows(&site.backend, &mut left.seat, plan, &mut rows);
+    read_rows(&objects.backend, &mut left.seat, plan, &mut rows);
     match left.fault {
         Some(cause) => Err(RunFault::halted_with(cause, rows)),
         None => {
             let report = Report {
                 rows: ListOf::of(rows),
             };
-            Ok((report, records_of(site, left, first, tallies)))
+            Ok((report, records_of(objects, left, first, tallies)))
         }
     }
 }
 
 impl Run {
-    /// The fault of a run that ended early, with the rows that it has.
+    /// Returns the fault of a run that ended early, with the rows that it has.
     pub(crate) fn halt<T: Tasks>(
         self,
         plan: &Plan,
@@ -144,19 +148,20 @@ impl Run {
             result }
         ensures why { IsHaltedFor cause result }
     {
-        // For the clauses alone.
+        // Only the clauses need it.
         let _tasks = tasks;
         let Run {
-            site,
-            mut hands,
+            objects,
+            mut handles,
             mut rows,
             ..
         } = self;
-        read_rows(&site.backend, &mut hands.seat, plan, &mut rows);
+        // Worker 0 reads these rows as those of any run, so each is pending or the evaluation's.
+        read_rows(&objects.backend, &mut handles.seat, plan, &mut rows);
         RunFault::halted_with(cause, rows)
     }
 
-    /// Worker 0 works until it finds nothing, and reads each task once.
+    /// Has worker 0 work until it finds nothing, and reads each task once.
     pub(crate) fn conclude<R: Wait + RandomSource + AllocGlobal, T: Tasks, G: Gate>(
         self,
         rt: &R,
@@ -176,17 +181,17 @@ impl Run {
         ensures err { IfErr result
             (IsThreadFault workers (states (T.behaviour tasks.now) (tree_of plan.now))) }
     {
-        // For the clauses alone.
+        // Only the clauses need it.
         let _gate = gate;
         let Run {
-            site,
-            hands,
+            objects,
+            handles,
             first,
             rows,
             tallies,
         } = self;
-        match work_alone(rt, alloc, &site, tasks, stop, hands) {
-            Some(left) => finish(plan, site, left, first, rows, tallies),
+        match work_alone(rt, alloc, &objects, tasks, stop, handles) {
+            Some(left) => finish(plan, objects, left, first, rows, tallies),
             None => Err(RunFault::halted(Cause::Memory)),
         }
     }

@@ -1,6 +1,6 @@
-//! What a run on threads leaves besides its report.
+//! The records of a run on threads.
 ghost use Rattle.std.specs.Prelude.{◌≡◌, ◌+◌, min};
-ghost use Rattle.canvas_engine.specs.steps.Slots.{counts, nothing_counted};
+ghost use Rattle.canvas_engine.specs.steps.WorkerSlots.{counts, nothing_counted};
 ghost use Rattle.canvas_runs.specs.Tally.{greatest_count};
 
 use canvas_backend::{Backend, BackendSeat};
@@ -9,21 +9,21 @@ use canvas_envelope::Letter;
 use canvas_task::ListOf;
 use canvas_worker::Record;
 
-/// What a worker counted: envelopes taken, publishes accepted, stores that were the first of their
-/// task, parts returned and envelopes dropped. A count stays at its greatest value.
+/// The counts of a worker: envelopes taken, publishes accepted, stores that were the first of their
+/// task, parts returned and envelopes dropped. Each count saturates.
 #[derive(Clone, Copy, Debug, PartialEq, Eq)]
 pub struct Tally {
-    /// 0 of the worker that takes in all others, which are numbered from 1.
+    /// 0 for the worker that joins all others, which are numbered from 1.
     pub number: u32,
-    /// An envelope counts once it was given to the worker's core.
+    /// An envelope counts once the worker's core has it.
     pub taken: u64,
-    /// Of worker 0 the run's first messages too.
+    /// For worker 0, with the run's first messages.
     pub published: u64,
-    /// The tasks that this worker gave their outcome.
+    /// The tasks whose outcome this worker stored first.
     pub first: u64,
-    /// Of chords alone: a plain group has no parts.
+    /// Parts of chords; a plain group has none.
     pub parts: u64,
-    /// Forged ones, of which a run's own queue has none.
+    /// Forged envelopes; a run's own queue has none.
     pub dropped: u64,
 }
 
@@ -54,7 +54,7 @@ impl Tally {
         }
     }
 
-    /// With further publishes.
+    /// Adds further publishes.
     pub(crate) fn with_published(self, further: usize) -> Tally
         ensures { result
             ≡ record {
@@ -77,14 +77,14 @@ impl Tally {
 /// all others were joined, and what each worker counted, from worker 0 on.
 #[derive(Drop)]
 pub struct Records {
-    /// The queue. Nothing is left in it.
+    /// The queue, which is empty.
     pub broker: Broker<Letter>,
-    /// It has, of each worker, just that one's calls of the queue.
+    /// Its history has just the calls of each worker to the queue.
     pub pass: BrokerPass<Letter>,
     /// The table of results.
     pub backend: Backend,
-    /// It has, of each worker, just that one's calls of the table.
+    /// Its history has just the calls of each worker to the table.
     pub seat: BackendSeat,
-    /// One more than the workers on threads.
+    /// The tallies, one more than there are workers on threads.
     pub workers: ListOf<Tally>,
 }

@@ -4,19 +4,21 @@ ghost use Rattle.std.specs.Vec.{vec_capacity};
 ghost use Rattle.canvas_semantics.specs.Line.{tree_of};
 ghost use Rattle.canvas_history.specs.Callers.{told};
 ghost use Rattle.canvas_history.specs.Roster.{roster_of};
-ghost use Rattle.canvas_callers.specs.Crew.{first_pass, first_seat};
-ghost use Rattle.canvas_runs.specs.Courses.{course_of};
+ghost use Rattle.canvas_callers.specs.CallerRuns.{first_pass, first_seat};
+ghost use Rattle.canvas_runs.specs.ProgramOrder.{program_order};
 ghost use Rattle.canvas_semantics.specs.States.{states};
 ghost use Rattle.canvas_by_turns.specs.Correct.{AreWorkers};
 ghost use Rattle.canvas_engine.specs.Evidence.{IsRun, IsThreadFault};
 ghost use Rattle.canvas_engine.specs.Headline.{Headline, OnlyWanted};
-ghost use Rattle.canvas_engine.specs.steps.Crews.{HaveWorked, IsStart};
-ghost use Rattle.canvas_engine.specs.steps.Slots.{nothing_counted};
+ghost use Rattle.canvas_engine.specs.steps.Gathering.{HaveWorked, IsStart};
+ghost use Rattle.canvas_engine.specs.steps.WorkerSlots.{nothing_counted};
 
-use crate::threads::crew::{Hands, Site, are_done, fault_of, join_all, split_all, tally_all};
 use crate::threads::ending::Run;
+use crate::threads::handles::{
+    Handles, Objects, are_done, fault_of, join_all, split_all, tally_all,
+};
 use crate::threads::publishing::publish_all;
-use crate::threads::slot::Slot;
+use crate::threads::slot::WorkerSlot;
 use crate::threads::workers::work_on_threads;
 use crate::{Cause, Records, Report, RunFault, Tally};
 use canvas_backend::Backend;
@@ -36,22 +38,22 @@ use std::thread::Threads;
 #[derive(Drop)]
 pub(crate) struct Start {
     run: Run,
-    slots: Vec<Slot>,
+    slots: Vec<WorkerSlot>,
     envelopes: Vec<Letter>,
 }
 
-/// The queue and the table of a run, with worker 0's pass and seat.
-fn open(alloc: Global, plan: &Plan) -> Result<(Site, Hands), Memory>
+/// Makes the queue and the table of a run, with worker 0's pass and seat.
+fn open(alloc: Global, plan: &Plan) -> Result<(Objects, Handles), Memory>
     ensures plan { IfOk result (λ r. r.0.backend.plan ≡ roster_of plan.now) }
     ensures pass { IfOk result (λ r. r.1.pass ≡ first_pass r.0.broker) }
     ensures seat { IfOk result (λ r. r.1.seat ≡ first_seat r.0.backend.id) }
 {
     let (broker, pass) = Broker::new(alloc)?;
     let (backend, seat) = Backend::new(alloc, plan)?;
-    Ok((Site { broker, backend }, Hands { pass, seat }))
+    Ok((Objects { broker, backend }, Handles { pass, seat }))
 }
 
-/// Worker 0's tally, with room for those of so many more.
+/// Returns worker 0's tally, with room for those of `workers` others.
 fn first_tally(alloc: Global, workers: u32) -> Result<Vec<Tally>, Memory>
     ensures first { IfOk result (λ tallies. tallies.items ≡ nothing_counted 0 ∷ []) }
     ensures room { IfOk result (λ tallies. suc workers ≤ vec_capacity tallies) }
@@ -61,21 +63,25 @@ fn first_tally(alloc: Global, workers: u32) -> Result<Vec<Tally>, Memory>
     Ok(tallies)
 }
 
-/// All that a run reserves: its rows and tallies, its first envelopes, its queue and its table with
-/// a pass and a seat for each worker.
+/// Reserves all that a run needs: its rows and tallies, its first envelopes, its queue and its
+/// table with a pass and a seat for each worker.
+///
+/// All of it comes before the first publish, so a refusal here gives no rows. A refused publish
+/// gives rows that are all pending, since no worker has begun; a later refusal, or a stop, gives
+/// what is stored.
 fn reserve<R: Wait>(rt: &R, alloc: Global, plan: &Plan, workers: u32) -> Result<Start, Memory>
     ensures { IfOk result (IsStart plan.now workers) }
 {
-    // For the proof alone, as in `new_rows`.
+    // Only the proof needs it, as in `new_rows`.
     let _none: Option<Fault> = None;
     let rows = new_rows(alloc, plan)?;
     let tallies = first_tally(alloc, workers)?;
     let envelopes = first_envelopes(alloc, plan)?;
-    let (site, mut hands) = open(alloc, plan)?;
-    let slots = split_all(rt, alloc, &site, &mut hands, workers)?;
+    let (objects, mut handles) = open(alloc, plan)?;
+    let slots = split_all(rt, alloc, &objects, &mut handles, workers)?;
     let run = Run {
-        site,
-        hands,
+        objects,
+        handles,
         first: envelopes.len(),
         rows,
         tallies,
@@ -87,8 +93,8 @@ fn reserve<R: Wait>(rt: &R, alloc: Global, plan: &Plan, workers: u32) -> Result<
     })
 }
 
-/// Publishes the first messages, has the workers work, and takes in what they left. Why they ended
-/// early, if any did, stands beside.
+/// Publishes the first messages, runs the workers, and joins what they left. Also returns why they
+/// ended early, if any did.
 fn gather<R, T, G>(
     rt: &R,
     alloc: Global,
@@ -115,19 +121,26 @@ where
         mut slots,
         envelopes,
     } = start;
-    match publish_all(rt, &run.site.broker, &mut run.hands.pass, envelopes) {
+    match publish_all(rt, &run.objects.broker, &mut run.handles.pass, envelopes) {
         Ok(()) => (),
         Err(Memory) => return Err(RunFault::halted_with(Cause::Memory, run.rows)),
     }
     work_on_threads(
-        rt, alloc, &run.site, run.first, tasks, gate, stop, &mut slots,
+        rt,
+        alloc,
+        &run.objects,
+        run.first,
+        tasks,
+        gate,
+        stop,
+        &mut slots,
     );
     if !are_done(&slots) {
         return Err(RunFault::halted(Cause::Memory));
     }
     tally_all(&slots, &mut run.tallies);
     let fault = fault_of(&slots);
-    join_all(rt, &run.site, &mut run.hands, slots);
+    join_all(rt, &run.objects, &mut run.handles, slots);
     Ok((run, fault))
 }
 
@@ -161,14 +174,14 @@ where
     }
 }
 
-/// Runs a plan with 1 to 16 workers, each on a thread of its own where one can be made and else on
-/// this one. The workers, numbered from 1, work until no message is in flight; then this thread, as
+/// Runs a plan with 1 to 16 workers, each on a thread of its own, or on this one if no thread can
+/// be made. The workers, numbered from 1, work until no message is in flight; then this thread, as
 /// worker 0, joins what they have seen, works until it finds nothing and reads each task once.
 ///
-/// `gate` is asked between a worker's take and its first store. One that never opens keeps the run
-/// from ending, unless `stop` is asked; a worker that it holds back doesn't sleep.
+/// `gate` is asked between a worker's take and its first store. A gate that never opens keeps the
+/// run from ending, unless `stop` is asked; a worker that it holds back doesn't sleep.
 ///
-/// Where memory is refused to a worker, or its executor fails, `stop` is asked, which ends all
+/// If memory is refused to a worker, or its executor fails, the run asks `stop`, which ends all
 /// others early. It is the caller's own and stays asked: another run with it ends as stopped at
 /// once.
 pub fn run<R, T, G>(
@@ -187,9 +200,9 @@ where
     // the promise; what each worker did is the course of its core run
     ensures headline { IfOk result
         (λ r. (ran : IsRun (T.behaviour tasks.now) plan.now workers r.0.rows r.1)
-        × Headline (T.behaviour tasks.now) plan.now workers r.0.rows r.1 (course_of ran.run)) }
+        × Headline (T.behaviour tasks.now) plan.now workers r.0.rows r.1 (program_order ran.run)) }
     ensures workers { IfOk result (λ _. AreWorkers workers) }
-    // what is delivered again, the gate may have wanted
+    // the gate may have wanted each redelivery
     ensures wanted { IfOk result (λ r. OnlyWanted (G.may_want gate.now) (told r.1.pass)) }
     ensures err { IfErr result
         (IsThreadFault workers (states (T.behaviour tasks.now) (tree_of plan.now))) }

@@ -4,10 +4,10 @@ ghost use denote.Param.Send.{IsSync, IsSend};
 ghost use Rattle.canvas_semantics.specs.Line.{Line};
 ghost use Rattle.canvas_rewrite.specs.Planned.{IsPlan};
 ghost use Rattle.canvas_history.specs.Roster.{roster_of};
-ghost use Rattle.canvas_engine.specs.steps.Slots.{IsReadySlot, RanSlot, AllRan};
+ghost use Rattle.canvas_engine.specs.steps.WorkerSlots.{IsReadySlot, RanSlot, AllRan};
 
-use crate::threads::crew::Site;
-use crate::threads::slot::{Post, Slot};
+use crate::threads::handles::Objects;
+use crate::threads::slot::{SlotState, WorkerSlot};
 use canvas_task::Tasks;
 use canvas_worker::{Gate, InFlight, Shared, Stop, work_to_end};
 use std::alloc::{AllocGlobal, Global};
@@ -17,7 +17,7 @@ use std::sync::Wait;
 use std::thread::{Threads, for_each_mut};
 
 /// Runs one worker to its end on this thread.
-fn work<R, T, G>(rt: &R, alloc: Global, shared: &Shared<'_, T, G>, slot: &mut Slot)
+fn work<R, T, G>(rt: &R, alloc: Global, shared: &Shared<'_, T, G>, slot: &mut WorkerSlot)
 where
     R: Wait + RandomSource + AllocGlobal,
     T: Tasks,
@@ -27,44 +27,47 @@ where
     ensures { RanSlot (T.behaviour shared.now.tasks.now) (G.may_want shared.now.gate.now)
         shared.now.backend.now.plan slot.old slot.new }
 {
-    match mem::replace(&mut slot.post, Post::Lost) {
-        Post::Ready(pass, seat) => {
+    match mem::replace(&mut slot.state, SlotState::Lost) {
+        SlotState::Ready(pass, seat) => {
             if let Some(left) = work_to_end(rt, alloc, shared, slot.number, pass, seat) {
-                slot.post = Post::Done(left);
+                slot.state = SlotState::Done(left);
             }
         }
-        Post::Done(_) => unreachable!(),
-        Post::Lost => unreachable!(),
+        SlotState::Done(_) => unreachable!(),
+        SlotState::Lost => unreachable!(),
     }
 }
 
-/// Runs each worker on a thread of its own, or on this one where none can be made: there they work
-/// one after the other, each until no message is in flight. So many were published before.
+/// Runs each worker on a thread of its own, or on this one if none can be made: there they work one
+/// after the other, each until no message is in flight. `first` messages were published before.
+///
+/// Two workers or more have threads even if their tasks are light, since a task may wait for
+/// another of its run. No contract depends on the number of threads.
 pub(crate) fn work_on_threads<R, T, G>(
     rt: &R,
     alloc: Global,
-    site: &Site,
+    objects: &Objects,
     first: usize,
     tasks: &T,
     gate: &G,
     stop: &Stop,
-    slots: &mut [Slot],
+    slots: &mut [WorkerSlot],
 )
 where
     R: Threads + Wait + RandomSource + AllocGlobal + Sync,
     T: Tasks + Sync,
     G: Gate + Sync,
-    requires plan { (l : Line) × IsPlan l × (site.now.backend.plan ≡ roster_of l) }
-    requires ready { All (IsReadySlot site.now.broker site.now.backend.id) slots.old }
-    ensures { AllRan (T.behaviour tasks.now) (G.may_want gate.now) site.now.backend.plan slots.old
-        slots.new }
+    requires plan { (l : Line) × IsPlan l × (objects.now.backend.plan ≡ roster_of l) }
+    requires ready { All (IsReadySlot objects.now.broker objects.now.backend.id) slots.old }
+    ensures { AllRan (T.behaviour tasks.now) (G.may_want gate.now) objects.now.backend.plan
+        slots.old slots.new }
 {
     if slots.is_empty() {
         return;
     }
-    let (broker, backend) = (&site.broker, &site.backend);
+    let (broker, backend) = (&objects.broker, &objects.backend);
     let flight = &InFlight::new(first as u64);
-    let each = |_: usize, slot: &mut Slot|
+    let each = |_: usize, slot: &mut WorkerSlot|
         requires { ((l : Line) × IsPlan l × (backend.now.plan ≡ roster_of l))
             × IsReadySlot broker.now backend.now.id slot.now }
         ensures { RanSlot (T.behaviour tasks.entry.now) (G.may_want gate.entry.now)

@@ -1,4 +1,4 @@
--- What the code's flows are.
+-- The flows of the code, as contracts see them.
 use Rattle.std.specs.Prelude.{List, [], ◌∷◌, ℤ}
 use Rattle.canvas_semantics.specs.Evaluation.{Flow, nothing, num, list, id, skip, raised, in_front}
 use Rattle.canvas_evaluation.specs.declared.flow.Flow as code
@@ -12,7 +12,7 @@ flow_seen (flow.Ident k) = id k
 flow_seen (flow.Skip f) = skip f
 flow_seen (flow.Raised f) = raised f
 
--- numbers in front of what flows
+-- numbers before what flows
 abbrev pub in_front_of : List ℤ → Flow → Flow
 in_front_of [] x = x
 in_front_of (n ∷ ns) x = in_front n (in_front_of ns x)

@@ -1,5 +1,5 @@
 -- The states of a line's tasks, one after the other, and the tasks that the line ends in with their
--- states, as the walk finds them: what flows into a body is known from the ends of its header.
+-- states, as the walk finds them: the ends of a header say what flows into the body.
 use Rattle.std.specs.Prelude.{ℕ, List, [], ◌∷◌, ◌++◌, Option, Some}
 use Rattle.canvas_task.specs.Apply.{Behaviour}
 use Rattle.canvas_task.specs.declared.outcome.Outcome.{Outcome}
@@ -8,7 +8,7 @@ use Rattle.canvas_semantics.specs.Evaluation.{Flow, State, Rows, state, to_links
 use Rattle.canvas_semantics.specs.Line.{Line, stop, step, group_end, chord_end, Lines, no_lines, and_line, no_of}
 
 module _ (behaviour : Behaviour) where
-  -- of a task that is called with this
+  -- the state of a task that is called with this
   abbrev pub called_state : Task → Flow → Outcome
   called_state (task k call links errbacks) x = behaviour call.name (arguments call x) call.kwargs
 

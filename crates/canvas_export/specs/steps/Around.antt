@@ -1,4 +1,4 @@
--- What a start's commands have before the texts of its messages, and after them.
+-- The bytes of a start's commands before the texts of its messages, and after them.
 use Rattle.std.specs.Prelude.{◌≡◌, ℕ, List, ◌++◌, length, map}
 use Rattle.canvas_task.specs.Text.{Text}
 use Rattle.canvas_export.specs.Envelope.{message_text}
@@ -10,7 +10,7 @@ use Rattle.canvas_export.specs.declared.parts.Parts.{Parts}
 abbrev pub around_texts : Around → (texts : List Text) → Text
 around_texts a texts = a.front.items ++ (words_bytes texts ++ a.back.items)
 
--- with any n texts between them they are the commands of these texts
+-- if there are n texts between them, they are the commands of these texts
 abbrev pub Surrounds : Around → (n : ℕ) → (commands : List Text → List (List Text)) → Type 0
 Surrounds a n commands =
     (texts : List Text) → length texts ≡ n → around_texts a texts ≡ resp (commands texts)

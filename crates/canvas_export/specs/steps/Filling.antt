@@ -19,13 +19,13 @@ tokens_filled vs [] = Some []
 tokens_filled vs (t ∷ ts) =
     option_and_then (λ us. option_map (λ ws. us ++ ws) (tokens_filled vs ts)) (token_filled vs t)
 
--- the tokens are there and stand behind those before; what stood before the first stays
+-- the tokens are there, after those that were written; what comes before the first stays
 abbrev pub Fills : Option (List Token) → Written → Written → Type 0
 Fills made old new =
     (ts : List Token) × (made ≡ Some ts) × (new.tokens ≡ old.tokens ++ ts)
     × (new.before ≡ old.before)
 
--- each text of a number is one
+-- each text of a number is a number
 abbrev pub HaveNumbers : List Json → Type 0
 HaveNumbers [] = ⊤
 HaveNumbers (j ∷ js) = HasNumbers j × HaveNumbers js
@@ -34,7 +34,7 @@ abbrev pub AreGood : List Token → Type 0
 AreGood [] = ⊤
 AreGood (t ∷ ts) = (t ≢ bad) × AreGood ts
 
--- what a task is called, if there is one
+-- whether a task's name, if there is one, is marked
 abbrev pub is_marked_name : Option Text → Bool
 is_marked_name None = false
 is_marked_name (Some s) = is_marked s

@@ -1,4 +1,4 @@
-//! The body of a message: its arguments, and what goes with the call.
+//! The body of a message: its arguments, and the embed of the call.
 
 ghost use Rattle.std.specs.Prelude.{◌≡◌, ◌∷◌, ◌++◌, IfOk, map, reverse, codes};
 ghost use Rattle.std.specs.Str.{IsUtf8};
@@ -26,7 +26,7 @@ use canvas_wire::{write_args, write_named};
 use json::Writer;
 use std::alloc::{AllocError, Global};
 
-/// Links or error callbacks, null where there is none.
+/// Writes links or error callbacks, null if there are none.
 fn write_callbacks(
     out: &mut Writer,
     names: &Names<'_>,
@@ -51,7 +51,7 @@ fn is_stop(line: &FrozenLine) -> bool
     }
 }
 
-/// All elements of a line, the last first, or null where there is none.
+/// Writes all elements of a line, the last first, or null if there are none.
 fn write_following(out: &mut Writer, names: &Names<'_>, line: &FrozenLine) -> Result<(), AllocError>
     ensures { Appends result out.old out.new (data_tokens (list_or_null
         (each_wire (reverse (elements (naming names.now) (p_line_view line.now)))))) }
@@ -65,7 +65,7 @@ fn write_following(out: &mut Writer, names: &Names<'_>, line: &FrozenLine) -> Re
     out.end_array()
 }
 
-/// What follows on a message's line, the last first.
+/// Writes the rest of a message's line, the last element first.
 fn write_rest(
     out: &mut Writer,
     names: &Names<'_>,
@@ -80,7 +80,7 @@ fn write_rest(
     }
 }
 
-/// The body that a message's place carries, or null.
+/// Writes the body that a message's place carries, or null.
 fn write_chord(out: &mut Writer, names: &Names<'_>, place: &Option<Place>) -> Result<(), AllocError>
     ensures { Appends result out.old out.new
         (data_tokens (body_at (naming names.now) (place_seen place.now))) }
@@ -94,7 +94,7 @@ fn write_chord(out: &mut Writer, names: &Names<'_>, place: &Option<Place>) -> Re
     }
 }
 
-/// The opening brace, and the members `callbacks` and `chain`.
+/// Writes the opening brace, and the members `callbacks` and `chain`.
 fn write_callbacks_and_chain(
     out: &mut Writer,
     names: &Names<'_>,
@@ -114,7 +114,7 @@ fn write_callbacks_and_chain(
     write_rest(out, names, rest)
 }
 
-/// The members `chord` and `errbacks`.
+/// Writes the members `chord` and `errbacks`.
 fn write_chord_and_errbacks(
     out: &mut Writer,
     names: &Names<'_>,
@@ -161,7 +161,7 @@ fn write_body(out: &mut Writer, names: &Names<'_>, message: &Message) -> Result<
     out.end_array()
 }
 
-/// The text of the body.
+/// Returns the text of the body.
 pub(crate) fn body_of(
     alloc: Global,
     names: &Names<'_>,

@@ -1,4 +1,4 @@
--- How entries and callers are coded, for the ghost fields that hold them.
+-- The codes of entries and callers, for the ghost fields that hold them.
 use Rattle.std.specs.Prelude.{◌≡◌, ℕ, List, ◌⊎◌}
 use Rattle.std.specs.Coded.{Coded, code_by, coded×, coded⊎, coded_ℕ, coded_list}
 use mathlib.Core.Logic.{inl, inr}

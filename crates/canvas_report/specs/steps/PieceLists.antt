@@ -1,4 +1,4 @@
--- The pieces of lists of tasks and of lines, one after another, and what was written of them.
+-- The pieces of lists of tasks and of lines, one after another, and their text.
 use Rattle.std.specs.Prelude.{◌≡◌, ℕ, Bool, true, List, [], ◌∷◌, ◌++◌}
 use Rattle.canvas_task.specs.Text.{Text}
 use Rattle.canvas_semantics.specs.Tree.{Task}
@@ -6,7 +6,7 @@ use Rattle.canvas_semantics.specs.Line.{Line, stop, step, group_end, chord_end}
 use Rattle.canvas_report.specs.Nodes.{Piece, opens, point, closes, points, task_pieces, line_pieces, all_line_pieces, inside, node_line, AreDrawn}
 use Rattle.canvas_report.specs.declared.graph.edges.Node.TheVariants.{Group}
 
--- they stand behind what stood there
+-- the pieces are written after the text that was there
 abbrev pub Adds : (ℕ → Text) → List Piece → (old new : Text) → Type 0
 Adds at ps old new = (text : Text) × AreDrawn at ps text × (new ≡ old ++ text)
 
@@ -23,7 +23,7 @@ abbrev pub lines_pieces : List Line → List Piece
 lines_pieces [] = []
 lines_pieces (l ∷ ls) = line_pieces l ++ lines_pieces ls
 
--- what may stand in front of any text between quotes
+-- what may come before any text between quotes
 abbrev pub IsWhole : Text → Type 0
 IsWhole piece = (more : Text) → inside (piece ++ more) ≡ inside more
 
@@ -36,7 +36,7 @@ abbrev pub list_points : ℕ → List Line → List Piece
 list_points g [] = point (Group g) ∷ []
 list_points g (l ∷ ls) = []
 
--- of a group or chord, without its body
+-- the frame of a group or chord, without its body
 abbrev pub frame_pieces : Bool → Line → List Piece
 frame_pieces c stop = []
 frame_pieces c (step t l) = []

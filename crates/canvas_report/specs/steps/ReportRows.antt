@@ -18,11 +18,11 @@ abbrev pub line_if : (ℕ × Text → Text) → ℕ → Option Text → Text
 line_if f k None = []
 line_if f k (Some name) = f (k, name)
 
--- values behind a first one
+-- values after a first one
 abbrev pub listed_further : (ℕ → Text) → List ℕ → Text
 listed_further f [] = []
 listed_further f (k ∷ ks) = codes ", " ++ f k ++ listed_further f ks
 
--- a ChordError up to the class that it tells
+-- a ChordError up to its class
 abbrev pub blamer_said : Naming → ℕ → Text
 blamer_said n dep = codes "ChordError: Dependency " ++ task_named n dep ++ codes " raised "

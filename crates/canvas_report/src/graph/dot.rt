@@ -19,8 +19,8 @@ fn push_code(dot: &mut String, code: u32) -> Result<(), AllocError>
     Ok(())
 }
 
-/// A character between quotes. What isn't printable ASCII is escaped, so that no text ends its
-/// quotes, or begins an escape of Graphviz or an entity of HTML.
+/// Appends a character between quotes. One that isn't printable ASCII is escaped, so that no text
+/// ends its quotes, or begins an escape of Graphviz or an entity of HTML.
 fn push_escaped(dot: &mut String, c: char) -> Result<(), AllocError>
     ensures { OnOk result (AddsWhole (string_bytes dot.old) (string_bytes dot.new)) }
 {
@@ -43,7 +43,7 @@ fn push_all_escaped(dot: &mut String, text: &str) -> Result<(), AllocError>
     Ok(())
 }
 
-/// A text in quotes.
+/// Appends a text in quotes.
 pub(crate) fn push_quoted(dot: &mut String, text: &str) -> Result<(), AllocError>
     ensures { OnOk result ((inner : Text) × (inside inner ≡ true)
         × (string_bytes dot.new ≡ string_bytes dot.old ++ (codes "\"" ++ inner ++ codes "\""))) }
@@ -65,7 +65,7 @@ fn state_look(status: Option<Status>) -> &'static str
     }
 }
 
-/// How a task is drawn.
+/// Returns how a task is drawn.
 pub(crate) fn look_of(status: Option<Status>, fate: &Option<Fate>) -> &'static str
     ensures { result.now ≡ look fate.now status }
 {

@@ -1,4 +1,4 @@
-//! The edges of a picture: what runs behind what.
+//! The edges of a picture: from each node to what follows it.
 
 ghost use Rattle.std.specs.Prelude.{◌≡◌, ◌==◌, ◌++◌, ◌∷◌, [], Some, None, IfOk, OnOk, map, length, string_bytes};
 ghost use Rattle.canvas_rewrite.specs.FrozenView.{task_in, line_in, end_in};
@@ -15,7 +15,7 @@ use canvas_task::GroupNo;
 use std::alloc::{AllocError, Global};
 use std::fmt;
 
-/// What edges join: a task, the point of a group or chord of no members, or the point between a
+/// An end of an edge: a task, the point of a group or chord of no members, or the point between a
 /// chord's header and its body; each by its number.
 #[derive(Clone, Copy, Drop)]
 pub(crate) enum Node {
@@ -39,7 +39,7 @@ impl fmt::Display for Node {
     }
 }
 
-/// What an edge leads to: what is next, or what a success or a failure calls back.
+/// What an edge leads to: the next task, or a callback of a success or a failure.
 #[derive(Clone, Copy, Drop)]
 pub(crate) enum Leads {
     Next,
@@ -78,7 +78,7 @@ pub(crate) fn has_none(members: &[FrozenLine]) -> bool
     members.is_empty()
 }
 
-/// The point that stands for a group or chord of no members.
+/// Appends the point that is drawn for a group or chord of no members.
 fn push_point(nodes: &mut Vec<Node>, end: &FrozenEnd) -> Result<(), AllocError>
     ensures { OnOk result (nodes.new.items ≡ nodes.old.items ++ point_of (end_in end.now)) }
 {
@@ -88,7 +88,7 @@ fn push_point(nodes: &mut Vec<Node>, end: &FrozenEnd) -> Result<(), AllocError>
     Ok(())
 }
 
-/// Where a line begins.
+/// Appends the nodes that a line begins at.
 #[cycle(firsts)]
 fn push_firsts(nodes: &mut Vec<Node>, line: &FrozenLine) -> Result<(), AllocError>
     ensures { OnOk result (nodes.new.items ≡ nodes.old.items ++ firsts (line_in line.now)) }
@@ -105,7 +105,7 @@ fn push_firsts(nodes: &mut Vec<Node>, line: &FrozenLine) -> Result<(), AllocErro
     }
 }
 
-/// Where a group or chord begins: at its members.
+/// Appends the nodes that a group or chord begins at: those of its members.
 #[cycle(firsts)]
 fn push_end_firsts(nodes: &mut Vec<Node>, end: &FrozenEnd) -> Result<(), AllocError>
     ensures { OnOk result (nodes.new.items ≡ nodes.old.items ++ firsts (end_in end.now)) }
@@ -125,7 +125,7 @@ fn push_all_firsts(nodes: &mut Vec<Node>, lines: &[FrozenLine]) -> Result<(), Al
     Ok(())
 }
 
-/// Where a line ends.
+/// Appends the nodes that a line ends in.
 #[cycle(lasts)]
 fn push_lasts(nodes: &mut Vec<Node>, line: &FrozenLine) -> Result<(), AllocError>
     ensures { OnOk result (nodes.new.items ≡ nodes.old.items ++ lasts (line_in line.now)) }
@@ -152,7 +152,7 @@ fn push_end_lasts(nodes: &mut Vec<Node>, end: &FrozenEnd) -> Result<(), AllocErr
     }
 }
 
-/// Where the members of a group or chord end.
+/// Appends the nodes that the members of a group or chord end in.
 #[cycle(lasts)]
 fn push_member_lasts(nodes: &mut Vec<Node>, end: &FrozenEnd) -> Result<(), AllocError>
     ensures { OnOk result (nodes.new.items ≡ nodes.old.items ++ member_lasts (end_in end.now)) }
@@ -189,7 +189,7 @@ fn push_edges(edges: &mut Vec<Edge>, from: Node, to: &[Node]) -> Result<(), Allo
     Ok(())
 }
 
-/// The edges from each of these to each of those.
+/// Appends the edges from each of these to each of those.
 fn push_joined(edges: &mut Vec<Edge>, from: &[Node], to: &[Node]) -> Result<(), AllocError>
     ensures { OnOk result (edges.new.items ≡ edges.old.items ++ joined from.now to.now) }
 {
@@ -205,15 +205,16 @@ fn are_several(nodes: &[Node]) -> bool
     nodes.len() > 1
 }
 
-/// Whether a header and a body that end and begin so have a point between them.
+/// Returns whether a header with these ends and a body with these beginnings have a point between
+/// them.
 fn has_joint(from: &[Node], to: &[Node]) -> bool
     ensures { result ≡ has_joint from.now to.now }
 {
     are_several(from) && are_several(to)
 }
 
-/// The edges from where a chord's header ends to where its body begins, through a point if there is
-/// one.
+/// Appends the edges from the ends of a chord's header to the beginnings of its body, through a
+/// point if there is one.
 fn push_between(
     edges: &mut Vec<Edge>,
     chord: GroupNo,
@@ -232,7 +233,7 @@ fn push_between(
     }
 }
 
-/// The edges from what stands before, if something does.
+/// Appends the edges from the node before, if there is one.
 fn push_behind(edges: &mut Vec<Edge>, before: &Option<Node>, to: &[Node]) -> Result<(), AllocError>
     ensures { OnOk result (edges.new.items ≡ edges.old.items ++ behind before.now to.now) }
 {
@@ -268,7 +269,7 @@ fn push_callbacks(
     Ok(())
 }
 
-/// The tasks in front of a line's group or chord. The last of them is told.
+/// Appends the edges of the tasks before a line's group or chord. Returns the last of them.
 fn push_tasks(edges: &mut Vec<Edge>, tasks: &[FrozenTask]) -> Result<Option<Node>, AllocError>
     ensures pushed { OnOk result
         (edges.new.items ≡ edges.old.items ++ tasks_edges None (map task_in tasks.now)) }
@@ -284,7 +285,7 @@ fn push_tasks(edges: &mut Vec<Edge>, tasks: &[FrozenTask]) -> Result<Option<Node
     Ok(before)
 }
 
-/// The edges from a task to where the members of a group or chord begin.
+/// Appends the edges from a task to the beginnings of a group's or chord's members.
 fn push_to_members(
     alloc: Global,
     edges: &mut Vec<Edge>,
@@ -299,7 +300,7 @@ fn push_to_members(
     push_edges(edges, from, &nodes)
 }
 
-/// The same, where a task stands before.
+/// Like `push_to_members`, if there is a task before.
 fn push_before(
     alloc: Global,
     edges: &mut Vec<Edge>,
@@ -315,7 +316,7 @@ fn push_before(
     }
 }
 
-/// Where the header of a chord ends, and where its body begins.
+/// The ends of a chord's header, and the beginnings of its body.
 #[derive(Drop)]
 struct Sides {
     from: Vec<Node>,
@@ -333,7 +334,7 @@ fn sides_of(alloc: Global, end: &FrozenEnd, body: &FrozenLine) -> Result<Sides, 
     Ok(Sides { from, to })
 }
 
-/// Whether there is a point between the header of a chord and its body.
+/// Returns whether there is a point between the header of a chord and its body.
 pub(crate) fn chord_has_joint(
     alloc: Global,
     end: &FrozenEnd,
@@ -346,7 +347,7 @@ pub(crate) fn chord_has_joint(
     Ok(has_joint(&sides.from, &sides.to))
 }
 
-/// The edges from the header of a chord to its body.
+/// Appends the edges from the header of a chord to its body.
 fn push_to_body(
     alloc: Global,
     edges: &mut Vec<Edge>,
@@ -405,7 +406,7 @@ fn push_lines(alloc: Global, edges: &mut Vec<Edge>, lines: &[FrozenLine]) -> Res
     Ok(())
 }
 
-/// An edge in the language of Graphviz.
+/// Appends an edge in the language of Graphviz.
 fn push_text(text: &mut String, edge: &Edge) -> Result<(), AllocError>
     ensures { OnOk result (string_bytes text.new ≡ string_bytes text.old ++ edge_text edge.now) }
 {
@@ -425,7 +426,7 @@ fn push_texts(text: &mut String, edges: &[Edge]) -> Result<(), AllocError>
     Ok(())
 }
 
-/// The edges of a line in the language of Graphviz, each in a line.
+/// Appends the edges of a line in the language of Graphviz, one in each line.
 pub(crate) fn push_line_edges(
     alloc: Global,
     text: &mut String,

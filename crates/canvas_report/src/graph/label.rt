@@ -7,10 +7,10 @@ use canvas_rewrite::FrozenTask;
 use canvas_task::{Arg, Fault, Outcome, TaskNo};
 use std::alloc::{AllocError, Global};
 
-/// How many characters of a text, and how many items of a list, are shown.
+/// The most characters of a text, and the most items of a list, that are shown.
 const MOST_SHOWN: usize = 24;
 
-/// The beginning of a text.
+/// Appends the beginning of a text.
 fn push_cut(label: &mut String, text: &str) -> Result<(), AllocError> {
     for c in text.chars().take(MOST_SHOWN) {
         label.push(c)?;
@@ -72,7 +72,7 @@ fn push_arguments(label: &mut String, task: &FrozenTask) -> Result<(), AllocErro
     Ok(())
 }
 
-/// An exception; of a chord in two lines, with the number of the member that failed.
+/// Appends an exception; that of a chord in two lines, with the number of the member that failed.
 fn push_fault(label: &mut String, fault: &Fault) -> Result<(), AllocError> {
     match fault {
         Fault::Plain(kind) => write!(label, "\nFAILURE {kind}")?,
@@ -105,7 +105,7 @@ fn push_outcome(label: &mut String, outcome: &Option<Outcome>) -> Result<(), All
     }
 }
 
-/// What came of a task.
+/// Appends a task's result.
 fn push_row(label: &mut String, row: &Row) -> Result<(), AllocError> {
     match row {
         Row::Known(outcome) => push_outcome(label, outcome),
@@ -125,7 +125,7 @@ fn push_row(label: &mut String, row: &Row) -> Result<(), AllocError> {
     }
 }
 
-/// The same, where it was run. It is pending where the row is missing.
+/// Appends a task's result if there are rows. It is pending if its row is missing.
 fn push_state(label: &mut String, rows: Option<&[Row]>, task: TaskNo) -> Result<(), AllocError> {
     let Some(rows) = rows else {
         return Ok(());
@@ -136,7 +136,7 @@ fn push_state(label: &mut String, rows: Option<&[Row]>, task: TaskNo) -> Result<
     }
 }
 
-/// To which task it is due that one failed without a call.
+/// Appends the task to blame for one that failed without a call.
 fn push_due(label: &mut String, fate: &Fate) -> Result<(), AllocError> {
     match fate {
         Fate::Ran | Fate::Idle => Ok(()),
@@ -148,7 +148,7 @@ fn push_due(label: &mut String, fate: &Fate) -> Result<(), AllocError> {
     }
 }
 
-/// The same, where there was a run.
+/// Appends the task to blame if fates are given.
 fn push_told(label: &mut String, fate: &Option<Fate>) -> Result<(), AllocError> {
     match fate {
         None => Ok(()),
@@ -156,8 +156,8 @@ fn push_told(label: &mut String, fate: &Option<Fate>) -> Result<(), AllocError> 
     }
 }
 
-/// A task's number, its call, whether it takes no input, and what came of it where it was run; of a
-/// task that failed without a call, also the number of the task to blame.
+/// Returns a task's label: its number, its call, whether it takes no input, and its result if it
+/// was run; if it failed without a call, also the number of the task to blame.
 pub(crate) fn label_of(
     alloc: Global,
     task: &FrozenTask,

@@ -21,15 +21,15 @@ use canvas_rewrite::{FrozenEnd, FrozenLine, FrozenTask};
 use canvas_task::{GroupNo, TaskNo};
 use std::alloc::{AllocError, Global};
 
-/// What is shown of tasks besides what they are.
+/// What is shown of tasks besides their calls.
 #[derive(Clone, Copy)]
 pub(crate) struct Seen<'r> {
     pub rows: Option<&'r [Row]>,
-    /// What became of each task, where there was a run.
+    /// The fate of each task, if there was a run.
     pub fates: &'r [(TaskNo, Fate)],
 }
 
-/// What a task's row tells, where rows are given.
+/// Returns the status in a task's row, if rows are given.
 fn status_in(seen: &Seen<'_>, task: TaskNo) -> Option<Status>
     ensures { result ≡ option_map (λ rows. row_status (row_of rows task))
         (option_map (λ rows. rows.now) seen.now.rows) }
@@ -57,7 +57,7 @@ fn push_labelled(text: &mut String, task: TaskNo, look: &str, label: &str) -> Re
     put(text, "];\n")
 }
 
-/// A task, without its callbacks.
+/// Appends a task, without its callbacks.
 fn push_node(
     alloc: Global,
     text: &mut String,
@@ -129,7 +129,7 @@ fn push_label_line(text: &mut String, kind: &str, number: u32) -> Result<(), All
     Ok(())
 }
 
-/// The head of the frame of a group or chord.
+/// Appends the head of the frame of a group or chord.
 fn push_opening(text: &mut String, group: GroupNo, is_chord: bool) -> Result<(), AllocError>
     ensures { (at : ℕ → Text) → OnOk result
         (Adds at (opens is_chord group ∷ []) (string_bytes text.old) (string_bytes text.new)) }
@@ -157,7 +157,7 @@ fn push_point(text: &mut String, group: GroupNo, members: &[FrozenLine]) -> Resu
     }
 }
 
-/// The point between the header of a chord and its body, if there is one.
+/// Appends the point between the header of a chord and its body, if there is one.
 fn push_joint(
     alloc: Global,
     text: &mut String,
@@ -221,7 +221,7 @@ fn push_end(
     }
 }
 
-/// The frame of a group or chord, with its members.
+/// Appends the frame of a group or chord, with its members.
 #[cycle(lines)]
 fn push_frame(
     alloc: Global,

@@ -34,7 +34,7 @@ module _ {E : Type 0} where
   takes_in (makes c ∷ cs) = takes_one c + takes_in cs
   takes_in (acknowledges ∷ cs) = takes_in cs
 
-  -- the takes that stand in the list and not in the core run, and how the two go on
+  -- the takes that the list has and the core run does not, and how the two go on
   pub record Rest (h : Option E) (ts : List E) (cs : List (CoreCall E)) (ls : List (QueueAnswered E)) : Type 0 where
     pub opened : Option E
     pub held : List E

@@ -68,7 +68,7 @@ spread {A} w v g n xs each one = let a = lower xs each in let b = up-few n (λ k
     lower [] e = omega arith
     lower (y ∷ ys) e = let r = lower ys e.1 in omega (arith, r, e.0, up-both n (λ k. v k y) (λ k. total (v k) ys))
 
--- how often a number stands in a list
+-- how often a number is in a list
 abbrev pub times_in : ℕ → List ℕ → ℕ
 times_in k ms = total (λ m. cond (eqb m k) 1 0) ms
 

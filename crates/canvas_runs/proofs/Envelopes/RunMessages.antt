@@ -144,7 +144,7 @@ group_in_range (skips f) es h = tt
 group_in_range (raise f) [] h = tt
 group_in_range (raise f) (e ∷ es) h = header_in_range (e ∷ es) h
 
--- ---- what can stand in a message
+-- ---- what a message can contain
 
 abbrev bares : Lines → List PLine
 bares no_lines = []
@@ -154,11 +154,11 @@ bares_are : (ms : Lines) → all_bare ms ≡ p_lines_of (bares ms)
 bares_are no_lines = refl
 bares_are (and_line m ms) = ap (and_p_line (bare m)) (bares_are ms)
 
--- a line that is not empty can stand in a message where its end goes to p
+-- a message can contain a line that is not empty, if its end goes to p
 abbrev Stands : Line → PPlace → Type 0
 Stands l p = is_stop (bare l) ≡ false → can_stand (bare l) p ≡ true
 
--- a line with no place in it stands where its end goes nowhere
+-- a message can contain a line with no place in it whose end goes nowhere
 bare_stands : (l : Line) → is_whole (bare l) ≡ true → can_stand (bare l) p_nowhere ≡ true
 bare_stands l h = subst (λ p. can_stand (bare l) p ≡ true) (bare_place l) (stands_there (bare l) h)
 
@@ -166,7 +166,7 @@ all_stand : (ms : Lines) → AllWhole (bares ms) → AllStand p_nowhere (bares m
 all_stand no_lines h = tt
 all_stand (and_line m ms) h = (bare_stands m h.0, all_stand ms h.1)
 
--- what stands behind a task
+-- the line that follows a task
 rest_stands : (t : Task) (l : Line) (p : PPlace) → can_stand (bare (step t l)) p ≡ true → Stands l p
 rest_stands t l p h more =
     rest_whole (bare_task t) (placed p (bare l)) (keeps_on p (bare l) more)

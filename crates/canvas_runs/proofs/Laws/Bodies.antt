@@ -1,5 +1,5 @@
--- The messages that a plan starts with are published by its start, and those that a chord's body starts with, behind a header with members, by the
--- header's completion.
+-- The messages that a plan starts with are published by its start, and those that a chord's body starts with, after a header with members, by the header's
+-- completion.
 use Rattle.std.proofs.Common.{◌≡◌, ℕ, suc, ◌<◌, ◌≤◌, true, List, [], ◌∷◌, ◌++◌, map, Option, Some, None, refl, sym, ap, subst, ◌∙◌, inl, inr, ⊎_elim, arith}
 use Rattle.canvas_task.specs.Apply.{Behaviour}
 use Rattle.canvas_task.specs.declared.outcome.Outcome.{Outcome}

@@ -112,7 +112,8 @@ module _ (behaviour : Behaviour) (l : Line) (plan : IsPlan l) where
   }
 
   pub one_outcome : (t : ℕ) (o q : Outcome) → Has X Does t o → Has X Does t q → o ≡ q
-  one_outcome t o q a b = plan_facts.one_outcome behaviour p t o q (a.0, facts.stored behaviour l plan a.0 t o a.1) (b.0, facts.stored behaviour l plan b.0 t q b.1)
+  one_outcome t o q a b = plan_facts.one_outcome behaviour p t o q (a.0, facts.stored behaviour l plan a.0 t o a.1)
+      (b.0, facts.stored behaviour l plan b.0 t q b.1)
 
   -- ---- backs
 

@@ -53,7 +53,7 @@ module _ {E : Type 0} where
       → FollowsCore ts (broker_calls xs) ls
   accords_run {h} {ts} {ls} xs f = subst (λ cs. FollowsCore ts cs ls) (unmarked_calls xs) (accords f)
 
-  -- of a core run behind some calls
+  -- of a core run after some calls
   pub accords_behind : {h : Option E} {ts : List E} {ls : List (QueueAnswered E)} (cs : List (QueueAnswered E)) (xs : List (AskedAndAnswered E))
       → FollowsScripts h ts (map makes cs ++ core_calls xs) ls → FollowsCore ts (cs ++ broker_calls xs) ls
   accords_behind {h} {ts} {ls} cs xs f =

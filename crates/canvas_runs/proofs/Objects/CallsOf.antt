@@ -135,7 +135,7 @@ module _ {C R : Type 0} where
       (λ (h : (a == p) ≡ false). by_off p a (c, r) (answered_calls es) h
       ∙ (calls_by p es ∙ sym (ap (λ l. seconds (answered_calls l)) (made_off p (calls a c r) es h)))) (cases_Bool (a == p))
 
-  -- calls behind entries that are none
+  -- calls after entries that are none
   behind : (p : ℕ) (xs : List (Entry C R)) (cs : List (C × R)) → answered_calls xs ≡ [] → answered_calls (xs ++ entries_by p cs) ≡ tag p cs
   behind p xs cs none = calls_append xs (entries_by p cs) ∙ (ap (λ l. l ++ answered_calls (entries_by p cs)) none ∙ calls_entries p cs)
 
@@ -152,7 +152,7 @@ module _ {C R : Type 0} where
       ∙ ap₂ (λ k l. k ++ l) (behind p xs bs none) (behind p ys cs also))
       ∙ (seconds-append (tag p bs) (tag p cs) ∙ ap₂ (λ k l. k ++ l) (seconds_tag p bs) (seconds_tag p cs))))
 
-  -- an entry that is a call stands among them, and they are entries
+  -- an entry that is a call is among them, and they are entries
   pub call_in : (es : List (Entry C R)) (p : ℕ) (c : C) (r : R) → In (calls p c r) es → In (p, (c, r)) (answered_calls es)
   call_in [] p c r i = elim i [ ]
   call_in (split a b ∷ es) p c r (inl s) = absurd cc

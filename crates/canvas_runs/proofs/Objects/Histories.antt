@@ -94,8 +94,13 @@ module _ {E : Type 0} (Good : E → Type 0) where
       let mine : CarefulCalls ((queue.publish e, a) ∷ by p es) =
       subst (λ b. CarefulCalls (cond b ((queue.publish e, a) ∷ by p es) (by p es))) (eq-eqb p p refl) (k p) in
       (mine.0, all_careful ts (q ++ e ∷ []) es l h (each_append Good q _ g (mine.0, tt)) (λ r. others_careful (p, (queue.publish e, a)) es tt r (k r)))
-  all_careful ts q ((p, (queue.redeliver e, a)) ∷ es) l h g k =
-      (tt, all_careful ts (q ++ e ∷ []) es l.1 h (each_append Good q _ g (in_each Good ts h e l.0, tt)) (λ r. others_careful (p, (queue.redeliver e, a)) es tt r (k r)))
+  all_careful ts q ((p, (queue.redeliver e, a)) ∷ es) l h g k = (
+    tt,
+    all_careful ts (q ++ e ∷ []) es l.1 h (each_append Good q _ g (in_each Good ts h e l.0, tt)) (λ r. others_careful (
+      p,
+      (queue.redeliver e, a),
+    ) es tt r (k r)),
+  )
   all_careful ts q ((p, (queue.take, Some e)) ∷ es) (rest, e', l) h g k =
       let parts : Each Good (e ∷ rest) = subst (Each Good) e' g in
       (tt, all_careful (e ∷ ts) rest es l (parts.0, h) parts.1 (λ r. others_careful (p, (queue.take, Some e)) es parts.0 r (k r)))

@@ -33,7 +33,7 @@ IsOpen nowhere = Unit
 IsOpen (in_group g) = Unit
 IsOpen (in_chord g c) = ⊥
 
--- at most one part, of the task behind the line or of a task stored
+-- at most one part, of the task before the line or of a task stored
 abbrev pub Shape : Bool → ℕ → Jobs → Type 0
 Shape behind t js = NoParts js
     ⊎ ((g : ℕ) × (d : ℕ) × (c : Carried) × (picked only_part js ≡ part g d c ∷ []) × (((behind ≡ true) × (d ≡ t)) ⊎ ((o : Outcome) × In (store d o) js)))
@@ -44,13 +44,13 @@ shape_after behind t xs js n (inl a) = inl (none_both xs js n a)
 shape_after behind t xs js n (inr (g, d, c, e, h)) =
     inr (g, d, c, picked-append only_part xs js ∙ (ap (λ l. l ++ picked only_part js) n ∙ e), ⊎_elim (λ a. inl a) (λ b. inr (b.0, in_right xs js _ b.1)) h)
 
--- after the store of the task behind
+-- after the store of the task before the line
 shape_store : (behind : Bool) (t k : ℕ) (o : Outcome) (js : Jobs) → Shape true k js → Shape behind t (store k o ∷ js)
 shape_store behind t k o js (inl a) = inl a
 shape_store behind t k o js (inr (g, d, c, e, inl h)) = inr (g, d, c, e, inr (o, inl (ap (λ u. store u o) h.1)))
 shape_store behind t k o js (inr (g, d, c, e, inr h)) = inr (g, d, c, e, inr (h.0, inr h.1))
 
--- with nothing behind, anything may be
+-- with no task before the line, anything may be
 shape_any : (behind : Bool) (t : ℕ) (js : Jobs) → Shape false 0 js → Shape behind t js
 shape_any behind t js (inl a) = inl a
 shape_any behind t js (inr (g, d, c, e, inl h)) = absurd (false_true h.0)

@@ -203,7 +203,7 @@ mutual
   none_behind t (group_end g ms) = refl
   none_behind t (chord_end g ms b) = none_given b
 
--- a line behind a task, or that isn't empty, whose end goes to a group or chord ends in a task
+-- a line after a task, or that isn't empty, whose end goes to a group or chord ends in a task
 abbrev pub EndsAt : Bool → Place → Line → Type 0
 EndsAt behind nowhere l = Unit {0}
 EndsAt behind (in_group g) l = EndsInTask behind l

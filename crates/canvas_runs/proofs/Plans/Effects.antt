@@ -85,7 +85,7 @@ abbrev pub callbacks : Tasks → Input → Option ℕ → Jobs
 callbacks no_tasks x u = []
 callbacks (and_task t ts) x u = publish (message t x u stop nowhere) ∷ callbacks ts x u
 
--- what happens at once where x flows into a line whose end goes to p, behind task t, in file order
+-- what happens at once if x flows into a line whose end goes to p, after task t, in file order
 abbrev mutual
   pub enter : Line → LineFlow → Place → ℕ → Option ℕ → Jobs
   enter stop x p t u = at_stop p t

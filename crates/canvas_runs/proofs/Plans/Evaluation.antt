@@ -71,7 +71,7 @@ module _ (behaviour : Behaviour) where
     ran_all no_tasks x v = []
     ran_all (and_task t ts) x v = ran t x v stop nowhere ++ ran_all ts x v
 
-  -- all that comes of x flowing into a line whose end goes to p, behind task t, by an event
+  -- all that follows if x flows into a line whose end goes to p, after task t, by an event
   abbrev mutual
     pub items : Line → LineFlow → Place → ℕ → Event → Items
     items stop x p t v = labelled v (at_stop p t)

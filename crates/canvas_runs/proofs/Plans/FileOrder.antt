@@ -17,7 +17,7 @@ module _ (members : ℕ → List ℕ) where
     LinesIn no_lines low high = low ≤ high
     LinesIn (and_line m ms) low high = (middle : ℕ) × LineIn m low middle × EndsInTask false m × LinesIn ms middle high
 
-  -- a line behind task t whose end goes to a group or chord ends in one of its members' last tasks
+  -- a line after task t whose end goes to a group or chord ends in one of its members' last tasks
   abbrev pub Lands : Place → Bool → ℕ → Line → Type 0
   Lands nowhere behind t l = Unit
   Lands (in_group g) behind t l = EndsInTask behind l × In (last_from t l) (members g)
@@ -25,7 +25,7 @@ module _ (members : ℕ → List ℕ) where
 
   -- by the first number past the plan's tasks
   module _ (limit : ℕ) where
-    -- what lies behind a place is numbered from a bound on
+    -- what follows a place is numbered from a bound on
     abbrev mutual
       pub PlaceIn : Place → ℕ → Type 0
       PlaceIn nowhere low = Unit

@@ -36,7 +36,7 @@ found k (j ∷ ks) (inr i) = go (j == k) (found k ks i)
     go true e = refl
     go false e = e
 
--- how often a number stands in a list that has it
+-- how often a number is in a list that has it
 some_times : (k : ℕ) (ks : List ℕ) → In k ks → 0 < count_by (λ x. x == k) ks
 some_times k [] i = elim i [ ]
 some_times k (j ∷ ks) i = go (j == k) refl i (some_times k ks)

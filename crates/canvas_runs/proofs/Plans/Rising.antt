@@ -1,4 +1,4 @@
--- What is done stands in the order of the file, so each task is run once and stored once.
+-- What is done is in the order of the file, so each task is run once and stored once.
 use Rattle.std.proofs.Common.{◌≡◌, ℕ, suc, ◌+◌, ◌<◌, ◌≤◌, Bool, true, false, cond, eqb, List, [], ◌∷◌, ◌++◌, Option, Some, None, refl, sym, ap, subst, ◌∙◌, inl, inr, ◌⊎◌, arith}
 use Rattle.std.proofs.lemmas.Bool.{eqb-true}
 use Rattle.canvas_task.specs.Apply.{Behaviour}
@@ -19,7 +19,7 @@ use Rattle.canvas_runs.proofs.Lists.Sums.{total-append}
 use Rattle.canvas_runs.proofs.Plans.Trees.{AJob}
 use Rattle.canvas_runs.proofs.Plans.Order.{task_span, tasks_span, line_span}
 
--- the keys stand in rising order, from the first bound on and below the second
+-- the keys are in rising order, from the first bound on and below the second
 module _ {X : Type 0} (key : X → Option ℕ) where
   abbrev pub Next : Option ℕ → ℕ → (ℕ → Type 0) → Type 0
   Next None low R = R low

@@ -1,4 +1,4 @@
--- The script of an effect is its jobs by kind: stores and messages stand in order already, and there is at most one part.
+-- The script of an effect is its jobs by kind: stores and messages are in order already, and there is at most one part.
 use Rattle.std.proofs.Common.{◌≡◌, ◌⊎◌, ℕ, suc, true, false, List, [], ◌∷◌, ◌++◌, map, Some, None, refl, sym, ap, ap₂, ◌∙◌, inl, inr, arith}
 use Rattle.std.proofs.lemmas.List.{map-append}
 use Rattle.canvas_task.specs.declared.outcome.Outcome.{Outcome}

@@ -102,7 +102,7 @@ module _ (sizes : ℕ → Option ℕ) (table : ℕ → List ℕ) where
 
 -- ---- a plan's line
 
--- the one behind the others has their count and one for its number
+-- the one after the others has their count and one for its number
 at_seam : (before : List GroupEntry) (t : GroupEntry) (after : List GroupEntry) (g : ℕ) → g ≡ suc (length before) → entry_at (before ++ t ∷ after) g ≡ Some t
 at_seam before t after zero e = absurd (omega arith)
 at_seam [] t after (suc g) e = let z : g ≡ 0 = omega arith in rw z refl

@@ -170,7 +170,7 @@ module _ (behaviour : Behaviour) where
   meaning_rows : (t : Task) (x : eval.Flow) → (eval.task_meaning behaviour t x).rows ≡ task_rows behaviour t (Some x)
   meaning_rows (task k call ls es) x = refl
 
--- ---- rows stand in the order of their numbers
+-- ---- rows are in the order of their numbers
 
 abbrev row_key : ℕ × State → Option ℕ
 row_key r = Some r.0

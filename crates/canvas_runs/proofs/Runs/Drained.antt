@@ -96,7 +96,7 @@ module _ {E : Type 0} where
   used (follows_core_take f) n e (inl (inr i)) = inr (used f (omega arith) e (inl i))
   used (follows_core_take f) n e (inr i) = inr (used f (omega arith) e (inr i))
 
-  -- what the core run calls stands in the list
+  -- what the core run calls is in the list
   pub follows_in : {ts : List E} {cs ls : List (QueueAnswered E)} → FollowsCore ts cs ls → (c : QueueAnswered E) → In c cs → In c ls ⊎ In c (map taken_as ts)
   follows_in follows_all c i = elim i [ ]
   follows_in (follows_publish f) c (inl s) = inl (inl s)

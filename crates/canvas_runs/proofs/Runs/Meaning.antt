@@ -32,8 +32,8 @@ module _ {E : Type 0} (X : Protocol E) where
   keeps k (publish m) = 0
   keeps k (part g t c) = 0
 
-  -- what a plan says, the last tasks of a group's members and the messages of the tasks that start at once, and what is known of a message and of a part from
-  -- their form alone
+  -- what a plan says, the last tasks of a group's members and the messages of the tasks that start at once, and what is known of a message and of a part only
+  -- from their form
   pub record Form : Type 1 where
     pub members : ℕ → List ℕ
     pub first : List X.Message

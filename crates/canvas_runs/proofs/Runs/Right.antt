@@ -140,7 +140,7 @@ module _ {E : Type 0} (X : Protocol E) (F : Form X) (Does : Event → JobOf X �
   all_suit : (p : ℕ) → AllSuit X (run.core p)
   all_suit p = suits_from_run X taking (run.core p) (run.is_core p)
 
-  -- by form alone
+  -- only by form
   abbrev formed_goods : Goods X
   formed_goods = record {
     Taken = F.Formed;

@@ -64,7 +64,7 @@ fn trades_plain(broker: &mut PlainBroker<Letter>, sent: Letter, same: &Envelope)
     publish_plain(broker, sent, same) && gives(broker.take(), same) && broker.is_empty()
 }
 
-/// The same of a queue, and of its letter.
+/// Like `trades_plain`, for a queue and its letter.
 fn trades_letter(
     alloc: Global,
     broker: &mut PlainBroker<Letter>,
@@ -86,7 +86,7 @@ pub(crate) fn plain_queue(alloc: Global) -> Result<bool, Memory> {
 
 // ---- the queue that threads share
 
-/// The same at the queue that threads share. A refused publish leaves nothing to take.
+/// Publishes to the queue that threads share. A refused publish leaves nothing to take.
 fn publish<R: Wait>(
     rt: &R,
     broker: &Broker<Letter>,
@@ -122,7 +122,7 @@ fn passes<R: Wait>(
     publish(rt, broker, other, sent, same) && gives(broker.take(rt, pass), same)
 }
 
-/// The same by a pass that is split off. Where the split is refused the first pass does both.
+/// Like `passes`, with a pass that is split off. If the split is refused, the first pass does both.
 fn trades<R: Wait>(
     rt: &R,
     broker: &Broker<Letter>,
@@ -147,7 +147,7 @@ fn trades<R: Wait>(
     }
 }
 
-/// The same of a letter.
+/// Like `trades`, for a letter.
 fn trades_shared<R: Wait>(
     rt: &R,
     alloc: Global,
@@ -163,7 +163,7 @@ fn trades_shared<R: Wait>(
     }
 }
 
-/// The same of a queue of its own.
+/// Like `trades_shared`, with a queue of its own.
 fn queue_trades<R: Wait>(rt: &R, alloc: Global, same: &Envelope) -> Result<bool, Memory> {
     match Broker::new(alloc) {
         Ok((broker, mut pass)) => trades_shared(rt, alloc, &broker, &mut pass, same),
@@ -269,7 +269,7 @@ fn finds(backend: &PlainBackend, core: &Core, outcome: Outcome) -> Option<Reply>
     }
 }
 
-/// The replies to a core whose part completes a header of three, behind the take of its message.
+/// The replies to a core whose part completes a header of three, after the take of its message.
 fn reply_of(backend: &PlainBackend, core: &Core, step: u32) -> Option<Reply>
     ensures in_range { IfSome result FoundInRange }
     ensures found { IfSome result (λ r. FoundOf (book_on backend.now.plan) r (next core.now)) }
@@ -327,7 +327,7 @@ fn works(backend: &PlainBackend, core: &mut Core, taken: Option<Letter>) -> Resu
     }
 }
 
-/// The same of the envelope of a plan's third member.
+/// Like `works`, for the envelope of a plan's third member.
 fn works_last(
     alloc: Global,
     backend: &PlainBackend,

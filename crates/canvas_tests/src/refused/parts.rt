@@ -42,7 +42,7 @@ fn is_written(alloc: Global, canvas: &Canvas) -> Result<bool, Memory> {
     Ok(text.as_str() == NORMAL)
 }
 
-/// The same of what a signature comes to.
+/// Like `is_written`, for a checked signature.
 fn is_checked(alloc: Global, checked: &Result<Canvas, SigFault>) -> Result<bool, Memory> {
     match checked {
         Ok(canvas) => is_written(alloc, canvas),
@@ -111,7 +111,7 @@ fn is_frozen(alloc: Global, canvas: &Canvas) -> Result<bool, Memory> {
     Ok(plan.tasks() == 4 && plan.groups() == 1)
 }
 
-/// The same of what a text comes to.
+/// Like `is_frozen`, for a text that was read.
 fn is_read_and_frozen(alloc: Global, read: &Result<Canvas, SigFault>) -> Result<bool, Memory> {
     match read {
         Ok(canvas) => is_frozen(alloc, canvas),
@@ -136,7 +136,7 @@ fn is_argument(alloc: Global, value: &Value) -> Result<bool, Memory> {
     }
 }
 
-/// The same of a value's text.
+/// Like `is_argument`, for a value's text.
 fn is_text(alloc: Global, text: &str) -> Result<bool, Memory> {
     match Value::from_str(alloc, text) {
         Ok(value) => is_argument(alloc, &value),
@@ -160,7 +160,7 @@ fn has_envelope(alloc: Global, message: &Message, envelope: &Envelope) -> Result
     Ok(found == *envelope)
 }
 
-/// The same of what an envelope comes to.
+/// Like `has_envelope`, for an envelope that was opened.
 fn is_opened(
     alloc: Global,
     opened: &Result<Message, MessageFault>,
@@ -217,7 +217,7 @@ fn is_one_of_each(todo: &Todo) -> bool {
     todo.stores.get().len() == 1 && todo.messages.get().len() == 1 && todo.part.is_none()
 }
 
-/// Whether behind a header of which a member failed its body is stored, and the body's error
+/// Whether, after a header of which a member failed, its body is stored and the body's error
 /// callback published.
 fn raises(alloc: Global, part: &PartCall) -> Result<bool, Memory> {
     match outcomes() {
@@ -247,7 +247,7 @@ fn returns(alloc: Global, message: &Message) -> Result<bool, Memory> {
     }
 }
 
-/// Whether a part is returned where the message is given up for it.
+/// Whether a part is returned if the message is consumed for it.
 fn gives_part(alloc: Global, message: Message) -> Result<bool, Memory> {
     match into_todo(alloc, message, &FAILS) {
         Ok(todo) => Ok(todo.part.is_some()),

@@ -18,7 +18,7 @@ use std::random::RandomSource;
 use std::sync::Wait;
 use std::thread::Threads;
 
-/// A sum and a product; a chord with a member that fails; and a chord with a task behind it.
+/// A sum and a product; a chord with a member that fails; and a chord with a task after it.
 pub(crate) const CANVASES: [Canvas; 3] = [
     ["C(.,.)", "add:4,4 mul:8"],
     FAILING,
@@ -28,12 +28,12 @@ pub(crate) const CANVASES: [Canvas; 3] = [
 /// How a canvas is run.
 #[derive(Clone, Copy, Debug, PartialEq, Eq)]
 pub(crate) enum How {
-    /// By turns, with so many workers.
+    /// By turns, with this number of workers.
     Turns(u32),
-    /// By turns, with so many workers, where the envelopes of the first two tasks are delivered
-    /// again at both points.
+    /// By turns, with this number of workers, and the envelopes of the first two tasks redelivered
+    /// at both points.
     Again(u32),
-    /// On threads, with so many workers.
+    /// On threads, with this number of workers.
     Threads(u32),
     /// By one worker that is polled by hand, and delivers two envelopes again.
     ByHand,
@@ -43,8 +43,8 @@ pub(crate) enum How {
     TextThreads,
 }
 
-/// Whether a run's rows are as they have to be, where so many calls of tasks have begun. Once there
-/// are more than workers, a worker has gone on from a message whose first store stands.
+/// Whether a run's rows are as they have to be, if `called` calls of tasks have begun. Once there
+/// are more than workers, a worker has gone on from a message whose first store was made.
 fn are_kept(fault: &RunFault, called: u32, workers: u32) -> Option<bool> {
     match fault {
         RunFault::Halted {
@@ -201,7 +201,7 @@ where
     }
 }
 
-/// The same of a canvas's plan.
+/// Like `runs_plan`, for a canvas's plan.
 fn runs_as_plan<R>(rt: &R, canvas: &Canvas, how: How) -> Result<bool, Memory>
 where
     R: Threads + Wait + RandomSource + AllocGlobal + Sync,
@@ -212,7 +212,7 @@ where
     }
 }
 
-/// The same of its text, on threads or by turns.
+/// Like `runs_as_plan`, for the canvas's text, on threads or by turns.
 fn runs_as_text<R>(rt: &R, canvas: &Canvas, on_threads: bool) -> Result<bool, Memory>
 where
     R: Threads + Wait + RandomSource + AllocGlobal + Sync,

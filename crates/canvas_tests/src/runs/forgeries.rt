@@ -20,7 +20,7 @@ pub(crate) const CALLBACK: &str = concat!(
     r#"[["%4"],{},{"callbacks":null,"chain":null,"chord":null,"errbacks":null}]"#
 );
 
-/// A change: what stands in the message, everywhere where it does, and what is put there.
+/// A change: a text of the message, at each place that has it, and what replaces it.
 pub(crate) type Change = [&'static str; 2];
 
 /// Changes of the member's message: names that the plan doesn't have, or has elsewhere.

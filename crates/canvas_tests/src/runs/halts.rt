@@ -31,8 +31,8 @@ fn stored_rows(ran: &Result<String, TextFault>) -> Option<usize> {
 
 // ---- by a gate
 
-/// How many rows a text's run has stored whose gate asks its stop once it was asked so often, and
-/// isn't asked for long behind that; with none, the stop is asked before the run begins.
+/// How many rows a text's run has stored whose gate asks its stop once it was asked `most` times,
+/// and isn't asked for long after that; with none, the stop is asked before the run begins.
 fn stopped_text<R>(
     rt: &R,
     alloc: Global,
@@ -55,7 +55,7 @@ where
     if gate.is_heeded() { rows } else { None }
 }
 
-/// The same of a hundred tasks and their sum.
+/// Like `stopped_text`, for a hundred tasks and their sum.
 fn stopped<R>(rt: &R, way: Way, most: Option<u32>, workers: u32) -> Option<usize>
 where
     R: Threads + Wait + RandomSource + AllocGlobal + Sync,
@@ -66,7 +66,7 @@ where
     }
 }
 
-/// The same of one worker, of two and of sixteen.
+/// Like `stopped`, for one worker, for two and for sixteen.
 fn stopped_each<R>(rt: &R, way: Way, most: Option<u32>) -> [Option<usize>; 3]
 where
     R: Threads + Wait + RandomSource + AllocGlobal + Sync,
@@ -85,15 +85,15 @@ fn is_within(rows: Option<usize>, least: usize, greatest: usize) -> bool {
     }
 }
 
-/// Whether one worker has stored so many rows, and several a number within these bounds.
+/// Whether one worker has stored `one` rows, and several workers a number within these bounds.
 fn are_stored(rows: &[Option<usize>; 3], one: usize, least: usize, greatest: usize) -> bool {
     let [alone, two, sixteen] = *rows;
     alone == Some(one) && is_within(two, least, greatest) && is_within(sixteen, least, greatest)
 }
 
 /// A worker stores the outcome for which it has asked the gate, and then sees the stop. One that
-/// the gate holds back sees it at its next poll. Where envelopes are delivered again, one worker is
-/// asked before the store of each task and behind it.
+/// the gate holds back sees it at its next poll. If envelopes are redelivered, one worker is asked
+/// before and after the store of each task.
 #[test]
 fn by_a_gate(rt: HostRuntime) {
     for &(way, most, one, least, greatest) in &[
@@ -217,7 +217,7 @@ where
     )
 }
 
-/// The same of a chord of five tasks.
+/// Like `drawn_text`, for a chord of five tasks.
 fn drawn<R>(rt: &R, at: u32, workers: u32) -> (Option<usize>, bool)
 where
     R: Threads + Wait + RandomSource + AllocGlobal + Sync,

@@ -14,7 +14,7 @@ use std::sync::Wait;
 
 // ---- envelopes
 
-/// Puts a text with its changed parts behind another, and says whether there are any.
+/// Appends a text with its changed parts to another, and says whether there are any.
 fn push_changed(all: &mut String, text: &str, change: &Change) -> Result<bool, AllocError> {
     let [old, new] = *change;
     let mut pieces = text.split(old);
@@ -64,7 +64,7 @@ fn push_forged(
     Ok(())
 }
 
-/// All forged messages, in front of those that a plan begins with and behind them.
+/// All forged messages, before those that a plan begins with and after them.
 fn push_all(alloc: Global, queue: &mut Vec<Letter>, plan: &Plan) -> Result<(), Memory> {
     push_forged(alloc, queue, MEMBER, &NAMES)?;
     push_forged(alloc, queue, CALLBACK, &RESTS)?;
@@ -84,7 +84,7 @@ fn left_of<R: Wait + RandomSource + AllocGlobal>(rt: &R, plan: &Plan) -> Option<
 /// More polls than it takes.
 const MOST: u32 = 1_000;
 
-/// The same of a chord with a member that fails.
+/// Like `left_of`, for a chord with a member that fails.
 fn left_of_chord<R: Wait + RandomSource + AllocGlobal>(rt: &R) -> Option<Left> {
     match spelled_plan(rt.alloc(), &FAILING) {
         Some(plan) => left_of(rt, &plan),
@@ -112,7 +112,7 @@ fn has_dropped(left: &Option<Left>) -> bool {
 }
 
 /// The worker drops the ninety and counts each, runs the four messages to their end, stores five
-/// outcomes and publishes the error callback alone.
+/// outcomes and publishes only the error callback.
 #[test]
 fn dropped_by_a_worker(rt: HostRuntime) {
     let left = left_of_chord(&rt);

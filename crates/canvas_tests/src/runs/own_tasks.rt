@@ -1,5 +1,5 @@
-//! Tasks that the caller hands in, behind the gate that lets every worker go on: they are called
-//! side by side, also those of a registry.
+//! Tasks that the caller passes, with the gate that lets every worker go on: they are called in
+//! parallel, also those of a registry.
 
 ghost use Rattle.std.specs.Prelude.{◌+ℤ◌, Ok};
 
@@ -55,7 +55,7 @@ impl Tasks for Called {
 /// How often a call looks, and lets other threads run, before it gives up: some seconds.
 const MOST: u32 = 3_000_000;
 
-/// A place where calls wait for each other, behind some that don't.
+/// A place where calls wait for each other, after some that don't.
 #[derive(Drop)]
 struct Meeting {
     /// How many calls don't wait.
@@ -80,7 +80,8 @@ impl Meeting {
         self.gave_up.load(Ordering::SeqCst)
     }
 
-    /// Waits until so many calls have begun. One that gives up lets all others go.
+    /// Waits until `all` calls have begun after the first ones. One that gives up lets all others
+    /// go.
     fn wait(&self) {
         let all = self.before.saturating_add(self.all);
         if self.begun.fetch_add(1, Ordering::SeqCst) < self.before {
@@ -110,12 +111,12 @@ impl Tasks for Meeting {
     ghost in_range = { λ _. builtin_in_range };
 }
 
-/// Twenty calls side by side, and the same behind a call: whose worker takes four of them at once.
+/// Twenty calls in parallel, and twenty after a call: its worker takes four of them at once.
 const TWENTY: &str = "G(.,.,.,.,.,.,.,.,.,.,.,.,.,.,.,.,.,.,.,.)";
 
 const BEHIND_ONE: &str = "C(.,G(.,.,.,.,.,.,.,.,.,.,.,.,.,.,.,.,.,.,.,.))";
 
-/// What waits: short sums, the same behind a first task, or sums of thousands of numbers.
+/// The calls that wait: short sums, short sums after a first task, or sums of thousands of numbers.
 #[derive(Clone, Copy, Debug)]
 enum Group {
     Light,
@@ -147,7 +148,7 @@ fn text_of(alloc: Global, group: Group) -> Result<String, Memory> {
     }
 }
 
-/// Whether so many calls of a text's run meet.
+/// Whether all calls of a text's run meet.
 fn text_meets<R>(rt: &R, text: &str, before: u32, workers: u32) -> bool
 where
     R: Threads + Wait + RandomSource + AllocGlobal + Sync,
@@ -158,7 +159,7 @@ where
     ran.is_ok() && !tasks.gave_up()
 }
 
-/// The same of a group. A first task in front of it doesn't wait.
+/// Like `text_meets`, for a group. A first task before it doesn't wait.
 fn meets<R>(rt: &R, group: Group, workers: u32) -> bool
 where
     R: Threads + Wait + RandomSource + AllocGlobal + Sync,
@@ -216,7 +217,7 @@ where
     }
 }
 
-/// The same where the task of all is a slow one of a registry.
+/// Like `taking`, if the task of all is a slow one of a registry.
 fn taking_slow<R>(rt: &R, alloc: Global, plan: &Plan) -> Option<usize>
 where
     R: Threads + Wait + RandomSource + AllocGlobal + Sync,
@@ -232,7 +233,7 @@ where
     }
 }
 
-/// The same of a group of four.
+/// Like `taking_slow`, for a group of four.
 fn taking_four<R>(rt: &R) -> Option<usize>
 where
     R: Threads + Wait + RandomSource + AllocGlobal + Sync,

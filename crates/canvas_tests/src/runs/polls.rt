@@ -23,7 +23,7 @@ where
     }
 }
 
-/// The same of a sum and a product.
+/// Like `left_of`, for a sum and a product.
 fn left_of_two<R>(rt: &R, gate: &Counting, others: u64) -> Option<Left>
 where
     R: Wait + RandomSource + AllocGlobal,
@@ -34,8 +34,8 @@ where
     }
 }
 
-/// How a worker ends that takes so many envelopes and counts two tasks, of which it published the
-/// second.
+/// How a worker ends that takes `taken` envelopes and counts two tasks, the second of which it
+/// published.
 fn of_two(polls: u32, fault: Option<Cause>, taken: u64) -> Left {
     Left {
         polls,
@@ -68,12 +68,12 @@ where
 }
 
 /// To take, to store, to publish and to acknowledge are four for the first task, and to take, to
-/// store and to acknowledge three for the second; then a batch of none, which answers nothing, a
-/// take of one alone that finds nothing, and the rest.
+/// store and to acknowledge three for the second; then an empty batch, which answers nothing, a
+/// take of one envelope that finds nothing, and the rest.
 ///
-/// Where the gate is shut once there is one more: it is asked once more whether to go on, and at
-/// each of the four points once whether to deliver again. A redelivery is a poll of its own. Its
-/// copy is taken, its store is not the first, and it is acknowledged: three more, with two points.
+/// If the gate is shut once, there is one more: it is asked once more whether to go on, and at each
+/// of the four points once whether to redeliver. A redelivery is a poll of its own. Its copy is
+/// taken, its store is not the first, and it is acknowledged: three more, with two points.
 #[test]
 fn polls_of_two_tasks(rt: HostRuntime) {
     for &(shut, at, taken, polls, asked) in &[

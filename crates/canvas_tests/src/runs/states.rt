@@ -29,7 +29,7 @@ pub(crate) fn spelled_plan(alloc: Global, canvas: &Canvas) -> Option<Plan> {
     }
 }
 
-/// Puts the envelopes of the messages that a plan begins with behind others.
+/// Appends the envelopes of the messages that a plan begins with.
 pub(crate) fn push_first(
     alloc: Global,
     plan: &Plan,
@@ -41,7 +41,7 @@ pub(crate) fn push_first(
     Ok(())
 }
 
-/// These envelopes alone.
+/// Only these envelopes.
 pub(crate) fn first_envelopes(alloc: Global, plan: &Plan) -> Result<Vec<Letter>, Memory> {
     let mut envelopes = Vec::new(alloc);
     match push_first(alloc, plan, &mut envelopes) {

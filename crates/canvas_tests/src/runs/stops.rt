@@ -12,8 +12,8 @@ use std::sync::Wait;
 /// More polls than the worker takes.
 const MOST: u32 = 100;
 
-/// How a worker ends that is stopped after so many polls, where its gate is shut so often and so
-/// many envelopes are delivered again.
+/// How a worker ends that is stopped after `polls` polls, if its gate is shut `shut` times and has
+/// `times` envelopes redelivered.
 fn left_after<R>(rt: &R, plan: &Plan, shut: u32, times: u32, polls: u32) -> Option<Left>
 where
     R: Wait + RandomSource + AllocGlobal,
@@ -27,7 +27,7 @@ where
     }
 }
 
-/// Whether a worker ended at the poll behind its stop.
+/// Whether a worker ended at the poll after its stop.
 fn is_stopped(left: &Left, before: u32) -> bool {
     left.polls == before.saturating_add(1) && left.fault == Some(Cause::Stopped)
 }
@@ -58,7 +58,7 @@ where
     None
 }
 
-/// The same of a chord with a member that fails.
+/// Like `polls_to_stop`, for a chord with a member that fails.
 fn polls_of_a_chord<R>(rt: &R, shut: u32, times: u32) -> Option<u32>
 where
     R: Wait + RandomSource + AllocGlobal,

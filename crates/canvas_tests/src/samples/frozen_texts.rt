@@ -12,7 +12,7 @@ const GROUP: &str =
 const CHORD: &str =
     r#"{"task":"x","subtask_type":"chord","options":{"group_id":"00000000-0000-8000-9000-00000000000"#;
 
-/// What a sign stands for, if not for itself.
+/// The text of a sign, if it is not the sign itself.
 fn piece(sign: char) -> Option<&'static str> {
     match sign {
         '%' => Some("00000000-0000-8000-8000-00000000000"),
@@ -24,7 +24,7 @@ fn piece(sign: char) -> Option<&'static str> {
     }
 }
 
-/// Puts what a sign stands for behind a text.
+/// Appends the text of a sign.
 fn push_sign(text: &mut String, sign: char) -> Result<(), AllocError> {
     match piece(sign) {
         Some(piece) => text.push_str(piece),

@@ -4,7 +4,7 @@
 use canvas_sig::{Node, read_canvas, write_node};
 use std::alloc::{AllocError, Global};
 
-/// What a sign stands for.
+/// The text of a sign.
 pub(crate) fn piece(sign: char) -> &'static str {
     match sign {
         'C' => r#"{"task":"x","subtask_type":"chain","kwargs":{"tasks":"#,

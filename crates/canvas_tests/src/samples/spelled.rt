@@ -16,7 +16,7 @@ fn push_call(text: &mut String, call: &str) -> Result<(), Memory> {
     Ok(())
 }
 
-/// What stands behind a call of this sign, or in the place of another sign.
+/// The text after a call of this sign, or instead of another sign.
 fn behind(sign: char) -> &'static str {
     match sign {
         '.' => "}",
@@ -41,7 +41,7 @@ pub(crate) fn canvas(alloc: Global, frame: &str, calls: &str) -> Result<String, 
     Ok(text)
 }
 
-/// Puts a sign behind a text, and in front of it the identifier of a task that was named there.
+/// Appends a sign, and before it the identifier of a task that was named there.
 fn push_behind(text: &mut String, named: Option<u32>, sign: char) -> Result<(), Memory> {
     match named {
         Some(task) => write!(text, "00000000-0000-8000-8000-0000{task:08x}{sign}")?,

@@ -34,7 +34,7 @@ fn doubles(alloc: Global, count: u32) -> Result<String, Memory> {
     Ok(calls)
 }
 
-/// The lines of these calls, with the text behind them.
+/// The lines of these calls, with the text after them.
 fn doubled(alloc: Global, count: u32, last: &str) -> Result<String, Memory> {
     let mut short = String::new(alloc);
     for i in 0..count {

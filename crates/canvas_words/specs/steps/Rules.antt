@@ -1,4 +1,4 @@
--- The arguments of the code as the parser has them.
+-- The arguments of the code in terms of the parser.
 use Rattle.clap.specs.Simple.{new_rule}
 use Rattle.clap.specs.Walk.{Rule}
 use Rattle.canvas_words.specs.Options.{flag, text, texts, number, or_else, needed}

@@ -6,7 +6,7 @@ use Rattle.canvas_history.specs.Passes.{QueueId, Empties}
 use Rattle.canvas_semantics.specs.Line.{Line}
 use Rattle.canvas_rewrite.specs.FrozenView.{PCarried}
 use Rattle.canvas_rewrite.specs.Planned.{IsPlan}
-use Rattle.canvas_history.specs.Seats.{Desk}
+use Rattle.canvas_history.specs.Seats.{BackendView}
 use Rattle.canvas_envelope.specs.Content.{Content}
 use Rattle.canvas_history.specs.Roster.{Roster, roster_of}
 use Rattle.canvas_runs.specs.Core.{CoreState, taking, resting, over, left_after}
@@ -65,7 +65,7 @@ module _ (behaviour : Behaviour) (l : Line) where
       )
 
 pub workers_start : WorkersStart
-workers_start l plan broker desk number pass seat is of home = record {
+workers_start l plan broker backend number pass seat is of home = record {
   of = of;
   home = home;
   plan = (l, plan, is);
@@ -81,11 +81,11 @@ workers_start l plan broker desk number pass seat is of home = record {
     never : ◌≡◌ {A = Left} taking resting → ⊥
     never e = cc
 
-pub workers_finish : (behaviour : Behaviour) (may_want : ℕ → ℕ → Type 0) (l : Line) → IsPlan l → (broker : QueueId) (desk : Desk) (number : ℕ)
-    (pass : Pass) (seat : Seat) → desk.plan ≡ roster_of l → (r : Record) → TellsOf behaviour may_want (working_begun broker desk number pass seat) r
+pub workers_finish : (behaviour : Behaviour) (may_want : ℕ → ℕ → Type 0) (l : Line) → IsPlan l → (broker : QueueId) (backend : BackendView) (number : ℕ)
+    (pass : Pass) (seat : Seat) → backend.plan ≡ roster_of l → (r : Record) → TellsOf behaviour may_want (working_begun broker backend number pass seat) r
     → Finished behaviour may_want (roster_of l) number pass seat r
 unfolding followed
-workers_finish behaviour may_want l plan broker desk number pass seat is r f =
+workers_finish behaviour may_want l plan broker backend number pass seat is r f =
     let both : (w : HasFollowed behaviour (roster_of l) (starting pass seat) f.ended) × Each (IsWanted (may_want number) (roster_of l)) w.made =
     subst (λ (p : Roster). (w : HasFollowed behaviour p (starting pass seat) f.ended) × Each (IsWanted (may_want number) p) w.made) is (f.worked, f.wanted) in
     let worked : HasFollowed behaviour (roster_of l) (starting pass seat) f.ended = both.0 in

@@ -3,7 +3,7 @@ use Rattle.std.proofs.Common.{◌≡◌, ◌∙◌, ℕ, ◌+◌, min, false, Li
 use Rattle.std.specs.Prelude.{MatchResult, true, IsSome}
 use Rattle.canvas_task.specs.Apply.{Behaviour}
 use Rattle.canvas_envelope.specs.declared.envelope.Envelope.{Envelope}
-use Rattle.canvas_history.specs.Seats.{Desk}
+use Rattle.canvas_history.specs.Seats.{BackendView}
 use Rattle.canvas_history.specs.Roster.{Roster}
 use Rattle.canvas_history.specs.Queue as queue
 use Rattle.canvas_history.specs.Passes.{Took}
@@ -17,13 +17,13 @@ use Rattle.canvas_runs.specs.Tally.{Tally, Counted, dropping, greatest_count}
 use Rattle.canvas_core.specs.EnvelopeWorker.{enveloped}
 use Rattle.canvas_core.specs.CorePast.{task_in}
 use Rattle.canvas_core.specs.SeatRights.{Can}
-use Rattle.canvas_core.specs.CoreState.{Standing, Progress, located, asked, next, left_told, drops, after_reply, held, kept_next, task_next}
+use Rattle.canvas_core.specs.CoreState.{CoreView, Progress, located, asked, next, left_told, drops, after_reply, held, kept_next, task_next}
 use Rattle.canvas_core.specs.declared.ask.Ask.TheVariants.{Take}
 use Rattle.canvas_core.specs.declared.ask.Reply.{Reply}
 use Rattle.canvas_core.specs.declared.ask.Reply.TheVariants as R
 use Rattle.canvas_core.specs.steps.Members.{members_in}
 use Rattle.canvas_worker.specs.WorkerSteps.{Batched, FromHeld}
-use Rattle.canvas_worker.specs.Polls.{Work, left_at, progress, with_core, with_answer, lost, one_taken, CanDeliver, in_hand, Ready, gives_held, answers, keeps_batch, Acted, Leaves, Ends, EndsWith}
+use Rattle.canvas_worker.specs.Polls.{WorkerView, left_at, progress, with_core, with_answer, lost, one_taken, CanDeliver, in_hand, Ready, gives_held, answers, keeps_batch, Acted, Leaves, Ends, EndsWith}
 use Rattle.canvas_core.specs.declared.cause.Cause.TheVariants.{Memory}
 use Rattle.canvas_worker.specs.declared.record.Record.{Record}
 use Rattle.canvas_worker.specs.declared.working.End.{End}
@@ -45,10 +45,10 @@ same_tallies : {a b c d n p q r s m : ℕ} → a ≡ p → b ≡ q → c ≡ r �
 same_tallies e f g h i = cc
 
 -- Where from w on es were taken, and e is the first of all that is held then; u is the worker before its core is given it.
-pub record Takes (w u : Work) (es : List Envelope) (e : Envelope) : Type 0 where
+pub record Takes (w u : WorkerView) (es : List Envelope) (e : Envelope) : Type 0 where
   pub asks : next w.core ≡ Take
   pub broker : u.broker ≡ w.broker
-  pub desk : u.desk ≡ w.desk
+  pub backend : u.backend ≡ w.backend
   pub number : u.number ≡ w.number
   pub of : u.pass.of ≡ w.broker
   pub seat : u.seat ≡ w.seat
@@ -61,9 +61,9 @@ pub record Takes (w u : Work) (es : List Envelope) (e : Envelope) : Type 0 where
   pub first : u.first ≡ w.first
   pub parts : u.parts ≡ w.parts
 
-module _ (behaviour : Behaviour) (w u : Work) (es : List Envelope) (e : Envelope) (ready : Ready w) (x : Takes w u es e) where
+module _ (behaviour : Behaviour) (w u : WorkerView) (es : List Envelope) (e : Envelope) (ready : Ready w) (x : Takes w u es e) where
   abbrev plan : Roster
-  plan = w.desk.plan
+  plan = w.backend.plan
 
   abbrev book : Book
   book = book_on plan
@@ -90,7 +90,7 @@ module _ (behaviour : Behaviour) (w u : Work) (es : List Envelope) (e : Envelope
   batched : Batched (progress w) between es
   batched = (refl, x.took, refl, refl, refl, refl)
 
-  abbrev core : Standing
+  abbrev core : CoreView
   core = record {
     left = left_told behaviour book w.core.left reply;
     is_out = false;
@@ -100,11 +100,11 @@ module _ (behaviour : Behaviour) (w u : Work) (es : List Envelope) (e : Envelope
     task = task_next book w.core.left w.core.task (C.from_queue (Some e));
   }
 
-  core_is : after_reply behaviour (book_on u.desk.plan) u.core reply ≡ core
+  core_is : after_reply behaviour (book_on u.backend.plan) u.core reply ≡ core
   core_is =
       let so : drops book w.core.left (C.from_queue (Some e)) ≡ of_queue (dropping plan) (C.to_queue queue.take) (C.from_queue (Some e)) =
       drops_so plan w.core.left (C.from_queue (Some e)) ∙ ap (λ b. of_queue (dropping plan) b (C.from_queue (Some e))) asked_is in
-      ap (λ (d : Desk). after_reply behaviour (book_on d.plan) u.core reply) x.desk
+      ap (λ (d : BackendView). after_reply behaviour (book_on d.plan) u.core reply) x.backend
       ∙ ap (λ c. after_reply behaviour book c reply) x.core
       ∙ ap (λ (n : ℕ). record {
         left = left_told behaviour book w.core.left reply;
@@ -114,7 +114,7 @@ module _ (behaviour : Behaviour) (w u : Work) (es : List Envelope) (e : Envelope
         task = task_next book w.core.left w.core.task (C.from_queue (Some e));
       }) so
 
-  abbrev given : Work
+  abbrev given : WorkerView
   given = one_taken (with_core u core)
 
   counted : Counted plan ((C.to_queue queue.take, C.from_queue (Some e)) ∷ []) (progress w).tally (progress given).tally
@@ -140,7 +140,7 @@ module _ (behaviour : Behaviour) (w u : Work) (es : List Envelope) (e : Envelope
       ∙ ap (task_in book) (sym (book_told behaviour book (members_in plan) w.core.left w.core.kept w.core.task reply sound suits_left tt))
 
   left_is : left_at given ≡ answered (enveloped behaviour plan) (left_at w) (C.from_queue (Some e))
-  left_is = ap (λ (d : Desk). located (book_on d.plan) core.left) x.desk ∙ told
+  left_is = ap (λ (d : BackendView). located (book_on d.plan) core.left) x.backend ∙ told
 
   from_held : FromHeld behaviour plan between (progress given) e
   from_held = (
@@ -167,18 +167,18 @@ module _ (behaviour : Behaviour) (w u : Work) (es : List Envelope) (e : Envelope
   goes : Acted behaviour w given
   goes = record {
     broker = x.broker;
-    desk = x.desk;
+    backend = x.backend;
     number = x.number;
     ready = record {
       of = x.of ∙ sym x.broker;
-      home = ap (λ (s : Seat). s.of) x.seat ∙ ready.home ∙ sym (ap (λ (d : Desk). d.id) x.desk);
-      plan = (ready.plan.0, ready.plan.1, ap (λ (d : Desk). d.plan) x.desk ∙ ready.plan.2);
+      home = ap (λ (s : Seat). s.of) x.seat ∙ ready.home ∙ sym (ap (λ (d : BackendView). d.id) x.backend);
+      plan = (ready.plan.0, ready.plan.1, ap (λ (d : BackendView). d.plan) x.backend ∙ ready.plan.2);
       inside = refl;
-      can = subst (λ (d : Desk). Can d.plan u.seat (located (book_on d.plan) core.left)) (sym x.desk) can;
+      can = subst (λ (d : BackendView). Can d.plan u.seat (located (book_on d.plan) core.left)) (sym x.backend) can;
       rested = λ rests. absurd (given_never behaviour plan e
           (ap (λ s. answered (enveloped behaviour plan) s (C.from_queue (Some e))) (sym taking_is) ∙ (sym told ∙ ap (located book) rests)));
       current = λ _. subst (λ h. IsSome h) (sym current) refl;
-      task = λ i. subst (λ (d : Desk). core.task ≡ task_in (book_on d.plan) (held core)) (sym x.desk) (names_task i);
+      task = λ i. subst (λ (d : BackendView). core.task ≡ task_in (book_on d.plan) (held core)) (sym x.backend) (names_task i);
       again = again;
       counts = tallied plan (C.to_queue queue.take) (C.from_queue (Some e)) (progress w).tally (progress given).tally counted;
     };
@@ -186,11 +186,11 @@ module _ (behaviour : Behaviour) (w u : Work) (es : List Envelope) (e : Envelope
     moved = answers (gives_held es e between batched from_held);
   }
 
-  told_is : (v : Work) → v ≡ one_taken (with_answer behaviour u (R.Taken (Some e))) → Acted behaviour w v
+  told_is : (v : WorkerView) → v ≡ one_taken (with_answer behaviour u (R.Taken (Some e))) → Acted behaviour w v
   told_is v is = subst (λ z. Acted behaviour w z) (sym (is ∙ ap (λ c. one_taken (with_core u c)) core_is)) goes
 
   same_tally : (progress (lost u)).tally ≡ (progress w).tally
-  same_tally = same_tallies x.taken x.published x.first x.parts (ap (λ (c : Standing). c.dropped) x.core)
+  same_tally = same_tallies x.taken x.published x.first x.parts (ap (λ (c : CoreView). c.dropped) x.core)
 
   fails : (s : Record) → Leaves (lost u) (Some Memory) s → Ends behaviour w s
   fails s leaves = record {
@@ -207,16 +207,16 @@ module _ (behaviour : Behaviour) (w u : Work) (es : List Envelope) (e : Envelope
     };
   }
 
-  lost_is : (v : Work) → v ≡ lost u → EndsWith behaviour w (Some Memory) v
+  lost_is : (v : WorkerView) → v ≡ lost u → EndsWith behaviour w (Some Memory) v
   lost_is v is s leaves = fails s (subst (λ z. Leaves z (Some Memory) s) is leaves)
 
-  well : {A : Type 0} (result : Result A End) (v : Work)
+  well : {A : Type 0} (result : Result A End) (v : WorkerView)
       → MatchResult result (λ _. v ≡ one_taken (with_answer behaviour u (R.Taken (Some e)))) (λ end. (v ≡ lost u) × (end.fault ≡ Some Memory))
       → MatchResult result (λ _. Acted behaviour w v) (λ end. EndsWith behaviour w end.fault v)
   well (Ok _) v is = told_is v is
   well (Err end) v is = subst (λ f. EndsWith behaviour w f v) (sym is.1) (lost_is v is.0)
 
-pub given_well : {A : Type 0} (behaviour : Behaviour) (w u v : Work) (es : List Envelope) (e : Envelope) (result : Result A End)
+pub given_well : {A : Type 0} (behaviour : Behaviour) (w u v : WorkerView) (es : List Envelope) (e : Envelope) (result : Result A End)
     → MatchResult result (λ _. v ≡ one_taken (with_answer behaviour u (R.Taken (Some e)))) (λ end. (v ≡ lost u) × (end.fault ≡ Some Memory)) → Ready w
     → Takes w u es e
     → MatchResult result (λ _. Acted behaviour w v) (λ end. EndsWith behaviour w end.fault v)

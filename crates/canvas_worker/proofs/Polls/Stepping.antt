@@ -34,7 +34,7 @@ abbrev pub taking_all : List Envelope → List (QueueAnswered Envelope)
 taking_all [] = []
 taking_all (e ∷ es) = (queue.take, Some e) ∷ taking_all es
 
--- takes that stand side by side stand one after the other
+-- takes of one batch are takes one after the other
 pub took_makes : (p q : Pass) (es : List Envelope) → Took p es q → Makes p (taking_all es) q
 took_makes p q [] t = t
 took_makes p q (e ∷ []) t = (q, t, refl)
@@ -96,7 +96,7 @@ module _ (plan : Roster) where
   none_added : (n : ℕ) → n ≤ greatest_count → CountsMore n 0 n
   none_added n h = omega (arith, h)
 
--- with nothing done, whatever the worker's messages are
+-- with nothing done, for any messages of the worker
 pub nothing_done : (X : Protocol Envelope) (plan : Roster) (w : Working X.Message X.Carried) → IsTally w.tally → Followed X plan w w
 nothing_done X plan w t = record {
   counts = record {
@@ -206,7 +206,8 @@ module _ (behaviour : Behaviour) (plan : Roster) where
     unfolding rests nothing_done
     rests_wanted w t = tt
 
-    pub call_wanted : (w v x : Progress) (a : Ask Envelope) (r : Reply Envelope) (s : AnsweredByCall behaviour plan w v a r) (f : HasFollowed behaviour plan v x)
+    pub call_wanted : (w v x : Progress) (a : Ask Envelope) (r : Reply Envelope) (s : AnsweredByCall behaviour plan w v a r)
+        (f : HasFollowed behaviour plan v x)
         → Wanted f.made → Wanted (call_first w v x a r s f).made
     unfolding call_first
     call_wanted w v x a r s f h = each_append (IsWanted again plan) (broker_call a r) f.made (asks_wanted a r s.0.suits) h

@@ -1,5 +1,5 @@
 -- The envelopes that a worker took and has not given to its core, and whether its next take is of
--- one alone.
+-- one envelope.
 use Rattle.std.specs.Prelude.{Bool, true, false, List, []}
 use Rattle.canvas_envelope.specs.declared.envelope.Envelope.{Envelope}
 use Rattle.canvas_worker.specs.declared.source.Source.{Source}

@@ -11,7 +11,7 @@ use canvas_broker::{Batch, Broker, BrokerPass, Refused};
 use canvas_envelope::Letter;
 use std::sync::Wait;
 
-/// The queue of a run, which counts an envelope and then publishes it or delivers it again: another
+/// The queue of a run, which counts an envelope before it publishes or redelivers it, since another
 /// worker may take and acknowledge it at once. Workers have no other queue, and nothing else adds
 /// to the count. Its calls are the broker's.
 #[derive(Clone, Copy)]

@@ -1,4 +1,4 @@
-//! What answers each ask of a worker's core.
+//! The answers to the asks of a worker's core.
 
 ghost use Rattle.std.specs.Prelude.{◌≡◌, [], None, Some, IsOk, IfErr, MatchResult, false};
 ghost use Rattle.canvas_task.specs.Apply.{IsInRange};
@@ -17,7 +17,7 @@ use canvas_backend::Stored;
 use canvas_task::{GroupNo, Outcome, TaskNo, Tasks};
 use std::sync::Wait;
 
-/// After this number of takes in a row that found nothing a worker sleeps before it takes again.
+/// The number of takes in a row that found nothing after which a worker sleeps before the next.
 const PATIENCE: u32 = 8;
 
 impl<R: Wait> Working<'_, R> {
@@ -43,8 +43,9 @@ impl<R: Wait> Working<'_, R> {
         }
     }
 
-    /// Takes a batch. Where that has none nothing is answered, and the next take is of one alone:
-    /// others may have come between, so a batch of none doesn't say that there is no envelope.
+    /// Takes a batch. If that is empty nothing is answered, and the next take is of one envelope:
+    /// an empty batch doesn't say that there is no envelope, since others may have taken in
+    /// between.
     fn take_batch<T: Tasks>(&mut self, tasks: &T) -> Result<(), End>
         requires ready { Ready self.old }
         requires asks { next self.old.core ≡ ask.Take }
@@ -103,6 +104,7 @@ impl<R: Wait> Working<'_, R> {
                     self.published = self.published.saturating_add(1);
                     self.reply(tasks, Reply::Published)
                 }
+                // The core ends with the worker, so it isn't answered.
                 Err(_refused) => Err(self.fail()),
             },
             None => unreachable!(),
@@ -143,6 +145,9 @@ impl<R: Wait> Working<'_, R> {
     }
 
     /// Looks the member up, and reads its last task.
+    ///
+    /// The core asks for a member by its place, since it knows no tasks; a backend of a plan has
+    /// the member's last task.
     fn read<T: Tasks>(&mut self, tasks: &T, group: GroupNo, place: u32) -> Result<(), End>
         requires ready { Ready self.old }
         requires asks { next self.old.core ≡ ask.Read group place }
@@ -189,9 +194,9 @@ impl<R: Wait> Working<'_, R> {
         }
     }
 
-    /// Whether a message is in flight. A worker whose last takes in a row found nothing, 8 or more,
-    /// sleeps inside this poll before it looks, for 100 microseconds at most: so idle workers leave
-    /// the processor to those that have work. No claim rests on it.
+    /// Returns whether a message is in flight. After 8 takes or more in a row that found nothing, a
+    /// worker first sleeps inside this poll, for 100 microseconds at most, so that idle workers
+    /// leave the processor to those that have work. No claim rests on it.
     fn has_more(&self) -> bool {
         if self.idle >= PATIENCE {
             self.flight.nap(self.rt);
@@ -199,7 +204,7 @@ impl<R: Wait> Working<'_, R> {
         self.flight.is_some()
     }
 
-    /// Answers one ask of the core, unless the worker ends for want of memory.
+    /// Answers one ask of the core, unless the worker ends because memory is refused.
     #[tactic(auto, using(crate::proofs::Turns::ends_acting, crate::proofs::Ending::ends_at))]
     pub(super) fn go_on<T: Tasks>(&mut self, tasks: &T) -> Result<(), End>
         requires { Ready self.old }

@@ -6,7 +6,7 @@ use Rattle.canvas_answer.specs.Items.{most_item}
 use Rattle.canvas_answer.proofs.Pieces.{kept_more, kept_none, kept_short, kept_some, next_here, next_last, next_none, taken_last, taken_none, taken_part}
 use Rattle.canvas_answer.proofs.items.next_item.Goals as goal
 
--- what is kept of bytes, and of more behind them
+-- what is kept of bytes, and of more bytes after them
 more : (done bs item new : List ℕ) → item ≡ take most_item done → new ≡ take most_item (item ++ bs) → new ≡ take most_item (done ++ bs)
 more done bs item new kept grown = grown ∙ ap (λ l. take most_item (l ++ bs)) kept ∙ kept_more most_item done bs
 

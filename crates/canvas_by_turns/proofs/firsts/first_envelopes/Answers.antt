@@ -1,6 +1,6 @@
 use Rattle.std.proofs.Common.{◌≡◌, ◌∷◌, rules}
 use Rattle.canvas_by_turns.proofs.Portions.{portion_sealed, portion_read}
-use Rattle.canvas_by_turns.specs.steps.Stages.{ReadsAs}
+use Rattle.canvas_by_turns.specs.steps.TurnRuns.{ReadsAs}
 use Rattle.canvas_by_turns.proofs.firsts.first_envelopes.Goals as goal
 
 pub portions-preserved : goal.portions-preserved

@@ -3,7 +3,7 @@ use Rattle.canvas_history.specs.Lists.{Each}
 use Rattle.canvas_effects.specs.Effects.{first_messages}
 use Rattle.canvas_effects.specs.Portions.{together}
 use Rattle.canvas_runs.specs.Worker.{sealed}
-use Rattle.canvas_by_turns.specs.steps.Stages.{ReadsAs}
+use Rattle.canvas_by_turns.specs.steps.TurnRuns.{ReadsAs}
 use Rattle.canvas_by_turns.proofs.firsts.first_envelopes.Given as goal
 
 -- the envelopes so far with those of the portions that are left

@@ -1,6 +1,6 @@
 use Rattle.std.proofs.Common.{◌≡◌, ◌∷◌, rules}
 use Rattle.canvas_by_turns.proofs.Portions.{message_sealed, message_read}
-use Rattle.canvas_by_turns.specs.steps.Stages.{ReadsAs}
+use Rattle.canvas_by_turns.specs.steps.TurnRuns.{ReadsAs}
 use Rattle.canvas_by_turns.proofs.firsts.seal_all.Goals as goal
 
 pub loop-message-preserved : goal.loop-message-preserved

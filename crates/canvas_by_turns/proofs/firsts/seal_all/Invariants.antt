@@ -1,7 +1,7 @@
 use Rattle.std.proofs.Common.{◌≡◌, ◌++◌, map}
 use Rattle.canvas_history.specs.Lists.{Each}
 use Rattle.canvas_runs.specs.Worker.{sealed}
-use Rattle.canvas_by_turns.specs.steps.Stages.{ReadsAs}
+use Rattle.canvas_by_turns.specs.steps.TurnRuns.{ReadsAs}
 use Rattle.canvas_by_turns.proofs.firsts.seal_all.Given as goal
 
 -- the envelopes so far with those that are still to come; and the messages so far read back

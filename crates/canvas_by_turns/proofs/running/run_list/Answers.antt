@@ -19,10 +19,11 @@ returns-in-Err-clause-err g c = λ most es reached.
 
 pub loop-worker-preserved : goal.loop-worker-preserved
 loop-worker-preserved g c = λ most es reached.
-    list_more (g.T.Tasks.behaviour c.args.tasks.now) c.in-Ok._answered c.args.plan.now c.args.workers most es c.args.turns.now c.loop-worker.worker-index c.loop-worker.stage
+    list_more (g.T.Tasks.behaviour c.args.tasks.now) c.in-Ok._answered c.args.plan.now c.args.workers most es c.args.turns.now c.loop-worker.worker-index
+    c.loop-worker.turn_run
     _ c.loop-worker-test.true (c.loop-worker.invariant most es reached) c.in-Ok.ensures.ok
 
 pub returns-clause-ok : goal.returns-clause-ok
 returns-clause-ok g c = λ most es reached.
-    all_taken (g.T.Tasks.behaviour c.args.tasks.now) c.args.plan.now c.args.workers most es c.args.turns.now c.loop-worker.worker-index c.loop-worker.stage
+    all_taken (g.T.Tasks.behaviour c.args.tasks.now) c.args.plan.now c.args.workers most es c.args.turns.now c.loop-worker.worker-index c.loop-worker.turn_run
     c.loop-worker-test.false (c.loop-worker.invariant most es reached)

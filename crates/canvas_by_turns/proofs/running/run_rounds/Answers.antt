@@ -1,6 +1,6 @@
 use Rattle.std.proofs.Common.{suc, ◌++◌, subst}
 use Rattle.canvas_turns.specs.Turns.{rounds}
-use Rattle.canvas_by_turns.specs.steps.Stages.{IsPartOfRound}
+use Rattle.canvas_by_turns.specs.steps.TurnRuns.{IsPartOfRound}
 use Rattle.canvas_by_turns.proofs.RoundTurns.{another_round, halt_in_rounds, last_round}
 use Rattle.canvas_by_turns.proofs.running.run_rounds.Goals as goal
 
@@ -13,7 +13,7 @@ loop-cause-smaller g c =
     let us = c.args.turns.now ++ rounds c.args.workers here.0 in
     let part = c.in-Ok-true.ensures.ok c.requires.0 c.requires.1 us here.1.0 here.1.1 in
     (subst (λ b. IsPartOfRound
-    (g.T.Tasks.behaviour c.args.tasks.now) b c.args.plan.now c.args.workers c.requires.0 c.requires.1 us here.1.0 c.args.workers c.loop-cause.stage.steps c.run_round.new.stage) c.in-Ok-true.field-0-test part).1
+    (g.T.Tasks.behaviour c.args.tasks.now) b c.args.plan.now c.args.workers c.requires.0 c.requires.1 us here.1.0 c.args.workers c.loop-cause.turn_run.steps c.run_round.new.turn_run) c.in-Ok-true.field-0-test part).1
 
 pub loop-cause-preserved : goal.loop-cause-preserved
 loop-cause-preserved g c = λ most es reached.
@@ -21,10 +21,10 @@ loop-cause-preserved g c = λ most es reached.
     let us = c.args.turns.now ++ rounds c.args.workers here.0 in
     let part = c.in-Ok-true.ensures.ok most es us here.1.0 here.1.1 in
     let whole = subst (λ b. IsPartOfRound
-    (g.T.Tasks.behaviour c.args.tasks.now) b c.args.plan.now c.args.workers most es us here.1.0 c.args.workers c.loop-cause.stage.steps c.run_round.new.stage) c.in-Ok-true.field-0-test part in (
+    (g.T.Tasks.behaviour c.args.tasks.now) b c.args.plan.now c.args.workers most es us here.1.0 c.args.workers c.loop-cause.turn_run.steps c.run_round.new.turn_run) c.in-Ok-true.field-0-test part in (
       suc here.0,
       another_round
-          (g.T.Tasks.behaviour c.args.tasks.now) c.args.plan.now c.args.workers most es c.args.turns.now here.0 c.run_round.new.stage whole.0,
+          (g.T.Tasks.behaviour c.args.tasks.now) c.args.plan.now c.args.workers most es c.args.turns.now here.0 c.run_round.new.turn_run whole.0,
     )
 
 pub returns-in-Ok-false-clause-ok : goal.returns-in-Ok-false-clause-ok
@@ -33,12 +33,13 @@ returns-in-Ok-false-clause-ok g c = λ most es reached.
     let us = c.args.turns.now ++ rounds c.args.workers here.0 in
     let part = c.in-Ok-false.ensures.ok most es us here.1.0 here.1.1 in
     let whole = subst (λ b. IsPartOfRound
-    (g.T.Tasks.behaviour c.args.tasks.now) b c.args.plan.now c.args.workers most es us here.1.0 c.args.workers c.loop-cause.stage.steps c.run_round.new.stage) c.in-Ok-false.field-0-test part in
-    last_round (g.T.Tasks.behaviour c.args.tasks.now) c.args.plan.now c.args.workers most es c.args.turns.now here.0 here.1.0 c.run_round.new.stage whole.0 whole.1
+    (g.T.Tasks.behaviour c.args.tasks.now) b c.args.plan.now c.args.workers most es us here.1.0 c.args.workers c.loop-cause.turn_run.steps c.run_round.new.turn_run) c.in-Ok-false.field-0-test part in
+    last_round (g.T.Tasks.behaviour c.args.tasks.now) c.args.plan.now c.args.workers most es c.args.turns.now here.0 here.1.0 c.run_round.new.turn_run
+    whole.0 whole.1
 
 pub returns-in-Err-clause-err : goal.returns-in-Err-clause-err
 returns-in-Err-clause-err g c = λ most es reached.
     let here = c.loop-cause.invariant most es reached in
     let us = c.args.turns.now ++ rounds c.args.workers here.0 in
-    halt_in_rounds (g.T.Tasks.behaviour c.args.tasks.now) c.args.plan.now c.args.workers most es c.args.turns.now c.in-Err.cause here.0 c.run_round.new.stage
+    halt_in_rounds (g.T.Tasks.behaviour c.args.tasks.now) c.args.plan.now c.args.workers most es c.args.turns.now c.in-Err.cause here.0 c.run_round.new.turn_run
     (c.in-Err.ensures.err most es us here.1.0 here.1.1)

@@ -1,17 +1,17 @@
 use Rattle.std.proofs.Common.{refl, sym, subst, map}
 use Rattle.canvas_by_turns.specs.Noted.{step_seen}
 use Rattle.canvas_by_turns.specs.steps.AgainRuns.{IsNotedWithin}
-use Rattle.canvas_by_turns.specs.steps.Stages.{IsRunThrough, IsEarlyEnd}
+use Rattle.canvas_by_turns.specs.steps.TurnRuns.{IsRunThrough, IsEarlyEnd}
 use Rattle.canvas_by_turns.proofs.WholeRuns.{noted_rows, early_fault}
 use Rattle.canvas_by_turns.proofs.running.run_steps.Goals as goal
 
-pub returns-in-Ok-run_stage-clause-ok : goal.returns-in-Ok-run_stage-clause-ok
-returns-in-Ok-run_stage-clause-ok g c =
+pub returns-in-Ok-run_through-clause-ok : goal.returns-in-Ok-run_through-clause-ok
+returns-in-Ok-run_through-clause-ok g c =
     let behaviour = g.T.Tasks.behaviour c.args.tasks.now in
-    let begun = c.in-Ok-new.stage in
-    let ended = c.run_stage.new.stage in
+    let begun = c.in-Ok-new.turn_run in
+    let ended = c.run_through.new.turn_run in
     let by_again = subst (λ es. IsRunThrough behaviour c.args.plan.now c.args.workers begun.steps (es, begun.notes.keeps) c.args.turns.now ended)
-    c.in-Ok-new.ensures.again c.in-Ok-run_stage.ensures.ok in
+    c.in-Ok-new.ensures.again c.in-Ok-run_through.ensures.ok in
     let by_keeps = subst (λ b. IsRunThrough behaviour c.args.plan.now c.args.workers begun.steps (c.args.again.now, b) c.args.turns.now ended)
     c.in-Ok-new.ensures.keeps by_again in
     let through = subst (λ most. IsRunThrough behaviour c.args.plan.now c.args.workers most (c.args.again.now, c.args.keeps) c.args.turns.now ended)
@@ -26,8 +26,8 @@ returns-in-Ok-run_stage-clause-ok g c =
 pub returns-in-Err-clause-err : goal.returns-in-Err-clause-err
 returns-in-Err-clause-err g c =
     let behaviour = g.T.Tasks.behaviour c.args.tasks.now in
-    let begun = c.in-Ok-new.stage in
-    let ended = c.run_stage.new.stage in
+    let begun = c.in-Ok-new.turn_run in
+    let ended = c.run_through.new.turn_run in
     let cause = c.in-Err.cause in
     let by_again = subst (λ es. IsEarlyEnd behaviour cause c.args.plan.now c.args.workers begun.steps (es, begun.notes.keeps) c.args.turns.now ended)
     c.in-Ok-new.ensures.again c.in-Err.ensures.err in

@@ -5,7 +5,8 @@ pub returns-in-Ok-clause-ok : goal.returns-in-Ok-clause-ok
 returns-in-Ok-clause-ok g c = (
   c.in-Ok.ensures.ok.0,
   plain_within
-      (g.T.Tasks.behaviour c.args.tasks.now) c.args.plan.now c.args.workers c.args.steps c.args.turns.now c.in-Ok.ran.report.rows c.in-Ok.ran.repeats c.in-Ok.ensures.ok.1.0,
+      (g.T.Tasks.behaviour c.args.tasks.now) c.args.plan.now c.args.workers c.args.steps c.args.turns.now c.in-Ok.ran.report.rows c.in-Ok.ran.repeats
+      c.in-Ok.ensures.ok.1.0,
 )
 
 pub returns-in-Err-clause-err : goal.returns-in-Err-clause-err

@@ -20,10 +20,10 @@ pub returns-in-Turns : goal.returns-in-Turns
 returns-in-Turns g c =
     let source = c.args.source.now in
     let behaviour = g.T.Tasks.behaviour source.tasks.now in
-    let manner = c.in-Turns.manner in
+    let output = c.in-Turns.output in
     let run =
     subst
     (λ ts. IfOk c.answer_turns.result
-    (IsByTurns behaviour (asking source.setting) source.text.now c.in-Turns.workers ts c.in-Turns.steps manner.form manner.fails))
+    (IsByTurns behaviour (asking source.setting) source.text.now c.in-Turns.workers ts c.in-Turns.steps output.form output.fails))
     c.deref.ensures.value c.answer_turns.ensures in
     subst (λ v. IfOk c.answer_turns.result (IsAnswerTo behaviour (asking source.setting) source.text.now v)) (sym c.in-Turns.is) run

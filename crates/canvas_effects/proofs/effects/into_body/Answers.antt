@@ -18,7 +18,8 @@ start_body-requires-clause-input c = numbers_fit c.args.outcomes.now _ c.in_ok-n
 
 pub returns-in_ok-start_body-in-None : goal.returns-in_ok-start_body-in-None
 returns-in_ok-start_body-in-None c =
-    let body : p_line_view (out-Carried c.chord.inside.carried).body.value ≡ c.args.chord.body = ap (λ z. z.body) (sym (carried_seen c.chord.inside.carried) ∙ c.chord.view_is) in
+    let body : p_line_view (out-Carried c.chord.inside.carried).body.value ≡ c.args.chord.body = ap (λ z. z.body) (sym
+    (carried_seen c.chord.inside.carried) ∙ c.chord.view_is) in
     c.in_ok-start_body-in-None.ensures
     ∙ ap (λ l. effect_of (enter l (run (list_input c.in_ok-numbers_of-in-None.field-0)) (end_place l) 0 None)) body
     ∙ after_all c.args.chord c.args.outcomes.now _ c.in-None.ensures c.in_ok-numbers_of-in-None.ensures

@@ -19,4 +19,5 @@ returns c =
     (word_as c.push_word-3.new.out.items c.push_number.new.out.items c.deref.result.now marker
     (c.deref.ensures.value ∙ c.in_ok-marker.ensures) c.in_ok-push_word-3.ensures) in
     last_word c.push_word-4.result o c.push_word-3.new.out.items c.push_word-4.new.out.items (codes "EVAL" ∷ script ∷ number ∷ marker ∷ []) t.queue.now marked
-    (ok_word_as c.push_word-4.result c.push_word-4.new.out.items c.push_word-3.new.out.items c.as_bytes-2.result.now t.queue.now c.as_bytes-2.ensures.value c.push_word-4.ensures)
+    (ok_word_as c.push_word-4.result c.push_word-4.new.out.items c.push_word-3.new.out.items c.as_bytes-2.result.now t.queue.now c.as_bytes-2.ensures.value
+    c.push_word-4.ensures)

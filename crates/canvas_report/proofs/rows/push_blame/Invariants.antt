@@ -2,7 +2,7 @@ use Rattle.std.proofs.Common.{◌≡◌, drop}
 use Rattle.canvas_report.specs.JsonRows.{parameter_of}
 use Rattle.canvas_report.proofs.rows.push_blame.Given as goal
 
--- nothing is told by what came before
+-- no parameter came before
 abbrev pub invariant-loop-of : goal.invariant-loop-of
 invariant-loop-of l = record {
   same : l.text ≡ l.fn.text;

@@ -42,5 +42,6 @@ move_onto-returns-in_ok-move_lines-in-Group t c =
 
 pub move_onto-returns-in_ok-body-in-Chord : goal.move_onto-returns-in_ok-body-in-Chord
 move_onto-returns-in_ok-body-in-Chord t c =
-    chord_line _ _ _ _ _ _ _ _ c.in_ok-body-in-Chord.body c.into_line.result c.in-Chord.is c.into_plain-in-Chord.ensures c.in_ok-members-in-Chord.ensures c.into_inner.ensures
+    chord_line _ _ _ _ _ _ _ _ c.in_ok-body-in-Chord.body c.into_line.result c.in-Chord.is c.into_plain-in-Chord.ensures c.in_ok-members-in-Chord.ensures
+    c.into_inner.ensures
     c.in_ok-body-in-Chord.ensures c.into_line.ensures c.of_end.ensures

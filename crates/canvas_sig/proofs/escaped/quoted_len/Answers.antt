@@ -28,7 +28,8 @@ returns-in-Some-eq34-clause-passed c =
     let t = c.args.text.now in
     let at = c.parts.at in
     let n = c.plain_len-at.result in
-    c.parts.invariant.0 ∙ past_plain t at n (part _ _ at n c.as_bytes-bytes.ensures.value c.plain_len-at.ensures) ∙ at_closing t (at + n) (grind arith) (grind arith)
+    c.parts.invariant.0 ∙ past_plain t at n (part _ _ at n c.as_bytes-bytes.ensures.value c.plain_len-at.ensures)
+    ∙ at_closing t (at + n) (grind arith) (grind arith)
 
 pub parts-preserved : goal.parts-preserved
 parts-preserved c =

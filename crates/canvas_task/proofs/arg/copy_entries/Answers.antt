@@ -17,5 +17,6 @@ loop-name-preserved c =
       done ++ e ∷ [],
       all ∙ sym (append_assoc done (e ∷ []) left),
       ap named c.in_ok-insert.ensures.entries
-          ∙ one_more l.copy.entries done e left c.in_ok-key.key c.in_ok-clone.field-0 l.invariant.2 c.in_ok-key.ensures.cases c.in_ok-clone.ensures.cases sorted,
+          ∙ one_more l.copy.entries done e left c.in_ok-key.key c.in_ok-clone.field-0 l.invariant.2 c.in_ok-key.ensures.cases c.in_ok-clone.ensures.cases
+          sorted,
     )

@@ -5,5 +5,5 @@ use Rattle.canvas_warning.proofs.walk.+calls.Given as goal
 
 abbrev pub invariant-push_tasks-loop-sig : goal.invariant-push_tasks-loop-sig
 invariant-push_tasks-loop-sig g l =
-    l.found.items ++ tasks_told (g.T.Tasks.behaviour l.tasks) (tasks_of (map task_view (drop l.sig-index l.sigs))) l.stand
-    ≡ l.fn.found.items ++ tasks_told (g.T.Tasks.behaviour l.tasks) (tasks_of (map task_view l.sigs)) l.stand
+    l.found.items ++ tasks_told (g.T.Tasks.behaviour l.tasks) (tasks_of (map task_view (drop l.sig-index l.sigs))) l.position
+    ≡ l.fn.found.items ++ tasks_told (g.T.Tasks.behaviour l.tasks) (tasks_of (map task_view l.sigs)) l.position

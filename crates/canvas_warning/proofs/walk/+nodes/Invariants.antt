@@ -6,12 +6,12 @@ use Rattle.canvas_warning.proofs.walk.+nodes.Given as goal
 abbrev pub invariant-push_elements-loop-node : goal.invariant-push_elements-loop-node
 invariant-push_elements-loop-node g l = record {
   told : l.found.items ++ elements_told (g.T.Tasks.behaviour l.tasks) (trees_of (map view (drop l.node-index l.nodes))) l.here
-      ≡ l.fn.found.items ++ elements_told (g.T.Tasks.behaviour l.tasks) (trees_of (map view l.nodes)) l.fn.stand;
-  out : out_of_each (trees_of (map view (drop l.node-index l.nodes))) l.here.input ≡ out_of_each (trees_of (map view l.nodes)) l.fn.stand.input;
+      ≡ l.fn.found.items ++ elements_told (g.T.Tasks.behaviour l.tasks) (trees_of (map view l.nodes)) l.fn.position;
+  out : out_of_each (trees_of (map view (drop l.node-index l.nodes))) l.here.input ≡ out_of_each (trees_of (map view l.nodes)) l.fn.position.input;
   left : l.left + l.node-index ≡ length l.nodes;
 }
 
 abbrev pub invariant-push_members-loop-node : goal.invariant-push_members-loop-node
 invariant-push_members-loop-node g l =
-    l.found.items ++ members_told (g.T.Tasks.behaviour l.tasks) (trees_of (map view (drop l.node-index l.nodes))) l.stand
-    ≡ l.fn.found.items ++ members_told (g.T.Tasks.behaviour l.tasks) (trees_of (map view l.nodes)) l.stand
+    l.found.items ++ members_told (g.T.Tasks.behaviour l.tasks) (trees_of (map view (drop l.node-index l.nodes))) l.position
+    ≡ l.fn.found.items ++ members_told (g.T.Tasks.behaviour l.tasks) (trees_of (map view l.nodes)) l.position

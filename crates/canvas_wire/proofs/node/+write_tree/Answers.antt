@@ -38,7 +38,8 @@ write_tree-returns-in_ok-write_body-in-Chord t c =
     let seen = ap view c.in-Chord.is ∙ view-Chord c.in-Chord.header c.in-Chord.body
     ∙ ap (λ ns. chord 0 (trees_of (map view ns)) (view c.in-Chord.body.value)) (sym (c.deref-in-Chord-2.ensures.value ∙ c.get-in-Chord.ensures))
     ∙ ap (λ b. chord 0 (trees_of (map view c.deref-in-Chord-2.result.now)) (view b)) (sym c.deref-in-Chord.ensures) in
-    let written = after_ok c.write_last.result c.args.out.now c.write_body.new.out c.write_last.new.out _ _ _ c.in_ok-write_body-in-Chord.ensures c.write_last.ensures
+    let written = after_ok c.write_last.result c.args.out.now c.write_body.new.out c.write_last.new.out _ _ _ c.in_ok-write_body-in-Chord.ensures
+    c.write_last.ensures
     (chord_tokens _ _ (string (codes "chord")) (codes "celery.chord")) in
     let P : Tree → Type 0 = λ u. Appends c.write_last.result c.args.out.now c.write_last.new.out (data_tokens (tree_wire u)) in
     subst P (sym seen) written

@@ -39,7 +39,8 @@ loop-name-preserved c =
     let rest = members_text true (kwargs_wire (named c.next.new.self)) in
     let value = compact_text (arg_wire c.in-Some.arg.now) in
     let name = quoted (string_bytes c.in-Some.name.now) in
-    let begun = ap (λ es. string_bytes c.loop-name.out ++ members_text c.loop-name.later (kwargs_wire (named es))) (sym c.in-Some.ensures.steps) ∙ c.loop-name.invariant in
+    let begun = ap (λ es. string_bytes c.loop-name.out ++ members_text c.loop-name.later (kwargs_wire (named es))) (sym c.in-Some.ensures.steps)
+    ∙ c.loop-name.invariant in
     put_part (string_bytes c.put.new.out) value (string_bytes c.put_arg.new.out) _ rest all c.in_ok-put_arg.ensures refl
     (put_part (string_bytes c.put_string.new.out) (58 ∷ []) (string_bytes c.put.new.out) _ (value ++ rest) all c.in_ok-put.ensures refl
     (put_part (string_bytes c.put_comma.new.out) name (string_bytes c.put_string.new.out) _ (58 ∷ (value ++ rest)) all

@@ -5,7 +5,7 @@ use Rattle.canvas_backend.specs.declared.row.Row.{Row}
 use Rattle.canvas_history.specs.Roster.{Roster}
 use Rattle.canvas_backend.specs.Plain.{held}
 use Rattle.canvas_backend.specs.steps.Counts.{AreCounts}
-use Rattle.canvas_backend.proofs.Shelves.{shelf, none_held, counts_none}
+use Rattle.canvas_backend.proofs.PlainViews.{plain_view, none_held, counts_none}
 use Rattle.canvas_backend.proofs.plain.PlainBackend.new.Goals as goal
 
 pub invariant_of-result : goal.invariant_of-result
@@ -19,7 +19,7 @@ invariant_of-result c =
     omega (arith, c.groups.ensures, entries_length c.args.plan.now, ap (λ (r : Roster). length r.groups) c.in_ok-roster.ensures) in (
       c.tasks.ensures.sound,
       ap length rows ∙ (length-replicate c.tasks.result _ ∙ c.tasks.ensures.value),
-      subst (λ (z : List Row × List ℕ). AreCounts (shelf plan z.0) z.1) (λ j. (sym rows j, sym counts j))
+      subst (λ (z : List Row × List ℕ). AreCounts (plain_view plan z.0) z.1) (λ j. (sym rows j, sym counts j))
           (counts_none plan c.tasks.result c.groups.result many),
     )
 
@@ -27,4 +27,4 @@ pub returns-clause-empty : goal.returns-clause-empty
 returns-clause-empty c =
     let rows : c.in_ok-rows.rows.items ≡ replicate c.tasks.result (record { outcome = None; returned = false }) =
     c.in_ok-rows.ensures.items_if_clones_equal (λ y same. same) in
-    ap (λ (z : List Row). held (shelf c.in_ok-roster.roster z)) rows ∙ none_held c.in_ok-roster.roster c.tasks.result
+    ap (λ (z : List Row). held (plain_view c.in_ok-roster.roster z)) rows ∙ none_held c.in_ok-roster.roster c.tasks.result

@@ -1,5 +1,5 @@
 use Rattle.std.proofs.Common.{◌≡◌, ◌-◌, ◌∙◌, ℕ, suc, length-set, arith}
-use Rattle.canvas_backend.proofs.Shelves.{places_inside, part_fits, part_done}
+use Rattle.canvas_backend.proofs.PlainViews.{places_inside, part_fits, part_done}
 use Rattle.canvas_backend.proofs.plain.PlainBackend.part.Goals as goal
 
 pub overflow_add-count : goal.overflow_add-count

@@ -1,5 +1,5 @@
 use Rattle.std.proofs.Common.{◌≡◌, ◌-◌, ℕ, suc, arith}
-use Rattle.canvas_backend.proofs.Shelves.{row_inside, row_read, read_there}
+use Rattle.canvas_backend.proofs.PlainViews.{row_inside, row_read, read_there}
 use Rattle.canvas_backend.proofs.plain.PlainBackend.read.Goals as goal
 
 pub index-requires : goal.index-requires

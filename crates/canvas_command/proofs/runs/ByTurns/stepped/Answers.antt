@@ -25,7 +25,7 @@ returns-in_ok-lines-in-Ok g c = λ plans.
     c.run-plan.ensures said in
     let ran = subst (λ ss. IsStepped behaviour run self.workers self.turns.now self.again.now ss c.in-Ok.repeats (map step_seen steps)) are stepped in
     let text = c.in_ok-lines-in-Ok.ensures ∙ (λ i. steps_text (c.run-plan.ensures i) (c.deref.ensures.value i) none_held (c.deref-in-Ok.ensures.value i)) in
-    let status = ap (λ ss. report_status self.manner.fails (any_failed (with_states (rows_from 1 ss) (ends_of shown)))) are in (
+    let status = ap (λ ss. report_status self.output.fails (any_failed (with_states (rows_from 1 ss) (ends_of shown)))) are in (
       shown,
       run,
       plans,

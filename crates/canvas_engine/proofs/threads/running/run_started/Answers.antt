@@ -1,5 +1,5 @@
 use Rattle.std.proofs.Common.{rules, ◌≡◌, None, subst}
-use Rattle.canvas_engine.specs.steps.Crews.{HaveWorked}
+use Rattle.canvas_engine.specs.steps.Gathering.{HaveWorked}
 use Rattle.canvas_engine.proofs.threads.running.run_started.Goals as goal
 
 pub conclude-requires-clause-gathered : goal.conclude-requires-clause-gathered

@@ -7,4 +7,5 @@ use Rattle.canvas_task.proofs.registry.Registry.apply.Given as goal
 abbrev pub invariant-loop-task : goal.invariant-loop-task
 invariant-loop-task g l =
     let tasks = named_tasks (λ b. (goal.Task-dyn g (b.vtable, b.value)).called b.value) (λ b. (goal.Task-dyn g (b.vtable, b.value)).answers b.value) in
-    behaviour_of (tasks (drop l.task-index l.task-items)) l.name l.args (named l.kwargs.entries) ≡ behaviour_of (tasks l.self.tasks.items) l.name l.args (named l.kwargs.entries)
+    behaviour_of (tasks (drop l.task-index l.task-items)) l.name l.args (named l.kwargs.entries) ≡ behaviour_of (tasks l.self.tasks.items) l.name l.args
+    (named l.kwargs.entries)

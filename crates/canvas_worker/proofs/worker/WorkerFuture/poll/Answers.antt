@@ -1,13 +1,13 @@
 use Rattle.std.proofs.Common.{rules, ◌≡◌, ℕ, Some}
 use Rattle.canvas_task.specs.Apply.{Behaviour}
-use Rattle.canvas_worker.specs.Polls.{Work, TellsOf}
+use Rattle.canvas_worker.specs.Polls.{WorkerView, TellsOf}
 use Rattle.canvas_worker.proofs.Polls.Held.{held_back}
 use Rattle.canvas_worker.proofs.Polls.PollsFollowed.{goes_first, ends_give, ready_one, of_one, pending, not_ready}
 use Rattle.canvas_worker.proofs.worker.WorkerFuture.poll.Goals as goal
 
 pub returns-in-Ok-clause-same : goal.returns-in-Ok-clause-same
 returns-in-Ok-clause-same g c =
-    let w : Work = c.in-Some.working in
+    let w : WorkerView = c.in-Some.working in
     let was : c.args.self.now.working ≡ Some w = search rules in
     let behaviour : Behaviour = g.T.Tasks.behaviour c.args.self.now.tasks.now in
     let may_want : ℕ → ℕ → Type 0 = g.G.Gate.may_want c.args.self.now.gate.now in
@@ -18,7 +18,7 @@ returns-in-Ok-clause-same g c =
 
 pub returns-in-Ok-clause-polled : goal.returns-in-Ok-clause-polled
 returns-in-Ok-clause-polled g c =
-    let w : Work = c.in-Some.working in
+    let w : WorkerView = c.in-Some.working in
     let was : c.args.self.now.working ≡ Some w = search rules in
     let pends = c.yield_now-in-Ok.ensures.pending in
     of_one c.args.self.now.working w _ was (record {
@@ -34,7 +34,7 @@ returns-in-Ok-clause-polled g c =
 
 pub returns-in-Err-clause-value : goal.returns-in-Err-clause-value
 returns-in-Err-clause-value g c =
-    let w : Work = c.in-Some.working in
+    let w : WorkerView = c.in-Some.working in
     let was : c.args.self.now.working ≡ Some w = search rules in
     let behaviour : Behaviour = g.T.Tasks.behaviour c.args.self.now.tasks.now in
     let may_want : ℕ → ℕ → Type 0 = g.G.Gate.may_want c.args.self.now.gate.now in
@@ -44,7 +44,7 @@ returns-in-Err-clause-value g c =
 
 pub returns-in-Err-clause-polled : goal.returns-in-Err-clause-polled
 returns-in-Err-clause-polled g c =
-    let w : Work = c.in-Some.working in
+    let w : WorkerView = c.in-Some.working in
     let was : c.args.self.now.working ≡ Some w = search rules in
     of_one c.args.self.now.working w _ was (record {
       once = tt;

@@ -6,7 +6,7 @@ use Rattle.canvas_worker.specs.steps.Held.{held_in, alone_in}
 use Rattle.canvas_runs.specs.Book.{book_on}
 use Rattle.canvas_core.specs.CoreState.{asked}
 use Rattle.canvas_core.specs.declared.ask.Reply.TheVariants as R
-use Rattle.canvas_worker.specs.Polls.{Work, left_at}
+use Rattle.canvas_worker.specs.Polls.{WorkerView, left_at}
 use Rattle.canvas_core.proofs.Cores.Resting.{busy_never}
 use Rattle.canvas_core.specs.SeatRights.{LetsAsk}
 use Rattle.canvas_core.proofs.Rights.Asking.{may_ask}
@@ -16,18 +16,18 @@ use Rattle.canvas_worker.proofs.working.Working.store.Goals as goal
 
 pub store-requires-clause-task : goal.store-requires-clause-task
 store-requires-clause-task g c =
-    let w : Work = c.args.self.now in
-    let same : w.desk ≡ c.self.inside.backend.now = search rules in
+    let w : WorkerView = c.args.self.now in
+    let same : w.backend ≡ c.self.inside.backend.now = search rules in
     subst (λ d. c.args.task ≤ d.plan.tasks) same
-    (subst (LetsAsk w.desk.plan w.seat) (is_store (book_on w.desk.plan) c.args.task c.args.outcome w.core c.requires.asks)
-    (may_ask w.desk.plan c.requires.ready.plan w.seat (left_at w) c.requires.ready.can))
+    (subst (LetsAsk w.backend.plan w.seat) (is_store (book_on w.backend.plan) c.args.task c.args.outcome w.core c.requires.asks)
+    (may_ask w.backend.plan c.requires.ready.plan w.seat (left_at w) c.requires.ready.can))
 
 pub returns-in-First-clause-acted : goal.returns-in-First-clause-acted
 returns-in-First-clause-acted g c =
-    let w : Work = c.args.self.now in
-    let u : Work = record {
+    let w : WorkerView = c.args.self.now in
+    let u : WorkerView = record {
       broker = c.self.inside.queue.broker.now;
-      desk = c.self.inside.backend.now;
+      backend = c.self.inside.backend.now;
       number = c.self.inside.number;
       pass =
           c.self.inside.pass;
@@ -42,7 +42,7 @@ returns-in-First-clause-acted g c =
       parts = c.self.inside.parts;
     } in
     let asks : asked (left_at w) ≡ C.to_table (table.store c.args.task c.args.outcome) =
-    is_store (book_on w.desk.plan) c.args.task c.args.outcome w.core c.requires.asks in
+    is_store (book_on w.backend.plan) c.args.task c.args.outcome w.core c.requires.asks in
     asked_well (g.T.Tasks.behaviour c.args.tasks.now) w u c.reply.new.self (C.to_table (table.store c.args.task c.args.outcome))
     (R.Stored First) c.reply.result c.reply.ensures.value c.requires.ready (record {
       asked_is = asks;
@@ -54,7 +54,7 @@ returns-in-First-clause-acted g c =
       makes = search rules;
       serves = search rules;
       counts = search rules;
-      still = λ rests. absurd (busy_never (g.T.Tasks.behaviour c.args.tasks.now) w.desk.plan (left_at w) (C.from_table (table.was First))
+      still = λ rests. absurd (busy_never (g.T.Tasks.behaviour c.args.tasks.now) w.backend.plan (left_at w) (C.from_table (table.was First))
           (C.to_table (table.store c.args.task c.args.outcome)) asks tt rests);
       none_dropped = refl;
       core = search rules;
@@ -62,10 +62,10 @@ returns-in-First-clause-acted g c =
 
 pub returns-in-Again-clause-acted : goal.returns-in-Again-clause-acted
 returns-in-Again-clause-acted g c =
-    let w : Work = c.args.self.now in
-    let u : Work = record {
+    let w : WorkerView = c.args.self.now in
+    let u : WorkerView = record {
       broker = c.self.inside.queue.broker.now;
-      desk = c.self.inside.backend.now;
+      backend = c.self.inside.backend.now;
       number = c.self.inside.number;
       pass =
           c.self.inside.pass;
@@ -80,7 +80,7 @@ returns-in-Again-clause-acted g c =
       parts = c.self.inside.parts;
     } in
     let asks : asked (left_at w) ≡ C.to_table (table.store c.args.task c.args.outcome) =
-    is_store (book_on w.desk.plan) c.args.task c.args.outcome w.core c.requires.asks in
+    is_store (book_on w.backend.plan) c.args.task c.args.outcome w.core c.requires.asks in
     asked_well (g.T.Tasks.behaviour c.args.tasks.now) w u c.reply-in-Again.new.self (C.to_table (table.store c.args.task c.args.outcome))
     (R.Stored Again) c.reply-in-Again.result c.reply-in-Again.ensures.value c.requires.ready (record {
       asked_is = asks;
@@ -92,7 +92,7 @@ returns-in-Again-clause-acted g c =
       makes = search rules;
       serves = search rules;
       counts = search rules;
-      still = λ rests. absurd (busy_never (g.T.Tasks.behaviour c.args.tasks.now) w.desk.plan (left_at w) (C.from_table (table.was Again))
+      still = λ rests. absurd (busy_never (g.T.Tasks.behaviour c.args.tasks.now) w.backend.plan (left_at w) (C.from_table (table.was Again))
           (C.to_table (table.store c.args.task c.args.outcome)) asks tt rests);
       none_dropped = refl;
       core = search rules;

@@ -8,7 +8,7 @@ use Rattle.canvas_worker.specs.steps.Held.{held_in, alone_in}
 use Rattle.canvas_runs.specs.Book.{book_on}
 use Rattle.canvas_core.specs.CoreState.{asked}
 use Rattle.canvas_core.specs.declared.ask.Reply.TheVariants as R
-use Rattle.canvas_worker.specs.Polls.{Work, left_at}
+use Rattle.canvas_worker.specs.Polls.{WorkerView, left_at}
 use Rattle.canvas_worker.proofs.Polls.GivenEnvelope.{given_well}
 use Rattle.canvas_core.proofs.Cores.ShownAsks.{is_take, reads_back}
 use Rattle.canvas_worker.proofs.Polls.ToldAnswers.{asked_well}
@@ -16,14 +16,14 @@ use Rattle.canvas_worker.proofs.working.Working.take_one.Goals as goal
 
 pub returns-in-Some-clause-acted : goal.returns-in-Some-clause-acted
 returns-in-Some-clause-acted g c =
-    let w : Work = c.args.self.now in
-    let u : Work = record { broker = c.self.inside.queue.broker.now; desk = c.self.inside.backend.now; number = c.self.inside.number; pass = c.take.new.pass; seat = c.self.inside.seat; core = c.self.inside.core; held = []; alone = false; taken = c.self.inside.taken; published = c.self.inside.published; first = c.self.inside.first; parts = c.self.inside.parts } in
+    let w : WorkerView = c.args.self.now in
+    let u : WorkerView = record { broker = c.self.inside.queue.broker.now; backend = c.self.inside.backend.now; number = c.self.inside.number; pass = c.take.new.pass; seat = c.self.inside.seat; core = c.self.inside.core; held = []; alone = false; taken = c.self.inside.taken; published = c.self.inside.published; first = c.self.inside.first; parts = c.self.inside.parts } in
     let e : Envelope = c.in-Some.envelope in
     let stands : Stands w.pass (calls w.pass.name queue.take (Some e)) u.pass = search rules in
     given_well (g.T.Tasks.behaviour c.args.tasks.now) w u c.give.new.self (e ∷ []) e c.give.result c.give.ensures c.requires.ready (record {
       asks = c.requires.asks;
       broker = search rules;
-      desk = search rules;
+      backend = search rules;
       number = search rules;
       of = search rules;
       seat = search rules;
@@ -39,9 +39,9 @@ returns-in-Some-clause-acted g c =
 
 pub returns-in-None-clause-acted : goal.returns-in-None-clause-acted
 returns-in-None-clause-acted g c =
-    let w : Work = c.args.self.now in
-    let u : Work = record { broker = c.self.inside.queue.broker.now; desk = c.self.inside.backend.now; number = c.self.inside.number; pass = c.take.new.pass; seat = c.self.inside.seat; core = c.self.inside.core; held = held_in c.after_none.result; alone = alone_in c.after_none.result; taken = c.self.inside.taken; published = c.self.inside.published; first = c.self.inside.first; parts = c.self.inside.parts } in
-    let asks : asked (left_at w) ≡ C.to_queue queue.take = is_take (book_on w.desk.plan) w.core c.requires.asks in
+    let w : WorkerView = c.args.self.now in
+    let u : WorkerView = record { broker = c.self.inside.queue.broker.now; backend = c.self.inside.backend.now; number = c.self.inside.number; pass = c.take.new.pass; seat = c.self.inside.seat; core = c.self.inside.core; held = held_in c.after_none.result; alone = alone_in c.after_none.result; taken = c.self.inside.taken; published = c.self.inside.published; first = c.self.inside.first; parts = c.self.inside.parts } in
+    let asks : asked (left_at w) ≡ C.to_queue queue.take = is_take (book_on w.backend.plan) w.core c.requires.asks in
     let bare : u.held ≡ [] = search rules in
     let empty : Empties u.pass = search rules in
     asked_well (g.T.Tasks.behaviour c.args.tasks.now) w u c.answer.new.self (C.to_queue queue.take) (R.Taken None)
