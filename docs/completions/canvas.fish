@@ -94,4 +94,4 @@ complete -c canvas -n '__fish_seen_subcommand_from collect' -l complete -d 'Give
 complete -c canvas -n '__fish_seen_subcommand_from collect' -l json -d 'Prints each task, and then the result, as a JSON object in a line; refusals too'
 complete -c canvas -n '__fish_seen_subcommand_from collect' -s h -l help -d 'Print help'
 complete -c canvas -n 'not __fish_seen_subcommand_from run turns normal check adapt graph page messages export keys collect help' -a help -d 'Print this message or the help of the given subcommand(s)'
-complete -c canvas -n '__fish_seen_subcommand_from help' -f -a 'run turns normal check adapt graph page messages export keys collect help'
+complete -c canvas -n '__fish_seen_subcommand_from help' -f -a 'run turns normal check adapt graph page messages export keys collect help reports tasks json celery limits'

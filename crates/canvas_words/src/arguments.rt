@@ -68,7 +68,7 @@ pub(crate) const TURNS: Argument = Argument {
     name: "turns",
     takes: Takes::Text("LIST"),
     given: Given::Maybe,
-    help: "Which worker goes on at each turn, as 1,2,2; after the list they take turns from 1",
+    help: "Which worker goes on at each turn, as 1,2,2; after the list the workers take turns from 1",
 };
 
 pub(crate) const CALLS: Argument = Argument {
@@ -82,7 +82,7 @@ pub(crate) const AGAIN: Argument = Argument {
     name: "again",
     takes: Takes::Text("LIST"),
     given: Given::Maybe,
-    help: "What is delivered again, as 1:early,NAME:late, or all; standard error counts stores that answer Again",
+    help: "Which messages are redelivered, as 1:early,NAME:late, or all; standard error counts stores that answer Again",
 };
 
 pub(crate) const STEPS: Argument = Argument {
@@ -96,7 +96,7 @@ pub(crate) const FAILURES: Argument = Argument {
     name: "failures",
     takes: Takes::Text("WORD"),
     given: Given::Maybe,
-    help: "Prints what becomes of it if only one task fails, for each task, as JSON; WORD is raise:CLASS",
+    help: "Prints what becomes of the canvas if only one task fails, for each task, as JSON; WORD is raise:CLASS",
 };
 
 /// Like `FAILURES`, with a default word.
@@ -146,7 +146,7 @@ pub(crate) const FIGURES_JSON: Argument = Argument {
     name: "json",
     takes: Takes::Nothing,
     given: Given::Maybe,
-    help: "Prints the figures, and each warning, as a JSON object in a line; refusals too",
+    help: "Prints the statistics, and each warning, as a JSON object in a line; refusals too",
 };
 
 pub(crate) const NUMBERS: Argument = Argument {
@@ -174,14 +174,14 @@ pub(crate) const NULL: Argument = Argument {
     name: "null",
     takes: Takes::Nothing,
     given: Given::Maybe,
-    help: "Each of many canvases ends with a NUL byte, and not with its line",
+    help: "With --each: a canvas ends with a NUL byte, and not with its line",
 };
 
 pub(crate) const WITH_TASKS: Argument = Argument {
     name: "with-tasks",
     takes: Takes::Nothing,
     given: Given::Maybe,
-    help: "Each of them has what its tasks answer before it, one NAME=WORD a line, and an empty line",
+    help: "With --null: before each canvas are its tasks' answers, one NAME=WORD a line, and an empty line",
 };
 
 pub(crate) const ADAPT: Argument = Argument {
@@ -223,7 +223,7 @@ pub(crate) const VALUES: Argument = Argument {
     name: "values",
     takes: Takes::Text("VALUES"),
     given: Given::Maybe,
-    help: "A JSON array: its items are the arguments ~0, ~1 and so on; `-` is standard input",
+    help: "A file with a JSON array: its items are the arguments ~0, ~1 and so on; `-` is standard input",
 };
 
 pub(crate) const QUEUE: Argument = Argument {
@@ -265,7 +265,7 @@ pub(crate) const WITHOUT_SCRIPT: Argument = Argument {
     name: "without-script",
     takes: Takes::Nothing,
     given: Given::Maybe,
-    help: "Starts it by a transaction, if Redis takes no EVAL; a run given twice then runs twice",
+    help: "Starts the canvas by a transaction, if Redis takes no EVAL; a run given twice then runs twice",
 };
 
 pub(crate) const COMPLETE: Argument = Argument {
@@ -286,7 +286,7 @@ pub(crate) const OF: Argument = Argument {
     name: "of",
     takes: Takes::Text("HEX22"),
     given: Given::Maybe,
-    help: "The run whose results they are",
+    help: "With --results: the run that they are of",
 };
 
 impl Argument {

@@ -95,7 +95,7 @@ impl Subcommand {
             }
             Subcommand::Normal => "Prints a canvas's normal line as JSON",
             Subcommand::Check => {
-                "Prints the figures of a canvas and what may surprise, or where it is refused and why"
+                "Prints the statistics of a canvas and its warnings, or where it is refused and why"
             }
             Subcommand::Adapt => {
                 "Prints a canvas that runs here, from any that Celery writes, and says what was changed"

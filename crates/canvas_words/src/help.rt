@@ -42,8 +42,8 @@ from left to right in time, groups and chords as frames, links and error callbac
 
 `page` prints an HTML page, as in `canvas page FILE > canvas.html`, which needs no other file and
 contacts nothing. It shows what becomes of the canvas if a task fails, with the exception that
---failures says, and its runs by 1, 2 and 4 workers. Of more than 200 tasks or 65,536 bytes it shows
-only what becomes of the canvas as it is.
+--failures says, and its runs by 1, 2 and 4 workers, step by step. If the canvas has more than 200
+tasks or 65,536 bytes, it shows only what becomes of the canvas as it is.
 
 `messages` prints the messages that workers would get, each with its body, headers and properties
 as texts.
@@ -51,9 +51,10 @@ as texts.
 
 const TURNS: &str = "\
 Under `turns` the workers take turns on one thread. At a turn a worker makes one step, such as to
-take a message or to store an outcome. `--steps` prints each. A list of turns is decimal numbers
-from 1, separated by single commas, with no sign, space or leading zero, as 1,2,2. Any other is
-refused (BadTurn). After the list the workers take turns from 1.
+take a message or to store an outcome. `--steps` prints each; its `ask` is publish, take, store,
+part, read, ack, rest or redeliver. A list of turns is decimal numbers from 1 to that of `--workers`
+(1 if it isn't given), separated by single commas, with no sign, space or leading zero, as 1,2,2.
+Any other is refused (BadTurn). After the list the workers take turns from 1.
 
 With `--again LIST` a worker has the message that it works on redelivered at the points of a list,
 as 1:early,1:late: a task's number, a colon, and `early`, before the first store of the task's
@@ -88,14 +89,17 @@ Another word or name, and a name that is there twice, is refused (BadTask). So i
 
 const JSON: &str = "\
 `run --json` and `turns --json` print a JSON object in a line for each task (due_to, name, ran,
-result, status, task_id), and one for the result (result, status). A failure's result has exc_type
-and exc_message, as Celery stores it. If a task wasn't called, its `ran` is false. If it failed all
-the same, due_to is the task whose exception it shows, or that its ChordError names. If a call of a
-built-in task is a TypeError, it has `parameter`: the one at fault, or null if there are too many
-arguments.
+result, status, task_id), and one for the canvas: result, status, and `ends`, the tasks whose
+results the result is. With --again it also has `again`, how many stores answered Again. A failure's
+result has exc_type and exc_message, as Celery stores it. If a task wasn't called, its `ran` is
+false. If it failed all the same, due_to is the task whose exception it shows, or that its
+ChordError names; else it is null. If a call of a built-in task is a TypeError, it has `parameter`:
+the one at fault, or null if there are too many arguments. `collect`, and a run that ended early,
+print neither ran nor due_to.
 
-`run --failures=raise:CLASS` prints an object for the canvas as it is, and then one for each task:
-what differs if only that task fails.
+`run --failures=raise:CLASS` prints an object (canvas, fails, rows) for the canvas as it is, and
+then one for each task, if only that task fails: its rows are those that differ. It runs nothing,
+and evaluates each line.
 
 `run --each` reads a canvas a line, runs as many at once as there are workers, and prints a JSON
 object a line for each, in their order, before it reads more: canvas (the last line of `run --json`)
@@ -103,8 +107,8 @@ and rows (a list of the others), or what --json prints of one that is refused. W
 ends with a NUL byte and not with its line. With --with-tasks it has lines before it, each as --task
 takes them, and an empty line. They are only for this canvas, and come before --task and --tasks.
 
-`check --json` prints an object for the figures, and one for each warning (count, name, note,
-pointer, task).
+`check --json` prints an object for the statistics (bytes_of_messages, groups_and_chords, messages,
+nesting, reach, tasks), and one for each warning (count, name, note, pointer, task).
 
 `messages --calls` prints the call that each message asks for (after, args, header_after, kwargs,
 name, parent_id, task_id), and then the names of all tasks. A message waits for the ends of the
@@ -112,8 +116,8 @@ tasks of after. If a header's completion publishes it, header_after has the task
 header waits for; else it is null.
 
 With --json each command prints a refusal as an object on standard error: of a canvas with code,
-name, note, pointer and task (those of the first signature that is refused, or null); of anything
-else, such as a file that can't be read, with name and note.
+name, note, pointer and task (those of the first signature that is refused, or null), and line and
+column if it is no JSON; of anything else, such as a file that can't be read, with name and note.
 ";
 
 const CELERY: &str = "\
@@ -137,11 +141,11 @@ result backend, `keys` the keys under which these store its results, and `collec
 these results on standard input, one a line:
     canvas export FILE --run HEX22 | redis-cli --pipe
     canvas keys FILE --run HEX22 | xargs -r redis-cli --raw MGET | canvas collect FILE --run HEX22
-A run's number has 22 lower-case hexadecimal digits (BadRun) and is used once. `collect --complete`
-gives tasks that a failure reaches their state, where Celery leaves them pending. A result that is
-no whole number is shown as JSON, and an exception of another class by its name. `graph FILE
---results FILE --of HEX22` draws results from a file. `export` says on standard error how many
-signatures have each option that it ignores, such as queue and countdown.
+A run's number has 22 lower-case hexadecimal digits, and any other is refused (BadRun). It is used
+once. `collect --complete` gives tasks that a failure reaches their state, where Celery leaves them
+pending. A result that is no whole number is shown as JSON, and an exception of another class by its
+name. `graph FILE --results FILE --of HEX22` draws results from a file. `export` says on standard
+error how many signatures have each option that it ignores, such as queue and countdown.
 
 With `export --values VALUES` each argument that is a place, the text ~0, ~1 and so on, goes to the
 workers as the item of that number of the JSON array in VALUES, of any kind. There a text that
@@ -154,9 +158,8 @@ names none).
 ";
 
 const LIMITS: &str = "\
-A canvas has at most 1,048,576 bytes, 1,024 tasks, and 1,024 groups and chords. A run has 1 to 16
-workers. One that is past a limit, or isn't a canvas, is refused by a line, `canvas: refused CODE
-NAME`:
+A run has 1 to 16 workers. A canvas has at most 1,048,576 bytes, 1,024 tasks, and 1,024 groups and
+chords. A text that has more, or is no canvas, is refused by a line, `canvas: refused CODE NAME`:
    1 TooLarge          more than 1,048,576 bytes
    2 NotJson           no JSON text in UTF-8
    3 NotSignature      no object, or a task's name or `immutable` is none
