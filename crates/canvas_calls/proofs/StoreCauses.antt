@@ -24,13 +24,13 @@ use Rattle.canvas_runs.proofs.Laws.FirstLaw.{inner_run}
 use Rattle.canvas_runs.proofs.Lists.Words.{cond_cases, each_append, each_from_in, each_left, each_right, each_weaker, in_each}
 use Rattle.canvas_runs.proofs.Objects.CallsOf.{call_in, entry_in}
 use Rattle.canvas_runs.proofs.Runs.GoodRuns.{GoodAnswer, GoodState, all_found, more_found, next_good}
-use Rattle.canvas_runs.proofs.Runs.Meaning.{Evaluates, Format, JobOf, Ordered}
+use Rattle.canvas_runs.proofs.Runs.Meaning.{Evaluates, Form, JobOf, Ordered}
 use Rattle.canvas_runs.proofs.Runs.MoreAsks.{reads_cases}
 use Rattle.canvas_runs.proofs.Runs.Right.{answers_right, right_closed, right_goods}
 
 -- ---- one worker's calls, where the first store of a task brings its end about, and a completing part its chord's completion
 
-module _ {E : Type 0} (Y : Protocol E) (F : Format Y) (Done : Event → JobOf Y → Type 0) (ordered : Ordered Y F) (meaning : Evaluates Y Done F)
+module _ {E : Type 0} (Y : Protocol E) (F : Form Y) (Done : Event → JobOf Y → Type 0) (ordered : Ordered Y F) (meaning : Evaluates Y Done F)
     (Brings : Event → Type 0) (Made : TableAnswered → Type 0)
     (by_first : (t : ℕ) (o : Outcome) → Made (table.store t o, table.was First) → Brings (end_of_line t))
     (by_count : (g t n : ℕ) → Made (table.part g t, table.count n) → suc n ≡ length (F.members g) → Brings (completion g)) where

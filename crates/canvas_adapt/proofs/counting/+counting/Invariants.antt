@@ -1,7 +1,7 @@
 use Rattle.std.proofs.Common.{◌≡◌, ◌+◌, map, drop}
 use Rattle.canvas_semantics.specs.Tree.{count_all}
 use Rattle.canvas_values.specs.SignatureView.{view, trees_of}
-use Rattle.canvas_adapt.proofs.counting.+counting.Inherited as goal
+use Rattle.canvas_adapt.proofs.counting.+counting.Given as goal
 
 -- what is left, less those still to come, is what will be left
 abbrev pub invariant-left_after_nodes-loop-node : goal.invariant-left_after_nodes-loop-node

@@ -1,7 +1,7 @@
 use Rattle.std.proofs.Common.{◌≡◌, ◌+◌, map, drop}
 use Rattle.canvas_semantics.specs.Tree.{count_tasks}
 use Rattle.canvas_values.specs.SignatureView.{task_view, tasks_of}
-use Rattle.canvas_adapt.proofs.counting.+task_counting.Inherited as goal
+use Rattle.canvas_adapt.proofs.counting.+task_counting.Given as goal
 
 -- what is left, less those still to come, is what will be left
 abbrev pub invariant-left_after_tasks-loop-sig : goal.invariant-left_after_tasks-loop-sig

@@ -1,5 +1,5 @@
 use Rattle.std.proofs.Common.{◌+◌, ◌*◌}
-use Rattle.canvas_adapt.proofs.inherited.+same.Inherited as goal
+use Rattle.canvas_adapt.proofs.inherited.+same.Given as goal
 
 abbrev pub decreases-is_same : goal.decreases-is_same
 decreases-is_same l = 2 * l.left

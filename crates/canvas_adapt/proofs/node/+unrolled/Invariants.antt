@@ -1,5 +1,5 @@
 use Rattle.std.proofs.Common.{◌+◌, ◌*◌}
-use Rattle.canvas_adapt.proofs.node.+unrolled.Inherited as goal
+use Rattle.canvas_adapt.proofs.node.+unrolled.Given as goal
 
 abbrev pub decreases-unrolled : goal.decreases-unrolled
 decreases-unrolled l = 2 * l.left

@@ -1,7 +1,7 @@
 use Rattle.std.proofs.Common.{◌≡◌, ◌+◌, ◌++◌, map, drop}
 use Rattle.canvas_values.specs.SignatureView.{view}
 use Rattle.canvas_adapt.specs.steps.Renaming.{trees_in, trees_renamed}
-use Rattle.canvas_adapt.proofs.renaming.+nodes.Inherited as goal
+use Rattle.canvas_adapt.proofs.renaming.+nodes.Given as goal
 
 -- the copies so far, with those still to come from the next number on, are all
 abbrev pub invariant-rename_nodes-loop-node : goal.invariant-rename_nodes-loop-node

@@ -1,5 +1,5 @@
 use Rattle.std.proofs.Common.{◌+◌, ◌*◌}
-use Rattle.canvas_adapt.proofs.text.+room.Inherited as goal
+use Rattle.canvas_adapt.proofs.text.+room.Given as goal
 
 abbrev pub decreases-room_behind : goal.decreases-room_behind
 decreases-room_behind l = 2 * l.left

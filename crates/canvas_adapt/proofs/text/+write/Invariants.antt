@@ -1,5 +1,5 @@
 use Rattle.std.proofs.Common.{◌≡◌}
-use Rattle.canvas_adapt.proofs.text.+write.Inherited as goal
+use Rattle.canvas_adapt.proofs.text.+write.Given as goal
 
 abbrev pub invariant-write_items-loop-value : goal.invariant-write_items-loop-value
 invariant-write_items-loop-value l = l.out.before ≡ l.fn.out.before

@@ -1,5 +1,5 @@
 use Rattle.std.proofs.Common.{◌+◌, ◌*◌}
-use Rattle.canvas_adapt.proofs.context.Context.+node.Inherited as goal
+use Rattle.canvas_adapt.proofs.context.Context.+node.Given as goal
 
 abbrev pub decreases-adapt_node : goal.decreases-adapt_node
 decreases-adapt_node l = 4 * l.left

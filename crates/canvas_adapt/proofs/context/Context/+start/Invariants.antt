@@ -1,5 +1,5 @@
 use Rattle.std.proofs.Common.{◌+◌, ◌*◌}
-use Rattle.canvas_adapt.proofs.context.Context.+start.Inherited as goal
+use Rattle.canvas_adapt.proofs.context.Context.+start.Given as goal
 
 abbrev pub decreases-starts_of_elements : goal.decreases-starts_of_elements
 decreases-starts_of_elements l = 4 * l.left + 1

@@ -1,5 +1,5 @@
 use Rattle.std.proofs.Common.{◌+◌, ◌*◌}
-use Rattle.canvas_adapt.proofs.context.Context.+task.Inherited as goal
+use Rattle.canvas_adapt.proofs.context.Context.+task.Given as goal
 
 abbrev pub decreases-adapted_tasks : goal.decreases-adapted_tasks
 decreases-adapted_tasks l = 2 * l.left

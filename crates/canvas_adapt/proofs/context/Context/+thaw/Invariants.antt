@@ -1,5 +1,5 @@
 use Rattle.std.proofs.Common.{◌+◌, ◌*◌}
-use Rattle.canvas_adapt.proofs.context.Context.+thaw.Inherited as goal
+use Rattle.canvas_adapt.proofs.context.Context.+thaw.Given as goal
 
 abbrev pub decreases-thaw_part : goal.decreases-thaw_part
 decreases-thaw_part l = 3 * l.left + 1

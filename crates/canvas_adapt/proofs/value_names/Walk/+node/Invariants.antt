@@ -1,5 +1,5 @@
 use Rattle.std.proofs.Common.{◌+◌, ◌*◌}
-use Rattle.canvas_adapt.proofs.value_names.Walk.+node.Inherited as goal
+use Rattle.canvas_adapt.proofs.value_names.Walk.+node.Given as goal
 
 abbrev pub decreases-rename_node : goal.decreases-rename_node
 decreases-rename_node l = 2 * l.left
