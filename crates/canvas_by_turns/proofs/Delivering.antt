@@ -1,4 +1,4 @@
--- What a stage is once the envelope of a core may have been delivered again.
+-- What a run is once the envelope of a core may have been delivered again.
 use Rattle.std.proofs.Common.{◌≡◌, ◌<◌, ℕ, Bool, true, false, inl, inr, List, [], ◌∷◌, ◌++◌, length, Option, Some, None, refl, sym, ap, ◌∙◌, subst}
 use Rattle.std.specs.Prelude.{IsSome, get_or, slice_get}
 use Rattle.std.specs.List.{remove}
@@ -41,7 +41,7 @@ module _ (s : TurnRun) (n i : ℕ) (c : CoreView) (place : i < length s.cores.it
   none_wanted e = not_wanted (ap (λ p. wanted p s.again.items) (sym e))
 
   module _ (p : Entry) (is_point : Some p ≡ point_at c) where
-    -- whether there is an entry for the point, in a list that is the one of the stage
+    -- whether there is an entry for the point, in a list that is the one of the run
     wanted_is : (b : Bool) (es : List Entry) → es ≡ s.again.items → has p.0 p.1 es ≡ b → wanted (point_at c) s.again.items ≡ b
     wanted_is b es e h = ap (λ q. wanted q s.again.items) (sym is_point) ∙ ap (has p.0 p.1) (sym e) ∙ h
 

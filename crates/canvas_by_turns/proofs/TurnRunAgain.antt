@@ -99,7 +99,7 @@ more_agains : (n r s : ℕ) (b : Stored) → r ≡ min greatest_count n → s �
 more_agains n r s Again a b = omega (arith, a, b)
 more_agains n r s First a b = omega (arith, a, b)
 
--- ---- a stage with the same queue, table and cores
+-- ---- a run with the same queue, table and cores
 
 module _ (behaviour : Behaviour) (l : Line) (n : ℕ) (us : List ℕ) (xs : List Step) (s : TurnRun) (leads : LeadsTo behaviour l n us xs s) where
   leads_too : (t : TurnRun) → t.queue ≡ s.queue → t.table ≡ s.table → t.cores ≡ s.cores → LeadsTo behaviour l n us xs t
@@ -173,7 +173,7 @@ module _ (behaviour : Behaviour) (l : Line) (n : ℕ) (us : List ℕ) (xs : List
             task = λ inside. at.task inside ∙ ap (task_in (book_of l)) (sym (held_same (suc j)));
           }
 
--- whichever it is, some steps lead to the stage
+-- whichever it is, some steps lead to the run
 pub stood : (behaviour : Behaviour) (l : Line) (n : ℕ) (us : List ℕ) (xs : List Step) (s : TurnRun) (leads : LeadsTo behaviour l n us xs s) (i : ℕ)
     (c : CoreView)
     (here : slice_get s.cores.items i ≡ Some c) → IsWorker n (suc i)

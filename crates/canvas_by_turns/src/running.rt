@@ -150,7 +150,7 @@ pub fn new_rows(alloc: Global, plan: &Plan) -> Result<Vec<Option<Outcome>>, Memo
     Ok(Vec::from_elem(alloc, None, plan.tasks() as usize)?)
 }
 
-/// Returns the report of a stage, whose rows were reserved.
+/// Returns the report of a run, whose rows were reserved.
 fn report_of(turn_run: &TurnRun, plan: &Plan, rows: Vec<Option<Outcome>>) -> Report
     requires plan { turn_run.now.table.plan ≡ roster_of plan.now }
     requires rows { length rows.items ≡ count_line plan.now }

@@ -208,7 +208,7 @@ fn is_any_inside(cores: &[Core]) -> bool
 }
 
 impl TurnRun {
-    /// Returns a stage before the first publish.
+    /// Returns a run before the first publish.
     pub(crate) fn new(
         alloc: Global,
         plan: &Plan,

@@ -34,7 +34,7 @@ published_in [] = []
 published_in (calls p (publish e) a ∷ es) = (p, e) ∷ published_in es
 published_in (x ∷ es) = published_in es
 
--- the course of a core run: its publishes that were accepted, and its calls of the table
+-- the order of a core run: its publishes that were accepted, and its calls of the table
 abbrev pub step_of : Ask Envelope → Reply Envelope → ProgramOrder
 step_of (to_queue (publish e)) (from_queue x) = inl e ∷ []
 step_of (to_table c) (from_table r) = inr (c, r) ∷ []
@@ -44,8 +44,8 @@ abbrev pub steps : List (AskedAndAnswered Envelope) → ProgramOrder
 steps [] = []
 steps (x ∷ xs) = step_of x.0 x.1 ++ steps xs
 
--- The course of each caller of a run is that of its core run. Worker 0 also publishes the first
--- messages before it, and reads the tasks after it.
+-- The program order of each caller of a run is that of its core run. Worker 0 also publishes the
+-- first messages before it, and reads the tasks after it.
 abbrev pub program_order : {behaviour : Behaviour} {l : Line} → Run behaviour l → ℕ → ProgramOrder
 program_order r p =
     map inl (cond (eqb p 0) (map sealed r.opening) [])

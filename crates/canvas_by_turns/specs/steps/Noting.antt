@@ -1,4 +1,4 @@
--- The steps of a run that a stage has noted.
+-- The steps of a run that a run has noted.
 use Rattle.std.specs.Prelude.{◌≡◌, Bool, true, false, List, [], ◌++◌, map, filter}
 use Rattle.canvas_envelope.specs.declared.envelope.Envelope.{Envelope}
 use Rattle.canvas_history.specs.Queue as queue
@@ -13,7 +13,7 @@ abbrev pub publishes : Ask Envelope → Bool
 publishes (to_queue (queue.publish e)) = true
 publishes a = false
 
--- the stage keeps none of these steps, those that publish, or all
+-- the run keeps none of these steps, those that publish, or all
 abbrev pub kept : Keeps → List Step → List Step
 kept Nothing xs = []
 kept Published xs = filter (λ x. publishes x.1.0) xs

@@ -152,7 +152,7 @@ pub record IsCoreAt (behaviour : Behaviour) (l : Line) (ys : List (Asked × Answ
   pub has_one : is_inside c.left ≡ true → IsSome (standing.held c)
   pub task : is_inside c.left ≡ true → c.task ≡ task_in (book_of l) (held_after None ys)
 
--- these turns and steps lead to the stage, with any redeliveries
+-- these turns and steps lead to the run, with any redeliveries
 pub record LeadsTo (behaviour : Behaviour) (l : Line) (n : ℕ) (us : List ℕ) (xs : List Step)
     (s : TurnRun) : Type 0 where
   pub by_turns : ByTurns behaviour l n us xs
@@ -261,7 +261,7 @@ ReadsAs c = read_envelope (sealed c) ≡ Ok c
 abbrev pub AreNew : List CoreView → Type 0
 AreNew cores = All (λ c. c ≡ begun) cores
 
--- a stage before its first publish
+-- a run before its first publish
 pub record IsNew (l : Line) (n : ℕ) (s : TurnRun) : Type 0 where
   pub repeats_is : s.repeats ≡ 0
   pub notes_is : s.notes.steps.items ≡ []

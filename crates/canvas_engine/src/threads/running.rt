@@ -197,7 +197,7 @@ where
     R: Threads + Wait + RandomSource + AllocGlobal + Sync,
     T: Tasks + Sync,
     G: Gate + Sync,
-    // the promise; what each worker did is the course of its core run
+    // the promise; what each worker did is the order of its core run
     ensures headline { IfOk result
         (λ r. (ran : IsRun (T.behaviour tasks.now) plan.now workers r.0.rows r.1)
         × Headline (T.behaviour tasks.now) plan.now workers r.0.rows r.1 (program_order ran.run)) }
