@@ -1,4 +1,4 @@
--- The steps of a run that a run has noted.
+-- The steps that a run has noted.
 use Rattle.std.specs.Prelude.{◌≡◌, Bool, true, false, List, [], ◌++◌, map, filter}
 use Rattle.canvas_envelope.specs.declared.envelope.Envelope.{Envelope}
 use Rattle.canvas_history.specs.Queue as queue
