@@ -226,7 +226,7 @@ def wheel(shipped=None):
 
 
 def build_wheel(wheel_directory, config_settings=None, metadata_directory=None):
-    """Makes the wheel for pip (PEP 517), which shows what is said here where there is none."""
+    """Makes the wheel for pip (PEP 517). If there is none, pip shows the reason that this prints."""
     del config_settings, metadata_directory
     try:
         name, data = wheel()

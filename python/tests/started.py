@@ -70,7 +70,7 @@ def has_callbacks_of_its_own(tree):
 
 def failures(flow):
     """What fails in each run of a flow: nothing; each name; and each task of a name that several
-    have, if its own arguments tell it from the others. A pair: the label, and what Redis is told."""
+    have, if its own arguments tell it from the others. A pair: the label, and what Redis holds."""
     from kombu.utils.json import dumps
 
     tree = json.loads(dumps(flow))
@@ -182,7 +182,7 @@ def main():
 
     if words[:1] == ["--of"]:
         # A result that is collected unsubscribes, by a lock of redis 6.1.0 that this thread may
-        # hold: the caller of Celery 5.5.2 then waits forever, whatever its timeout.
+        # hold: the caller of Celery 5.5.2 then waits forever, with any timeout.
         gc.disable()
         for run in runs_of(words[1]):
             print(json.dumps(run), flush=True)

@@ -93,7 +93,7 @@ class RealWorkers(unittest.TestCase):
 
 @unittest.skipIf(celery is None, "Celery isn't installed")
 class Answers(unittest.TestCase):
-    """What tasks answer, and what is said of a run."""
+    """The answers of tasks, and the reports of runs."""
 
     def test_the_order_of_the_readme(self):
         run = on_celery(user_flows.order(), {"shop.charge": OutOfStock})
@@ -241,7 +241,7 @@ class OwnApplication(unittest.TestCase):
 
 @unittest.skipIf(celery is None, "Celery isn't installed")
 class NothingElse(unittest.TestCase):
-    """What a run leaves alone."""
+    """A run changes nothing else."""
 
     FAILS = {"shop.charge": KeyError}
 

@@ -194,7 +194,7 @@ class Numbers(Silent):
 
 
 class Options(Silent):
-    """What isn't heeded is told."""
+    """Options that aren't heeded are warned of."""
 
     def warned(self, flow, app=None, **more):
         client = Server().client()

@@ -1,5 +1,5 @@
-"""Runs that were started: whom they wait for, how they end, and what Celery is told of it. What
-workers store is in a dictionary."""
+"""Runs that were started: which tasks they wait for, how they end, and what they store for Celery.
+The results of workers are in a dictionary."""
 
 import json
 import sys

@@ -14,7 +14,7 @@ from user_tasks import (
     send_welcome_email, ship, six, split, step_alarm, step_old_alarm, thank, three, train,
     two, upload, xsum)
 
-#: The flows that `flows` composes of names alone have names of their own here.
+#: The flows that `flows` composes of names only have names of their own here.
 FLOWS = {f"{name}_by_names": make for name, make in flows.FLOWS.items()}
 
 

@@ -23,7 +23,7 @@ use Rattle.canvas_command.specs.declared.each.Said.{Said}
 
 -- ---- items
 
--- The first items of these bytes, each as far as it is kept, and what is left behind them.
+-- The first items of these bytes, each as far as it is kept, and the bytes that are left.
 abbrev pub AreItems : (end : ℕ) → Text → List Text → (left : Text) → Type 0
 AreItems end xs [] left = left ≡ xs
 AreItems end xs (item ∷ items) left =

@@ -1,4 +1,4 @@
-//! Items of `run --each` that are there at once: they are answered side by side, and then their
+//! Items of `run --each` that were read together: they are answered in parallel, and then their
 //! lines are printed in order.
 
 ghost use Rattle.std.specs.Prelude.{◌≡◌, ◌<◌, ℕ, IfOk, OnOk, length, slice_index_or, string_bytes};
@@ -21,14 +21,14 @@ use std::random::RandomSource;
 use std::sync::Wait;
 use std::thread::{Threads, for_each_mut};
 
-/// How many bytes are read at a time, at most. A pipe gives 64 KiB. Threads that have less to do
-/// end before the system moves them to other processors.
+/// The most bytes that are read at a time. A pipe gives 64 KiB. Threads that have less to do end
+/// before the system moves them to other processors.
 pub(crate) const READ_AHEAD: usize = 1_048_576;
 
 /// The most items that are answered before their lines are printed.
 const MOST_AT_ONCE: usize = 8_192;
 
-/// An item, and what is said of it: that it was stopped, until it is answered.
+/// An item and its line. Until the item is answered, the line is the refusal of a stopped run.
 #[derive(Drop)]
 pub(crate) struct Slot {
     text: Vec<u8>,
@@ -47,7 +47,7 @@ impl Slot {
 }
 
 impl<'a, T: Tasks> Flow<'a, T> {
-    /// Adds the next item, and says whether there was one.
+    /// Appends the next item, and returns whether there was one.
     fn push_next<R: Read>(
         &self,
         alloc: Global,
@@ -67,8 +67,8 @@ impl<'a, T: Tasks> Flow<'a, T> {
         }
     }
 
-    /// Reads an item, and those that end in what was read with it; none where there are no more.
-    /// So no item waits for another that may not come.
+    /// Reads an item, and those that end in the bytes that were read with it. After the last item
+    /// it returns none. So no item waits for another that may not come.
     pub(crate) fn next_batch<R: Read>(
         &self,
         alloc: Global,
@@ -102,7 +102,7 @@ impl<'a, T: Tasks> Flow<'a, T> {
         slot.said = self.line(rt, &slot.text);
     }
 
-    /// Answers items side by side, each by one worker.
+    /// Answers items in parallel, each by one worker.
     pub(crate) fn answer<S>(&self, rt: &S, batch: &mut [Slot])
     where
         S: Threads + Wait + RandomSource + AllocGlobal + Sync,
@@ -128,7 +128,7 @@ fn write_line<W: Write>(out: &mut W, said: &Said) -> Result<(), Refusal>
     }
 }
 
-/// Writes the lines of items, and says whether the result of one is a failure.
+/// Writes the lines of items, and returns whether the result of one is a failure.
 fn write_said<W: Write>(out: &mut W, batch: Vec<Slot>) -> Result<bool, Refusal>
     ensures { IfOk result (IsPrinted (W.contents out.old) (W.contents out.new) batch.items) }
 {
@@ -141,7 +141,7 @@ fn write_said<W: Write>(out: &mut W, batch: Vec<Slot>) -> Result<bool, Refusal>
     Ok(failed)
 }
 
-/// The same, and has them reach the reader, also those before one that ends the program.
+/// Like `write_said`, but flushes the output, also if an item ends the program.
 pub(crate) fn print_batch<W: Write>(out: &mut W, batch: Vec<Slot>) -> Result<bool, Refusal>
     ensures { IfOk result (IsPrinted (W.contents out.old) (W.contents out.new) batch.items) }
 {

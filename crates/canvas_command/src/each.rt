@@ -32,7 +32,7 @@ use std::random::RandomSource;
 use std::sync::Wait;
 use std::thread::Threads;
 
-/// What a canvas gives.
+/// The line of a canvas, and whether its result is a failure.
 #[derive(Drop)]
 pub(crate) struct Said {
     /// Its report or its refusal, as an object in a line.
@@ -41,7 +41,7 @@ pub(crate) struct Said {
     pub failed: bool,
 }
 
-/// What the canvases of an input have in common.
+/// The settings that all canvases of an input share.
 #[derive(Drop)]
 pub(crate) struct Flow<'a, T> {
     pub each: Each,
@@ -51,7 +51,7 @@ pub(crate) struct Flow<'a, T> {
     pub tasks: &'a Stubbed<'a, T>,
 }
 
-/// The report of a run by these plans, by one worker, as an object in a line.
+/// Returns the report of a run by these plans with one worker, as an object in a line.
 fn ran<S, T>(rt: &S, plans: &Plans, source: &Source<'_, T>) -> Result<Said, Refusal>
 where
     S: Threads + Wait + RandomSource + AllocGlobal + Sync,
@@ -65,7 +65,7 @@ where
     Ok(Said { text, failed })
 }
 
-/// Whether a refusal is that of an item, behind which the others are answered.
+/// Returns whether a refusal is that of an item, so that the items after it are answered.
 fn is_of_item(each: Each, refusal: &Refusal) -> bool
     ensures { each.has_tasks ≡ false → result ≡ true
         → (fault : SigFault) × (refusal.now ≡ Canvas fault) }
@@ -76,7 +76,7 @@ fn is_of_item(each: Each, refusal: &Refusal) -> bool
     }
 }
 
-/// The line of an item that is refused; none where it isn't the item that is.
+/// Returns the line of an item that is refused, or none if the refusal isn't the item's.
 fn refused_line(alloc: Global, each: Each, text: &[u8], refusal: Refusal) -> Result<Said, Refusal>
     ensures failed { IfOk result (λ said. said.failed ≡ false) }
     ensures canvas { each.has_tasks ≡ false
@@ -96,7 +96,7 @@ fn refused_line(alloc: Global, each: Each, text: &[u8], refusal: Refusal) -> Res
     })
 }
 
-/// The line of a canvas.
+/// Returns the line of a canvas.
 fn line_of<S, T>(rt: &S, each: Each, source: &Source<'_, T>) -> Result<Said, Refusal>
 where
     S: Threads + Wait + RandomSource + AllocGlobal + Sync,
@@ -111,7 +111,7 @@ where
 }
 
 impl<'a, T: Tasks> Flow<'a, T> {
-    /// The line of a canvas for which the words alone say what tasks answer.
+    /// Returns the line of a canvas whose tasks answer only as the command line says.
     fn line_of_canvas<S>(&self, rt: &S, text: &[u8]) -> Result<Said, Refusal>
     where
         S: Threads + Wait + RandomSource + AllocGlobal + Sync,
@@ -128,7 +128,7 @@ impl<'a, T: Tasks> Flow<'a, T> {
         line_of(rt, self.each, &source)
     }
 
-    /// The line of a canvas where some tasks answer so.
+    /// Returns the line of a canvas if some tasks have these answers.
     fn line_where<S>(&self, rt: &S, text: &[u8], answers: Answers) -> Result<Said, Refusal>
     where
         S: Threads + Wait + RandomSource + AllocGlobal + Sync,
@@ -162,7 +162,7 @@ impl<'a, T: Tasks> Flow<'a, T> {
         line_of(rt, self.each, &source)
     }
 
-    /// The line of an item that has what its tasks answer.
+    /// Returns the line of an item that begins with its tasks' answers.
     fn line_of_both<S>(&self, rt: &S, item: &[u8]) -> Result<Said, Refusal>
     where
         S: Threads + Wait + RandomSource + AllocGlobal + Sync,
@@ -177,7 +177,7 @@ impl<'a, T: Tasks> Flow<'a, T> {
         }
     }
 
-    /// The line of an item.
+    /// Returns the line of an item.
     pub(crate) fn line<S>(&self, rt: &S, item: &[u8]) -> Result<Said, Refusal>
     where
         S: Threads + Wait + RandomSource + AllocGlobal + Sync,
@@ -194,7 +194,7 @@ impl<'a, T: Tasks> Flow<'a, T> {
     }
 }
 
-/// Writes a line, and has it reach the reader.
+/// Writes a line, and flushes the output.
 pub(crate) fn print_line<W: Write>(out: &mut W, text: &str) -> io::Result<()>
     ensures { OnOk result (Appends (W.contents out.old) (W.contents out.new) (printed text.now)) }
 {
@@ -202,17 +202,17 @@ pub(crate) fn print_line<W: Write>(out: &mut W, text: &str) -> io::Result<()>
     out.flush()
 }
 
-/// The answer once all lines are printed.
+/// Returns the answer once all lines are printed.
 pub(crate) fn ended(alloc: Global, status: u8) -> Answer
     ensures { AnswersAll [] status result }
 {
     Answer::whole(Vec::new(alloc)).with_status(status)
 }
 
-/// Prints a line for each canvas of an input, in its order. Those that are there at once are
-/// answered side by side, and their lines reach the reader before more is read. If that is asked
-/// for, the status is that of a failure if a canvas's result is one. Lines that were made before a
-/// call ends early are printed.
+/// Prints a line for each canvas of an input, in its order. Those that were read together are
+/// answered in parallel, and their lines are flushed before more is read. With `--fail` the status
+/// is that of a failure if a canvas's result is one. If a call ends early, the lines that it made
+/// are printed.
 #[tactic(auto, using(crate::proofs::Batches::none_done))]
 pub(crate) fn answer_each<S, T, R: Read, W: Write>(
     rt: &S,
