@@ -98,6 +98,7 @@ fn explained(alloc: Global, text: &str, error: &Error) -> Error {
     }
 }
 
+// Only the parser makes an error that is help, so it parses `--help` for a program with this text.
 fn help_with(alloc: Global, text: &str, error: &Error) -> Result<Error, Error> {
     let whole = match error.kind() {
         ErrorKind::DisplayHelp => format!(in alloc; "{error}\n{text}")?,
