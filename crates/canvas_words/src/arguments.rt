@@ -111,7 +111,7 @@ pub(crate) const TASK: Argument = Argument {
     name: "task",
     takes: Takes::Texts("NAME=WORD"),
     given: Given::Maybe,
-    help: "What a task answers: a number, raise:CLASS, or as add, div, ident, log_error, mul or xsum does",
+    help: "What a task answers: a number, raise:CLASS, or as a built-in task does, by its word, as add",
 };
 
 pub(crate) const TASKS: Argument = Argument {

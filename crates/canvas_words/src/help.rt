@@ -74,8 +74,8 @@ immutable. An argument of another kind, and one too many or too few, is a TypeEr
 
 `--task NAME=WORD` says what a task of that name answers to any call. WORD is a whole number, or
 `raise:CLASS`, an exception by its name in letters, digits and _ (but Retry, Ignore and Reject,
-which are no failures), or a built-in task's word: with add, div, ident, log_error, mul or xsum it
-answers as that task does. The option may be given again, for another name. The name * means each
+which are no failures), or a built-in task's word, which is its name without `tasks.`: with add it
+answers as tasks.add does. The option may be given again, for another name. The name * means each
 name that no task has. On `run`, `turns`, `graph` and `page` the name #3 means only the third task,
 by any name.
 

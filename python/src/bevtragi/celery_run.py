@@ -6,7 +6,6 @@ Celery is imported when the first canvas is judged, and not by `import bevtragi`
 from __future__ import annotations
 
 import functools
-import operator
 import threading
 from typing import Any, Dict, Iterator, List, Mapping, Union
 
@@ -16,6 +15,7 @@ from .checking import warnings_of
 from .errors import BadCall, CanvasError, hidden
 from .marking import Marked, identified
 from .outcomes import Warning, is_exception
+from .own_tasks import BEHAVIOURS
 from .texts import Answers, Canvas, check_names, named, text_of, tree_of, values, words_of
 
 __all__ = ["CeleryRun", "Judge", "celery_answers", "celery_version", "on_celery", "said"]
@@ -23,11 +23,6 @@ __all__ = ["CeleryRun", "Judge", "celery_answers", "celery_version", "on_celery"
 __tracebackhide__ = hidden
 
 CeleryAnswers = Mapping[Any, Any]
-
-#: What the program's own tasks do.
-BEHAVIOURS: Dict[str, Any] = {
-    "add": operator.add, "mul": operator.mul, "div": operator.floordiv, "xsum": sum,
-    "ident": lambda value: value, "log_error": lambda uuid: 0}
 
 #: One canvas is judged at a time, whichever thread asks: Celery's signals and logs are shared.
 _lock = threading.RLock()

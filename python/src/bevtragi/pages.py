@@ -18,11 +18,12 @@ from .drawing import Drawn, drawn
 from .errors import BadCall, CanvasError, hidden
 from .failing import failures_of
 from .layout import framed
+from .own_tasks import OWN
 from .page_celery import CeleryPart, celery_part
 from .page_data import Shown, as_block, happened, notes
 from .playing import check_workers, plays
 from .reports import Report
-from .texts import OWN, Answers, Canvas, lines_of, named
+from .texts import Answers, Canvas, lines_of, named
 
 __all__ = ["Page", "page"]
 

@@ -10,14 +10,12 @@ from typing import Any, Dict, Iterable, Mapping, Union
 
 from .calling import ask, ask_once
 from .errors import BadCall, CanvasError, hidden
+from .own_tasks import OWN, WORDS
 
 __all__ = ["Answers", "Canvas", "check_names", "is_huge", "lines_of", "named", "text_of", "tree_of",
            "values", "values_once", "words_in", "words_of"]
 
 __tracebackhide__ = hidden
-
-#: The program's own tasks.
-OWN = ("tasks.add", "tasks.div", "tasks.ident", "tasks.log_error", "tasks.mul", "tasks.xsum")
 
 Canvas = Union[Dict[str, Any], str, bytes, "os.PathLike[str]"]
 #: By a name, a number or a task: a whole number, a text, an exception or a class of exceptions.
@@ -88,7 +86,7 @@ def lines_of(tasks: Answers, is_whole: bool = False) -> list[str]:
         elif not isinstance(answer, (int, str)) or kind is bool or is_huge(answer):
             what = "so large a number" if is_huge(answer) else repr(answer)
             raise BadCall(f"a task can't answer {what}: that is a whole number, an exception,"
-                          ' or one of "add", "div", "ident", "log_error", "mul" and "xsum"')
+                          f" or a built-in task's word: {WORDS}")
         lines.append(f"{'#' * isinstance(key, int)}{key}={answer}")
     return lines
 
