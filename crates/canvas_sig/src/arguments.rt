@@ -1,11 +1,11 @@
 //! Reading the arguments of a task out of JSON values.
 
-ghost use Rattle.std.specs.Prelude.{◌≡◌, ◌≢◌, map, IfErr};
+ghost use Rattle.std.specs.Prelude.{◌≡◌, ◌≢◌, map, IfErr, IfOk};
 ghost use Rattle.std.specs.List.{list_all};
 ghost use Rattle.serde_json.specs.Find.{as_i64};
 ghost use Rattle.serde_json.specs.View.{number_view};
 ghost use Rattle.canvas_sig.specs.Datum.{view, value_at, seen};
-ghost use Rattle.canvas_task.specs.Entries.{named};
+ghost use Rattle.canvas_task.specs.Entries.{named, Ascends};
 ghost use Rattle.canvas_task.specs.Numbers.{in_range};
 ghost use Rattle.canvas_values.specs.declared.fault.SigFault.TheVariants.{Memory};
 ghost use Rattle.canvas_values.specs.Fields.{object_members, is_number};
@@ -14,7 +14,7 @@ ghost use Rattle.canvas_values.specs.Grammar.{some_in_range, arg_reading, named_
 ghost use Rattle.canvas_values.specs.steps.Reading.{in_range_or_refused, number_reading, list_reading};
 
 use crate::datum::{Datum, follows};
-use canvas_task::{Arg, ListOf, TextOf, in_range};
+use canvas_task::{Arg, FEW, ListOf, TextOf, in_range, map_in_order};
 use canvas_values::SigFault;
 use serde_json::Number;
 use serde_json::value::Map;
@@ -112,9 +112,8 @@ pub fn read_args(alloc: Global, values: &[Datum<'_>]) -> Result<Vec<Arg>, SigFau
     Ok(args)
 }
 
-/// Reads the arguments that an object names. The names of a parsed object ascend; others, which a
-/// map would put into another order than the definition has, are answered with `Memory`.
-fn read_named(alloc: Global, members: &[(&str, Datum<'_>)]) -> Result<Map<String, Arg>, SigFault>
+/// Reads the arguments that an object names, and inserts them into a map one by one.
+fn read_few(alloc: Global, members: &[(&str, Datum<'_>)]) -> Result<Map<String, Arg>, SigFault>
     ensures { Gives (λ m. named m.entries) result (in_turn named_reading (seen members.now)) }
 {
     let mut args = Map::new(alloc);
@@ -128,6 +127,40 @@ fn read_named(alloc: Global, members: &[(&str, Datum<'_>)]) -> Result<Map<String
         last = Some(member.0);
     }
     Ok(args)
+}
+
+/// Reads the arguments that an object names, in order.
+fn read_entries(
+    alloc: Global,
+    members: &[(&str, Datum<'_>)],
+) -> Result<Vec<(String, Arg)>, SigFault>
+    ensures reading { Gives (λ v. named v.items) result
+        (in_turn named_reading (seen members.now)) }
+    ensures order { IfOk result (λ v. Ascends (named v.items)) }
+{
+    let mut entries = Vec::with_capacity(alloc, members.len())?;
+    let mut last = None;
+    for member in members {
+        if !follows(last, member.0) {
+            return Err(SigFault::Memory);
+        }
+        let name = String::from_str(alloc, member.0)?;
+        entries.push((name, read_argument(alloc, &member.1)?))?;
+        last = Some(member.0);
+    }
+    Ok(entries)
+}
+
+/// Reads the arguments that an object names. The names of a parsed object ascend; others, which a
+/// map would put into another order than the definition has, are answered with `Memory`.
+fn read_named(alloc: Global, members: &[(&str, Datum<'_>)]) -> Result<Map<String, Arg>, SigFault>
+    ensures { Gives (λ m. named m.entries) result (in_turn named_reading (seen members.now)) }
+{
+    if members.len() <= FEW {
+        return read_few(alloc, members);
+    }
+    let entries = read_entries(alloc, members)?;
+    Ok(map_in_order(alloc, entries)?)
 }
 
 fn read_members(alloc: Global, value: &Datum<'_>) -> Result<Map<String, Arg>, SigFault>

@@ -46,3 +46,10 @@ pub one_more : (es done : List Entry) (e : Entry) (more : List Entry) (k : Strin
 one_more es done e more k v same key value h =
     goes_last es done e more k v same key h ∙ ap (λ xs. xs ++ (string_bytes k, v) ∷ []) same
     ∙ (λ i. named done ++ (key i, value i) ∷ []) ∙ sym (map_push (λ (x : Entry). (string_bytes x.0, x.1)) done e)
+
+-- the copies of some entries and of one more, in a list
+pub copied_push : (es done : List Entry) (e : Entry) (k : String Global) (v : Arg)
+    → named es ≡ named done → string_bytes k ≡ string_bytes e.0 → v ≡ e.1 → named (es ++ (k, v) ∷ []) ≡ named (done ++ e ∷ [])
+copied_push es done e k v same key value =
+    map_push (λ (x : Entry). (string_bytes x.0, x.1)) es (k, v) ∙ ap (λ xs. xs ++ (string_bytes k, v) ∷ []) same
+    ∙ (λ i. named done ++ (key i, value i) ∷ []) ∙ sym (map_push (λ (x : Entry). (string_bytes x.0, x.1)) done e)

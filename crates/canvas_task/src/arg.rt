@@ -2,6 +2,7 @@
 ghost use Rattle.std.specs.Prelude.{◌≡◌, IfOk};
 ghost use Rattle.canvas_task.specs.Entries.{named};
 
+use crate::in_order::{FEW, map_in_order};
 use crate::{ListOf, MapOf, TextOf};
 use std::alloc::{AllocError, Global};
 use std::collections::BTreeMap;
@@ -36,9 +37,9 @@ pub fn copy_args(args: &ListOf<Arg>) -> Result<ListOf<Arg>, AllocError>
     args.clone()
 }
 
-/// Clones a map, entry by entry. `clone` of std's map may fail for another reason than an
-/// allocation.
-fn copy_entries(
+/// Clones a map by inserting its entries one by one. `clone` of std's map may fail for another
+/// reason than an allocation.
+fn copy_few(
     alloc: Global,
     map: &BTreeMap<String, Arg>,
 ) -> Result<BTreeMap<String, Arg>, AllocError>
@@ -52,9 +53,28 @@ fn copy_entries(
     Ok(copy)
 }
 
+/// Clones the entries of a map, in order.
+fn copy_entries(
+    alloc: Global,
+    map: &BTreeMap<String, Arg>,
+) -> Result<Vec<(String, Arg)>, AllocError>
+    ensures { IfOk result (λ copy. named copy.items ≡ named map.now.entries) }
+{
+    let mut copy = Vec::with_capacity(alloc, map.len())?;
+    for (name, arg) in map.iter() {
+        let key = name.clone()?;
+        copy.push((key, arg.clone()?))?;
+    }
+    Ok(copy)
+}
+
 /// Clones keyword arguments.
 pub fn copy_kwargs(alloc: Global, kwargs: &MapOf<Arg>) -> Result<MapOf<Arg>, AllocError>
     ensures { IfOk result (λ copy. copy ≡ kwargs.now) }
 {
-    Ok(MapOf::of(copy_entries(alloc, kwargs.get())?))
+    let map = kwargs.get();
+    if map.len() <= FEW {
+        return Ok(MapOf::of(copy_few(alloc, map)?));
+    }
+    Ok(MapOf::of(map_in_order(alloc, copy_entries(alloc, map)?)?))
 }

@@ -7,6 +7,7 @@ mod arg;
 mod arguments;
 mod builtin;
 mod identifier;
+mod in_order;
 mod laws;
 mod list_of;
 mod map_of;
@@ -27,6 +28,7 @@ pub use builtin::{
     Add, ArgKind, BUILTINS, Builtin, BuiltinTasks, Div, Ident, LogError, Mul, Xsum, apply,
 };
 pub use identifier::{group_of_text, group_text, task_of_text, task_text};
+pub use in_order::{FEW, map_in_order};
 pub use laws::law_of_builtin_tasks;
 pub use list_of::ListOf;
 pub use map_of::MapOf;

@@ -5,7 +5,7 @@ use Rattle.std.specs.Cmp.Lexicographic.{slice_cmp}
 use Rattle.std.specs.Ordering.{ordering_reverse}
 use Rattle.std.specs.BTreeMap.{insert_entry}
 use Rattle.std.proofs.lemmas.List.{map_push}
-use Rattle.canvas_task.specs.Entries.{named}
+use Rattle.canvas_task.specs.Entries.{named, IsBelow, Ascends}
 use Rattle.canvas_task.specs.declared.arg.Arg.{Arg}
 use Rattle.canvas_task.specs.Text.{Text}
 
@@ -36,3 +36,12 @@ still_below es new n v k is h low =
     let pushed : names (named es ++ (n, v) ∷ []) ≡ names (named es) ++ n ∷ [] = map_push (λ (x : Text × Arg). x.0) (named es) (n, v) in
     let P : List Text → Type 0 = λ ns. AllBelow ns k in
     subst P (sym (ap names is ∙ pushed)) (below_next (names (named es)) n k h low)
+
+below_push : (k : Text) (es : List (Text × Arg)) (n : Text) (v : Arg) → IsBelow k es → slice_cmp nat_cmp k n ≡ Less → IsBelow k (es ++ (n, v) ∷ [])
+below_push k [] n v h low = (low, tt)
+below_push k (e ∷ es) n v h low = (h.0, below_push k es n v h.1 low)
+
+-- entries whose names ascend, and one more whose name is greater than theirs
+pub ascends_push : (es : List (Text × Arg)) (n : Text) (v : Arg) → Ascends es → AllBelow (names es) n → Ascends (es ++ (n, v) ∷ [])
+ascends_push [] n v h low = (tt, tt)
+ascends_push (e ∷ es) n v h low = (below_push e.0 es n v h.0 low.0, ascends_push es n v h.1 low.1)

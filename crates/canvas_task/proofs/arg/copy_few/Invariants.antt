@@ -1,0 +1,9 @@
+use Rattle.std.proofs.Common.{◌≡◌, List, ◌++◌}
+use Rattle.canvas_task.specs.Entries.{named}
+use Rattle.canvas_task.proofs.Copies.{Entry}
+use Rattle.canvas_task.proofs.arg.copy_few.Given as goal
+
+-- the entries so far, those that are left, and the copy of the former
+abbrev pub invariant-loop-name : goal.invariant-loop-name
+invariant-loop-name l =
+    (done : List Entry) × (l.map.entries ≡ done ++ l.name-iterator) × (named l.copy.entries ≡ named done)
