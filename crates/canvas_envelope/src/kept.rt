@@ -6,13 +6,13 @@ ghost use Rattle.canvas_envelope.specs.steps.Kept.{kept};
 
 use crate::{Message, Texts};
 use canvas_rewrite::{FrozenLine, FrozenTask, Place};
-use canvas_task::{Arg, ListOf, MapOf, TaskNo, TextOf};
+use canvas_task::{Arg, FEW, ListOf, MapOf, TaskNo, TextOf};
 use std::alloc::{AllocError, Global};
 use std::collections::BTreeMap;
 use std::marker::Model;
 use std::mem;
 
-/// A message with its keyword arguments in a list, in the order of their names.
+/// A message with its few keyword arguments in a list, in the order of their names.
 #[derive(Drop)]
 pub(crate) struct Compact {
     task: TaskNo,
@@ -139,7 +139,7 @@ impl Compact {
 pub(crate) enum Kept {
     Nothing,
     Whole(Box<Message>),
-    /// A message with keyword arguments. A map with one entry takes room for fifteen, and all
+    /// A message with a few keyword arguments. A map with one entry takes room for fifteen, and all
     /// messages of a group wait at once, so they are kept in a list; the map is made when the
     /// message is taken. If that allocation fails, the envelope is read instead.
     Compact(Box<Compact>),
@@ -163,7 +163,8 @@ impl Kept {
     pub(crate) fn of(alloc: Global, message: Message) -> Kept
         ensures { IfSome (kept result) (λ m. m ≡ message) }
     {
-        let made = if message.kwargs.get().is_empty() {
+        let count = message.kwargs.get().len();
+        let made = if count == 0 || count > FEW {
             Kept::whole(alloc, message)
         } else {
             Kept::waiting(alloc, message)
