@@ -21,7 +21,7 @@ pub use Rattle.canvas_semantics.specs.Line
 pub use Rattle.canvas_semantics.specs.Report
 pub use Rattle.canvas_semantics.specs.States
 pub use Rattle.canvas_semantics.specs.Tree
-pub use Rattle.canvas_turns.specs.Termination
-pub use Rattle.canvas_turns.specs.Redeliveries
-pub use Rattle.canvas_turns.specs.Turns
+pub use Rattle.canvas_runs.specs.Termination
+pub use Rattle.canvas_runs.specs.Redeliveries
+pub use Rattle.canvas_runs.specs.Turns
 pub use Rattle.canvas_values.specs.CanvasText

@@ -4,7 +4,7 @@ use Rattle.std.specs.Prelude.{ℕ, ◌<◌, List, ◌∷◌, ◌++◌, length, c
 use Rattle.std.specs.Fmt.{decimal}
 use Rattle.canvas_runs.specs.declared.when.When.{When}
 use Rattle.canvas_runs.specs.declared.when.When.TheVariants.{Early, Late}
-use Rattle.canvas_turns.specs.Redeliveries.{Entry}
+use Rattle.canvas_runs.specs.Redeliveries.{Entry}
 use Rattle.canvas_lists.specs.CommaList.{IsNumberFromOne, Lists}
 use Rattle.canvas_lists.specs.declared.entry_list.EntryFault.{EntryFault}
 use Rattle.canvas_lists.specs.declared.entry_list.EntryFault.TheVariants.{BadAgain, Memory}

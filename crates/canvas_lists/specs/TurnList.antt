@@ -1,7 +1,7 @@
 -- The text of a list of turns: the decimal numbers of workers, with a comma between two.
 use Rattle.std.specs.Prelude.{ℕ, ◌<◌, List, length}
 use Rattle.std.specs.Fmt.{decimal}
-use Rattle.canvas_turns.specs.Turns.{IsWorker}
+use Rattle.canvas_runs.specs.Turns.{IsWorker}
 use Rattle.canvas_lists.specs.CommaList.{Lists}
 use Rattle.canvas_lists.specs.declared.comma_list.ListFault.{ListFault}
 use Rattle.canvas_lists.specs.declared.comma_list.ListFault.TheVariants.{BadItem, Memory}

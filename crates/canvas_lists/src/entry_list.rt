@@ -1,7 +1,7 @@
 //! The text of a list of entries, which say what is redelivered.
 ghost use Rattle.std.specs.Prelude.{◌≡◌, IfOk, IfErr, MatchOption};
 ghost use Rattle.canvas_runs.specs.declared.when.When.{When};
-ghost use Rattle.canvas_turns.specs.Redeliveries.{Entry};
+ghost use Rattle.canvas_runs.specs.Redeliveries.{Entry};
 ghost use Rattle.canvas_lists.specs.EntryList.{IsEntry, IsEntryFault, IsEntryList};
 ghost use Rattle.canvas_lists.specs.EntryList.{entry_text, when_text};
 

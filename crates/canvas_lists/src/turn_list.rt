@@ -1,7 +1,7 @@
 //! The text of a list of turns.
 ghost use Rattle.std.specs.Prelude.{◌≡◌, ℕ, IfOk, IfErr, MatchOption};
 ghost use Rattle.std.specs.Fmt.{decimal};
-ghost use Rattle.canvas_turns.specs.Turns.{IsWorker};
+ghost use Rattle.canvas_runs.specs.Turns.{IsWorker};
 ghost use Rattle.canvas_lists.specs.TurnList.{IsTurnList, IsNoTurnList};
 
 use crate::ListFault;
