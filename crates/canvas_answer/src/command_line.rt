@@ -21,7 +21,7 @@ use crate::stubs::{AskedStubs, asked_stubs};
 use canvas_adapt::Rename;
 use canvas_celery::Run;
 use canvas_export::Target;
-use canvas_lists::read_turns;
+use canvas_runs::read_turns;
 use canvas_words::{Subcommand, read_words};
 use clap::ArgMatches;
 use std::alloc::Global;

@@ -7,7 +7,7 @@ pub use Rattle.canvas_backend.specs.Plain
 pub use Rattle.canvas_effects.specs.Effects
 pub use Rattle.canvas_history.specs.Roster
 pub use Rattle.canvas_history.specs.Table
-pub use Rattle.canvas_lists.specs.TurnList
+pub use Rattle.canvas_runs.specs.TurnList
 pub use Rattle.canvas_rewrite.specs.Planned
 pub use Rattle.canvas_runs.specs.Worker
 pub use Rattle.canvas_runs.specs.declared.when.When

@@ -11,7 +11,7 @@ pub use Rattle.canvas_by_turns.specs.TurnFaults
 pub use Rattle.canvas_history.specs.Callers
 pub use Rattle.canvas_history.specs.Roster
 pub use Rattle.canvas_history.specs.Table
-pub use Rattle.canvas_lists.specs.TurnList
+pub use Rattle.canvas_runs.specs.TurnList
 pub use Rattle.canvas_rewrite.specs.Ends
 pub use Rattle.canvas_rewrite.specs.Planned
 pub use Rattle.canvas_runs.specs.Tally

@@ -1,7 +1,7 @@
 //! Runs of canvases as data: what a worker asks, which histories of the queue and of the table of
 //! results a run has, and the law of whole runs. What the callers of shared objects saw makes such
 //! a run, and so does a run by turns on one thread. Each law is the contract of a function with an
-//! empty body; the only running code is `When`.
+//! empty body. The running code is `When`, and the texts of lists: of turns, and of redeliveries.
 //!
 //! A core run is a machine: what is left to do, what is asked next, and what an answer leads to.
 //! What it asks is a call of the queue or of the table, an acknowledgement, or whether more may
@@ -19,6 +19,9 @@
 #![tactic(auto)]
 
 mod callers;
+mod comma_list;
+mod entry_list;
+mod turn_list;
 mod turns;
 mod when;
 
@@ -44,6 +47,9 @@ ghost use Rattle.canvas_runs.specs.Worker.{worker};
 ghost use Rattle.canvas_history.specs.Queue.{IsLegal as IsQueueLegal};
 
 pub use callers::{law_of_callers, rows_of_runs, runs_of_callers};
+pub use comma_list::ListFault;
+pub use entry_list::{EntryFault, read_again};
+pub use turn_list::read_turns;
 pub use turns::{
     ends_of_turns, laws_of_entries, laws_of_turns, runs_by_entries, turns_go_on, turns_of_a_chord,
 };

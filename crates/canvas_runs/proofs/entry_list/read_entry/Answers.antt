@@ -1,7 +1,7 @@
 use Rattle.std.proofs.Common.{arith}
-use Rattle.canvas_lists.specs.EntryList.{when_text}
-use Rattle.canvas_lists.proofs.EntryTexts.{no_number, number_before, rest_behind}
-use Rattle.canvas_lists.proofs.entry_list.read_entry.Goals as goal
+use Rattle.canvas_runs.specs.EntryList.{when_text}
+use Rattle.canvas_runs.proofs.ListTexts.EntryTexts.{no_number, number_before, rest_behind}
+use Rattle.canvas_runs.proofs.entry_list.read_entry.Goals as goal
 
 pub returns-in_err-number : goal.returns-in_err-number
 returns-in_err-number c =

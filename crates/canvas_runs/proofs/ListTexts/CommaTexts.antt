@@ -12,7 +12,7 @@ use Rattle.std.proofs.lemmas.List.Elements.{All-append, All-cons, All-nil}
 use Rattle.std.proofs.lemmas.List.Sums.{fails_before_first}
 use Rattle.std.proofs.lemmas.List.Splits.{slice_split_none, slice_split_first}
 use Rattle.std.proofs.lemmas.Str.Parse.{numerals_by_value, tells_digits}
-use Rattle.canvas_lists.specs.CommaList.{IsNumberFromOne, is_comma, pieces}
+use Rattle.canvas_runs.specs.CommaList.{IsNumberFromOne, is_comma, pieces}
 
 -- ---- one number
 

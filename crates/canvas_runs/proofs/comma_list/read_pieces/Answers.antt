@@ -1,6 +1,6 @@
 use Rattle.std.proofs.Common.{◌++◌, ◌∙◌, ap, sym, map, rules}
-use Rattle.canvas_lists.proofs.CommaTexts.{read_more, read_last, none_here, pieces_are}
-use Rattle.canvas_lists.proofs.comma_list.read_pieces.Goals as goal
+use Rattle.canvas_runs.proofs.ListTexts.CommaTexts.{read_more, read_last, none_here, pieces_are}
+use Rattle.canvas_runs.proofs.comma_list.read_pieces.Goals as goal
 
 pub loop-first-preserved : goal.loop-first-preserved
 loop-first-preserved g c =

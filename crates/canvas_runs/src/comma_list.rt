@@ -2,8 +2,8 @@
 ghost use Rattle.std.specs.Prelude.{◌≡◌, ◌≢◌, ◌≤◌, ◌<◌, ◌++◌, ◌∷◌, [], ℕ, List, IfOk, IfErr, OnOk, OnErr, MatchOption, MatchBool, get_or, length};
 ghost use Rattle.std.specs.Fmt.{decimal};
 ghost use Rattle.std.specs.List.{slice_split};
-ghost use Rattle.canvas_lists.specs.CommaList.{IsNumberFromOne, Lists, is_comma};
-ghost use Rattle.canvas_lists.specs.declared.comma_list.ListFault.TheVariants.{BadItem};
+ghost use Rattle.canvas_runs.specs.CommaList.{IsNumberFromOne, Lists, is_comma};
+ghost use Rattle.canvas_runs.specs.declared.comma_list.ListFault.TheVariants.{BadItem};
 
 use std::alloc::Global;
 use thiserror::Error;

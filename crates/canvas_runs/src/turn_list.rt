@@ -2,7 +2,7 @@
 ghost use Rattle.std.specs.Prelude.{◌≡◌, ℕ, IfOk, IfErr, MatchOption};
 ghost use Rattle.std.specs.Fmt.{decimal};
 ghost use Rattle.canvas_runs.specs.Turns.{IsWorker};
-ghost use Rattle.canvas_lists.specs.TurnList.{IsTurnList, IsNoTurnList};
+ghost use Rattle.canvas_runs.specs.TurnList.{IsTurnList, IsNoTurnList};
 
 use crate::ListFault;
 use crate::comma_list::{ItemReader, read_list, read_number};

@@ -2,9 +2,9 @@
 use Rattle.std.specs.Prelude.{ℕ, ◌<◌, List, length}
 use Rattle.std.specs.Fmt.{decimal}
 use Rattle.canvas_runs.specs.Turns.{IsWorker}
-use Rattle.canvas_lists.specs.CommaList.{Lists}
-use Rattle.canvas_lists.specs.declared.comma_list.ListFault.{ListFault}
-use Rattle.canvas_lists.specs.declared.comma_list.ListFault.TheVariants.{BadItem, Memory}
+use Rattle.canvas_runs.specs.CommaList.{Lists}
+use Rattle.canvas_runs.specs.declared.comma_list.ListFault.{ListFault}
+use Rattle.canvas_runs.specs.declared.comma_list.ListFault.TheVariants.{BadItem, Memory}
 
 -- the pieces are the numbers of these workers
 abbrev pub IsTurnList : ℕ → List ℕ → List ℕ → Type 0

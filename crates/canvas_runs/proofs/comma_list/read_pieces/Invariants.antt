@@ -2,8 +2,8 @@ use Rattle.std.proofs.Common.{◌≡◌, ◌++◌, All, map, length}
 use Rattle.std.specs.List.{slice_split}
 use denote.Text.{Utf8}
 use denote.Shadow.{shadow}
-use Rattle.canvas_lists.specs.CommaList.{is_comma}
-use Rattle.canvas_lists.proofs.comma_list.read_pieces.Given as goal
+use Rattle.canvas_runs.specs.CommaList.{is_comma}
+use Rattle.canvas_runs.proofs.comma_list.read_pieces.Given as goal
 
 -- the items so far, and the pieces still to come
 abbrev pub invariant-loop-first : goal.invariant-loop-first

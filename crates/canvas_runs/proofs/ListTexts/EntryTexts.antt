@@ -9,7 +9,7 @@ use Rattle.std.proofs.lemmas.Fmt.{decimal_is_IsNumeral}
 use Rattle.std.proofs.lemmas.List.{length-append, get_or_append_left}
 use Rattle.std.proofs.lemmas.List.Sums.{position_or_len_is}
 use Rattle.std.proofs.lemmas.Str.Parse.{digit_at}
-use Rattle.canvas_lists.specs.CommaList.{IsNumberFromOne}
+use Rattle.canvas_runs.specs.CommaList.{IsNumberFromOne}
 
 abbrev pub is_colon : ℕ → Bool
 is_colon b = b == 58

@@ -1,6 +1,6 @@
 use Rattle.std.proofs.Common.{◌∙◌, sym, arith}
 use Rattle.std.proofs.lemmas.Fmt.{decimal_injective}
-use Rattle.canvas_lists.proofs.turn_list.read_turn.Goals as goal
+use Rattle.canvas_runs.proofs.turn_list.read_turn.Goals as goal
 
 pub returns-else-turn-workers : goal.returns-else-turn-workers
 returns-else-turn-workers c = λ t w e.

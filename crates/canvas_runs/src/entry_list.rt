@@ -2,12 +2,11 @@
 ghost use Rattle.std.specs.Prelude.{◌≡◌, IfOk, IfErr, MatchOption};
 ghost use Rattle.canvas_runs.specs.declared.when.When.{When};
 ghost use Rattle.canvas_runs.specs.Redeliveries.{Entry};
-ghost use Rattle.canvas_lists.specs.EntryList.{IsEntry, IsEntryFault, IsEntryList};
-ghost use Rattle.canvas_lists.specs.EntryList.{entry_text, when_text};
+ghost use Rattle.canvas_runs.specs.EntryList.{IsEntry, IsEntryFault, IsEntryList};
+ghost use Rattle.canvas_runs.specs.EntryList.{entry_text, when_text};
 
-use crate::ListFault;
 use crate::comma_list::{ItemReader, read_list, read_number};
-use canvas_runs::When;
+use crate::{ListFault, When};
 use canvas_task::TaskNo;
 use std::alloc::Global;
 use thiserror::Error;

@@ -5,9 +5,9 @@ use Rattle.std.specs.Fmt.{decimal}
 use Rattle.canvas_runs.specs.declared.when.When.{When}
 use Rattle.canvas_runs.specs.declared.when.When.TheVariants.{Early, Late}
 use Rattle.canvas_runs.specs.Redeliveries.{Entry}
-use Rattle.canvas_lists.specs.CommaList.{IsNumberFromOne, Lists}
-use Rattle.canvas_lists.specs.declared.entry_list.EntryFault.{EntryFault}
-use Rattle.canvas_lists.specs.declared.entry_list.EntryFault.TheVariants.{BadAgain, Memory}
+use Rattle.canvas_runs.specs.CommaList.{IsNumberFromOne, Lists}
+use Rattle.canvas_runs.specs.declared.entry_list.EntryFault.{EntryFault}
+use Rattle.canvas_runs.specs.declared.entry_list.EntryFault.TheVariants.{BadAgain, Memory}
 
 abbrev pub when_text : When → List ℕ
 when_text Early = codes "early"
