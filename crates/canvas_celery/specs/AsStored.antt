@@ -16,8 +16,8 @@ use Rattle.canvas_values.specs.CanvasText.{json_of}
 use Rattle.canvas_celery.specs.Run.{run_task}
 use Rattle.canvas_report.specs.declared.row.Row.{Row}
 use Rattle.canvas_report.specs.declared.row.Row.TheVariants.{Known, Value, Raised, Blamed}
-use Rattle.canvas_collect.specs.Stored.{state_of, result_of, integer_in, class_of, message_of}
-use Rattle.canvas_collect.specs.Stored.{SaysRow, IsResult}
+use Rattle.canvas_celery.specs.Stored.{state_of, result_of, integer_in, class_of, message_of}
+use Rattle.canvas_celery.specs.Stored.{SaysRow, IsResult}
 
 -- the text is the value's JSON (RFC 8259), with no blanks
 abbrev pub IsJsonOf : Text → Data → Type 0

@@ -9,9 +9,9 @@ use Rattle.canvas_task.specs.declared.outcome.Outcome.TheVariants.{Success, Fail
 use Rattle.canvas_semantics.specs.Evaluation.{why_of}
 use Rattle.canvas_semantics.specs.Line.{Line, stop, step, group_end, chord_end, Lines}
 use Rattle.canvas_semantics.specs.Line.{no_lines, and_line, no_of, members}
-use Rattle.canvas_collect.specs.Looks.{Look, known, value, raised, blamed, look_at}
-use Rattle.canvas_collect.specs.declared.completing.Flow.{Flow}
-use Rattle.canvas_collect.specs.declared.completing.Flow.TheVariants.{Value, Skip, Raise, Pending}
+use Rattle.canvas_celery.specs.Looks.{Look, known, value, raised, blamed, look_at}
+use Rattle.canvas_celery.specs.declared.results.completing.Flow.{Flow}
+use Rattle.canvas_celery.specs.declared.results.completing.Flow.TheVariants.{Value, Skip, Raise, Pending}
 
 -- The flow out of task k that shows this: a result, its failure, or nothing yet.
 abbrev pub passed : ℕ → Look → Flow

@@ -10,7 +10,7 @@ use Rattle.canvas_wire.specs.Writing.{number_wire, args_wire, kwargs_wire}
 use Rattle.canvas_semantics.specs.PlacedLine.{PPlace, p_nowhere, p_group, p_chord}
 use Rattle.canvas_envelope.specs.Content.{Content, number_of, call_of, links_of, errbacks_of, place_of}
 use Rattle.canvas_envelope.specs.Wire.{list_or_null}
-use Rattle.canvas_export.specs.Signatures.{Naming, task_id, group_id, index_wire, elements, each_wire, tasks_wire, body_at}
+use Rattle.canvas_celery.specs.Signatures.{Naming, task_id, group_id, index_wire, elements, each_wire, tasks_wire, body_at}
 
 -- ---- the body: the arguments, the keyword arguments, and the embed of the call
 

@@ -9,8 +9,8 @@ use Rattle.canvas_task.specs.Text.{Text}
 use Rattle.canvas_envelope.specs.Content.{Content}
 use Rattle.canvas_envelope.specs.Fits.{is_task_number}
 use Rattle.canvas_celery.specs.Run.{piece}
-use Rattle.canvas_export.specs.Reading.{◌>>=◌, read}
-use Rattle.canvas_export.specs.MessageReading.{group_number, read_message}
+use Rattle.canvas_celery.specs.Reading.{◌>>=◌, read}
+use Rattle.canvas_celery.specs.MessageReading.{group_number, read_message}
 
 -- the chord in the key of a size: its identifier ends two bytes before the end of the key
 abbrev pub group_in : (key : Text) → ℕ

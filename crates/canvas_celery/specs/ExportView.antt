@@ -1,10 +1,10 @@
 -- What contracts see of the code's types.
 use Rattle.canvas_task.specs.Text.{Text}
 use Rattle.canvas_semantics.specs.Line.{Line, members}
-use Rattle.canvas_export.specs.Setting.{Setting}
-use Rattle.canvas_export.specs.Signatures.{Naming}
-use Rattle.canvas_export.specs.declared.target.Target.{Target}
-use Rattle.canvas_export.specs.declared.write.names.Names.{Names}
+use Rattle.canvas_celery.specs.Setting.{Setting}
+use Rattle.canvas_celery.specs.Signatures.{Naming}
+use Rattle.canvas_celery.specs.declared.commands.target.Target.{Target}
+use Rattle.canvas_celery.specs.declared.commands.write.names.Names.{Names}
 
 -- a run, with the places of a plan's line
 abbrev pub naming_of : (run : Text) → Line → Naming

@@ -15,15 +15,15 @@ use Rattle.canvas_semantics.specs.Line.{Line, names}
 use Rattle.canvas_semantics.specs.PlacedLine.{bare}
 use Rattle.canvas_envelope.specs.Content.{Content}
 use Rattle.canvas_effects.specs.Effects.{first_messages}
-use Rattle.canvas_export.specs.Envelope.{body_wire, envelope_wire}
-use Rattle.canvas_export.specs.ExportView.{naming_of}
-use Rattle.canvas_export.specs.Places.{filled, is_marked}
-use Rattle.canvas_export.specs.Resp.{resp}
-use Rattle.canvas_export.specs.Setting.{Setting}
-use Rattle.canvas_export.specs.Signatures.{Naming}
-use Rattle.canvas_export.specs.Start.{start}
-use Rattle.canvas_export.specs.Starting.{starting}
-use Rattle.canvas_export.specs.Values.{AreValues}
+use Rattle.canvas_celery.specs.Envelope.{body_wire, envelope_wire}
+use Rattle.canvas_celery.specs.ExportView.{naming_of}
+use Rattle.canvas_celery.specs.Places.{filled, is_marked}
+use Rattle.canvas_celery.specs.Resp.{resp}
+use Rattle.canvas_celery.specs.Setting.{Setting}
+use Rattle.canvas_celery.specs.Signatures.{Naming}
+use Rattle.canvas_celery.specs.Start.{start}
+use Rattle.canvas_celery.specs.Starting.{starting}
+use Rattle.canvas_celery.specs.Values.{AreValues}
 
 -- a JSON value as a text, with a value in each place
 abbrev pub filled_text : List Json → Data → Option Text

@@ -20,7 +20,7 @@ use Rattle.canvas_envelope.specs.Content.{Content}
 use Rattle.canvas_envelope.specs.FrozenGrammar.{is_chain, levels}
 use Rattle.canvas_envelope.specs.EnvelopeContent.{args_in, kwargs_in, embed_in}
 use Rattle.canvas_celery.specs.Run.{piece}
-use Rattle.canvas_export.specs.Signatures.{Naming}
+use Rattle.canvas_celery.specs.Signatures.{Naming}
 
 -- ---- identifiers: the mark of tasks or of groups and the number, without the run's digits
 

@@ -5,15 +5,15 @@ use Rattle.serde_json.specs.Data.{Data}
 use Rattle.canvas_task.specs.Text.{Text}
 use Rattle.canvas_values.specs.CanvasText.{json_of}
 use Rattle.canvas_celery.specs.Run.{run_task}
-use Rattle.canvas_collect.specs.declared.collecting.CollectFault.{CollectFault}
-use Rattle.canvas_collect.specs.declared.collecting.CollectFault.TheVariants as fault
+use Rattle.canvas_celery.specs.declared.results.collecting.CollectFault.{CollectFault}
+use Rattle.canvas_celery.specs.declared.results.collecting.CollectFault.TheVariants as fault
 use Rattle.canvas_report.specs.declared.row.Row.{Row}
-use Rattle.canvas_collect.specs.declared.stored.StoredFault.{StoredFault}
-use Rattle.canvas_collect.specs.declared.stored.StoredFault.TheVariants.{NotJson, OtherTask}
-use Rattle.canvas_collect.specs.declared.stored.StoredFault.TheVariants.{UnknownState}
-use Rattle.canvas_collect.specs.declared.stored.StoredFault.TheVariants.{UnknownException}
-use Rattle.canvas_collect.specs.Stored.{state_of, result_of, class_of, named_in, Waits, IsResult}
-use Rattle.canvas_collect.specs.AsStored.{AllSaid}
+use Rattle.canvas_celery.specs.declared.results.stored.StoredFault.{StoredFault}
+use Rattle.canvas_celery.specs.declared.results.stored.StoredFault.TheVariants.{NotJson, OtherTask}
+use Rattle.canvas_celery.specs.declared.results.stored.StoredFault.TheVariants.{UnknownState}
+use Rattle.canvas_celery.specs.declared.results.stored.StoredFault.TheVariants.{UnknownException}
+use Rattle.canvas_celery.specs.Stored.{state_of, result_of, class_of, named_in, Waits, IsResult}
+use Rattle.canvas_celery.specs.AsStored.{AllSaid}
 
 -- the faults of a result: its state is unknown, or it is a failure with no class
 abbrev pub RefusesResult : Data → StoredFault → Type 0

@@ -2,7 +2,7 @@
 -- Scripting with Lua).
 use Rattle.std.specs.Prelude.{ℕ, ◌+◌, List, [], ◌∷◌, ◌++◌, length, map, Option, Some, None, decimal, codes}
 use Rattle.canvas_task.specs.Text.{Text}
-use Rattle.canvas_export.specs.Setting.{Setting}
+use Rattle.canvas_celery.specs.Setting.{Setting}
 use Rattle.canvas_celery.specs.Keys.{size_key, marker_key}
 
 -- It sets no key if its last argument isn't `whole`, as in a truncated text, if the server lacks a

@@ -4,9 +4,9 @@
 -- (Celery's Redis backend).
 use Rattle.std.specs.Prelude.{ℕ, List, [], ◌∷◌, if◌then◌else◌}
 use Rattle.canvas_task.specs.Text.{Text}
-use Rattle.canvas_export.specs.Setting.{Setting}
-use Rattle.canvas_export.specs.Script.{script_command}
-use Rattle.canvas_export.specs.Transaction.{transaction}
+use Rattle.canvas_celery.specs.Setting.{Setting}
+use Rattle.canvas_celery.specs.Script.{script_command}
+use Rattle.canvas_celery.specs.Transaction.{transaction}
 
 abbrev pub commands : (run : Text) → Setting → (sizes : List (ℕ × ℕ)) → (messages : List Text)
     → List (List Text)

@@ -2,7 +2,7 @@
 -- doesn't come, not at all (Redis: Transactions).
 use Rattle.std.specs.Prelude.{ℕ, List, [], ◌∷◌, ◌++◌, map, Option, Some, None, decimal, codes}
 use Rattle.canvas_task.specs.Text.{Text}
-use Rattle.canvas_export.specs.Setting.{Setting}
+use Rattle.canvas_celery.specs.Setting.{Setting}
 use Rattle.canvas_celery.specs.Keys.{size_key}
 
 -- the size of a chord is kept for `expires` seconds

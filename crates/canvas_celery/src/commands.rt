@@ -1,5 +1,4 @@
 //! Canvases as work for real Celery workers on Redis.
-#![tactic(auto)]
 
 mod around;
 mod by_script;

@@ -1,5 +1,4 @@
 //! The outcomes of a canvas's tasks from the results that Celery's workers stored.
-#![tactic(auto)]
 
 mod collecting;
 mod completing;

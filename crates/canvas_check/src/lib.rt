@@ -1,5 +1,5 @@
-//! What `canvas check` says of a text: the place where it is refused as a canvas, and what was found
-//! there; or warnings about the canvas, as names that no task answers to, calls that are a
+//! What `canvas check` says of a text: the place where it is refused as a canvas, and what was
+//! found there; or warnings about the canvas, as names that no task answers to, calls that are a
 //! TypeError, with the parameter at fault, and points in which Celery behaves differently.
 #![tactic(auto)]
 

@@ -5,15 +5,15 @@ use Rattle.canvas_task.specs.declared.outcome.Fault.{Fault}
 use Rattle.canvas_task.specs.declared.outcome.Outcome.TheVariants.{Success, Failure}
 use Rattle.canvas_semantics.specs.Tree.{Trees}
 use Rattle.canvas_semantics.specs.Evaluation.{Flow, nothing, num, list, id, skip, raised, State, Rows, passed_on, gathered, group_value, with_states, all_ends, member_rows}
-use Rattle.canvas_collect.specs.Completed.{Keeps, HasRows, state_at}
-use Rattle.canvas_collect.specs.Completing.{passed, gathered_on, gathered_from, into_body}
-use Rattle.canvas_collect.specs.Looks.{Look, known, look_at}
-use Rattle.canvas_collect.specs.declared.completing.Flow as flow
-use Rattle.canvas_collect.specs.declared.completing.Flow.TheVariants.{Value, Skip, Raise, Pending}
-use Rattle.canvas_collect.proofs.Flows.{IsValue, IsKnown, IsTold, Within, AllThere, listed, shown}
-use Rattle.canvas_collect.proofs.Gathering.{of_row, of_value, of_raise, success_behind, failure_behind, skip_stays, raise_stays}
-use Rattle.canvas_collect.proofs.Reached.{ends_listed}
-use Rattle.canvas_collect.proofs.Shown.{shown_at}
+use Rattle.canvas_celery.specs.Completed.{Keeps, HasRows, state_at}
+use Rattle.canvas_celery.specs.Completing.{passed, gathered_on, gathered_from, into_body}
+use Rattle.canvas_celery.specs.Looks.{Look, known, look_at}
+use Rattle.canvas_celery.specs.declared.results.completing.Flow as flow
+use Rattle.canvas_celery.specs.declared.results.completing.Flow.TheVariants.{Value, Skip, Raise, Pending}
+use Rattle.canvas_celery.proofs.Collected.Flows.{IsValue, IsKnown, IsTold, Within, AllThere, listed, shown}
+use Rattle.canvas_celery.proofs.Collected.Gathering.{of_row, of_value, of_raise, success_behind, failure_behind, skip_stays, raise_stays}
+use Rattle.canvas_celery.proofs.Collected.Reached.{ends_listed}
+use Rattle.canvas_celery.proofs.Collected.Shown.{shown_at}
 
 pub known_kept : (way : flow.Flow) (old new : List State) (x : Flow) → Keeps old new → IsKnown old way x → IsKnown new way x
 known_kept Value old new x keeps h = h

@@ -6,9 +6,9 @@ use Rattle.canvas_task.specs.Text.{Text}
 use Rattle.canvas_task.specs.Printed.{why_name}
 use Rattle.canvas_task.specs.declared.outcome.Why.{Why}
 use Rattle.canvas_celery.specs.Run.{run_task}
-use Rattle.canvas_collect.specs.Stored.{Blames}
-use Rattle.canvas_collect.specs.AsStored.{Names}
-use Rattle.canvas_collect.proofs.Identifiers.{length-run_task}
+use Rattle.canvas_celery.specs.Stored.{Blames}
+use Rattle.canvas_celery.specs.AsStored.{Names}
+use Rattle.canvas_celery.proofs.Collected.Identifiers.{length-run_task}
 
 pub in_parts : (start text id mark raised message : Text) (n : ℕ) → message ≡ start ++ text → take n text ≡ id → drop n text ≡ mark ++ raised
     → message ≡ start ++ (id ++ (mark ++ raised))

@@ -7,9 +7,9 @@ use Rattle.std.proofs.lemmas.Grind.{get_or-set_at}
 use Rattle.canvas_task.specs.declared.outcome.Outcome.TheVariants.{Success, Failure}
 use Rattle.canvas_report.specs.declared.row.Row.{Row}
 use Rattle.canvas_report.specs.declared.row.Row.TheVariants as row
-use Rattle.canvas_collect.specs.Completing.{put, put_by, same_failure, chord_failure}
-use Rattle.canvas_collect.specs.Filled.{pending, IsFailed, IsFilling, IsFilled, AreFilled}
-use Rattle.canvas_collect.specs.Looks.{Look, known, value, raised, blamed, look, looks}
+use Rattle.canvas_celery.specs.Completing.{put, put_by, same_failure, chord_failure}
+use Rattle.canvas_celery.specs.FilledRows.{pending, IsFailed, IsFilling, IsFilled, AreFilled}
+use Rattle.canvas_celery.specs.Looks.{Look, known, value, raised, blamed, look, looks}
 
 pub filled_refl : (rows : List Row) → AreFilled rows rows
 filled_refl rows k = inl refl

@@ -5,10 +5,10 @@ use Rattle.canvas_task.specs.declared.outcome.Fault.{Fault}
 use Rattle.canvas_task.specs.declared.outcome.Fault.TheVariants as fault
 use Rattle.canvas_task.specs.declared.outcome.Outcome.TheVariants.{Failure}
 use Rattle.canvas_semantics.specs.Evaluation.{Flow, skip, raised, State, Rows, why_of}
-use Rattle.canvas_collect.specs.Completed.{state_at}
-use Rattle.canvas_collect.specs.Looks.{Look, known}
-use Rattle.canvas_collect.specs.declared.completing.Flow as flow
-use Rattle.canvas_collect.specs.declared.completing.Flow.TheVariants.{Value, Skip, Raise, Pending}
+use Rattle.canvas_celery.specs.Completed.{state_at}
+use Rattle.canvas_celery.specs.Looks.{Look, known}
+use Rattle.canvas_celery.specs.declared.results.completing.Flow as flow
+use Rattle.canvas_celery.specs.declared.results.completing.Flow.TheVariants.{Value, Skip, Raise, Pending}
 
 -- nothing, a number, a list or an identifier: a task is called with it
 abbrev pub IsValue : Flow → Type 0

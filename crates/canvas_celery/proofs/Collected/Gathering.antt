@@ -6,8 +6,8 @@ use Rattle.canvas_task.specs.declared.outcome.Fault.TheVariants as fault
 use Rattle.canvas_task.specs.declared.outcome.Outcome.{Outcome}
 use Rattle.canvas_task.specs.declared.outcome.Outcome.TheVariants.{Success, Failure}
 use Rattle.canvas_semantics.specs.Evaluation.{Flow, nothing, num, list, id, skip, raised, State, Rows, gathered, in_front, why_of, group_value}
-use Rattle.canvas_collect.proofs.Flows.{IsValue, listed}
-use Rattle.canvas_collect.specs.Completed.{state_at}
+use Rattle.canvas_celery.proofs.Collected.Flows.{IsValue, listed}
+use Rattle.canvas_celery.specs.Completed.{state_at}
 
 front_value : (n : ℤ) (x : Flow) → IsValue x → IsValue (in_front n x)
 front_value n nothing h = tt

@@ -5,7 +5,7 @@ use Rattle.canvas_task.specs.Text.{Text}
 use Rattle.canvas_task.specs.Identifiers.{task_text}
 use Rattle.canvas_celery.specs.Run.{run_task}
 use Rattle.canvas_celery.proofs.Pieces.{seen, in_run_seen}
-use Rattle.canvas_collect.specs.steps.Digits.{number_digits}
+use Rattle.canvas_celery.specs.steps.Digits.{number_digits}
 
 length-task_text : (k : ℕ) → length (task_text k) ≡ 36
 unfolding by_index

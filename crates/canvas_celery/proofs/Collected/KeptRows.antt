@@ -9,8 +9,8 @@ use Rattle.canvas_task.specs.declared.outcome.Fault.{Fault}
 use Rattle.canvas_task.specs.declared.outcome.Outcome.{Outcome}
 use Rattle.canvas_task.specs.declared.outcome.Outcome.TheVariants.{Failure}
 use Rattle.canvas_semantics.specs.Evaluation.{State}
-use Rattle.canvas_collect.specs.Completed.{IsFailure, Keeps}
-use Rattle.canvas_collect.proofs.Flows.{Within}
+use Rattle.canvas_celery.specs.Completed.{IsFailure, Keeps}
+use Rattle.canvas_celery.proofs.Collected.Flows.{Within}
 
 none_is_some : (row : Option Outcome) (o : Outcome) → row ≡ None → row ≡ Some o → IsFailure o
 none_is_some row o empty there = let bad : None ≡ Some o = sym empty ∙ there in absurd cc

@@ -15,19 +15,19 @@ use Rattle.canvas_semantics.specs.FileOrder.{LineIn, LinesIn}
 use Rattle.canvas_semantics.specs.Line.{Line, stop, step, group_end, chord_end, Lines, no_lines, and_line, no_of, elements_of, members_of, tree_of, count_line, members, number_line}
 use Rattle.canvas_semantics.specs.States.{states, EachMay}
 use Rattle.canvas_semantics.proofs.EndLemmas.{ends_of_tree}
-use Rattle.canvas_collect.specs.Called.{task_called, called, chain_called, members_called}
-use Rattle.canvas_collect.specs.Completed.{HasRows, Keeps, Completes, state_at}
-use Rattle.canvas_collect.specs.Completing.{after, same_failure, chord_failure, put, reached, into_body, completed, all_completed}
-use Rattle.canvas_collect.specs.Looks.{Look, known, look_at}
-use Rattle.canvas_collect.specs.declared.completing.Flow as flow
-use Rattle.canvas_collect.specs.declared.completing.Flow.TheVariants.{Value, Skip, Raise, Pending}
-use Rattle.canvas_collect.proofs.Bodies.{known_kept, passed_known, passed_told, body_known, body_told}
-use Rattle.canvas_collect.proofs.Flows.{IsValue, IsKnown, IsTold, Within, AllThere, shown}
-use Rattle.canvas_collect.proofs.KeptRows.{kept_refl, kept_trans, set_kept, set_within}
-use Rattle.canvas_collect.proofs.Reached.{has_split, meaning_rows}
-use Rattle.canvas_collect.proofs.Shown.{shown_at, shown_one, put_full, put_empty, put_past, line_kept}
-use Rattle.canvas_collect.proofs.Walking.{table_has, table_rows, within_by_each, each_long, each_by_within}
-use Rattle.canvas_collect.proofs.Whole.{has_join, has_kept, own_row, own_value, task_among, chain_among, members_among, outcome_task, all_there, is_table}
+use Rattle.canvas_celery.specs.Called.{task_called, called, chain_called, members_called}
+use Rattle.canvas_celery.specs.Completed.{HasRows, Keeps, Completes, state_at}
+use Rattle.canvas_celery.specs.Completing.{after, same_failure, chord_failure, put, reached, into_body, completed, all_completed}
+use Rattle.canvas_celery.specs.Looks.{Look, known, look_at}
+use Rattle.canvas_celery.specs.declared.results.completing.Flow as flow
+use Rattle.canvas_celery.specs.declared.results.completing.Flow.TheVariants.{Value, Skip, Raise, Pending}
+use Rattle.canvas_celery.proofs.Collected.Bodies.{known_kept, passed_known, passed_told, body_known, body_told}
+use Rattle.canvas_celery.proofs.Collected.Flows.{IsValue, IsKnown, IsTold, Within, AllThere, shown}
+use Rattle.canvas_celery.proofs.Collected.KeptRows.{kept_refl, kept_trans, set_kept, set_within}
+use Rattle.canvas_celery.proofs.Collected.Reached.{has_split, meaning_rows}
+use Rattle.canvas_celery.proofs.Collected.Shown.{shown_at, shown_one, put_full, put_empty, put_past, line_kept}
+use Rattle.canvas_celery.proofs.Collected.Walking.{table_has, table_rows, within_by_each, each_long, each_by_within}
+use Rattle.canvas_celery.proofs.Collected.Whole.{has_join, has_kept, own_row, own_value, task_among, chain_among, members_among, outcome_task, all_there, is_table}
 
 -- ---- one row
 

@@ -2,7 +2,7 @@
 use Rattle.std.proofs.Common.{◌≡◌, ◌==◌, ℕ, suc, ◌+◌, ◌-◌, ◌<◌, ◌≤◌, Bool, true, false, cond, List, [], ◌∷◌, length, refl, arith, length-drop}
 use Rattle.std.specs.List.{onto_first, position_or_len, before_first, after_first}
 use Rattle.canvas_task.specs.Text.{Text}
-use Rattle.canvas_collect.specs.Pieces.{lines_in}
+use Rattle.canvas_celery.specs.Pieces.{lines_in}
 
 -- whether a byte is a line feed
 abbrev ends : ℕ → Bool

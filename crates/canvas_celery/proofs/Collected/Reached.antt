@@ -5,8 +5,8 @@ use Rattle.canvas_task.specs.Apply.{Behaviour}
 use Rattle.canvas_semantics.specs.Tree.{Task, task, Tree, one, chain, group, chord, Trees, no_trees, and_tree}
 use Rattle.canvas_semantics.specs.Evaluation.{Flow, State, Rows, state_of, with_states, ends, last_ends, all_ends, task_rows, task_meaning}
 use Rattle.canvas_semantics.specs.Evaluation.{eval, eval_chain, member_rows, as_group}
-use Rattle.canvas_collect.proofs.Flows.{listed}
-use Rattle.canvas_collect.specs.Completed.{HasRows, state_at}
+use Rattle.canvas_celery.proofs.Collected.Flows.{listed}
+use Rattle.canvas_celery.specs.Completed.{HasRows, state_at}
 
 pub has_split : (s : List State) (a b : Rows) → HasRows s (a ++ b) → HasRows s a × HasRows s b
 has_split s [] b h = (tt, h)

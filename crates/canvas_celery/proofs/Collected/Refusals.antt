@@ -2,10 +2,10 @@
 use Rattle.std.proofs.Common.{◌≡◌, ℕ, codes}
 use Rattle.serde_json.specs.Data.{Data}
 use Rattle.canvas_task.specs.Text.{Text}
-use Rattle.canvas_collect.specs.declared.stored.Lack.{Lack}
-use Rattle.canvas_collect.specs.declared.stored.Lack.TheVariants as lack
-use Rattle.canvas_collect.specs.Stored.{state_of, result_of}
-use Rattle.canvas_collect.specs.steps.Lacking.{LacksFault, LacksOutcome}
+use Rattle.canvas_celery.specs.declared.results.stored.Lack.{Lack}
+use Rattle.canvas_celery.specs.declared.results.stored.Lack.TheVariants as lack
+use Rattle.canvas_celery.specs.Stored.{state_of, result_of}
+use Rattle.canvas_celery.specs.steps.Lacking.{LacksFault, LacksOutcome}
 
 pub of_exception : (run : Text) (count : ℕ) (d : Data) (l : Lack) → state_of d ≡ codes "FAILURE" → LacksFault run count (result_of d) l → LacksOutcome run count d l
 of_exception run count d lack.State failed h = absurd h

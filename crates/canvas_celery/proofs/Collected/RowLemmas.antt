@@ -24,18 +24,18 @@ use Rattle.canvas_values.proofs.Depth.{field_low}
 use Rattle.canvas_celery.specs.Run.{run_task}
 use Rattle.canvas_report.specs.declared.row.Row.{Row}
 use Rattle.canvas_report.specs.declared.row.Row.TheVariants.{Known, Value, Raised, Blamed}
-use Rattle.canvas_collect.specs.declared.stored.StoredFault.{StoredFault}
-use Rattle.canvas_collect.specs.declared.stored.StoredFault.TheVariants.{NotJson, OtherTask, UnknownState, UnknownException}
-use Rattle.canvas_collect.specs.declared.stored.StoredFault.TheVariants.{Memory}
-use Rattle.canvas_collect.specs.Stored.{result_of, class_of, message_of, Blames, IsResult}
-use Rattle.canvas_collect.specs.declared.stored.Lack.TheVariants as lack
-use Rattle.canvas_collect.specs.steps.Lacking.{LacksOutcome}
-use Rattle.canvas_collect.specs.AsStored.{IsJsonOf, Names, IsRow}
-use Rattle.canvas_collect.specs.steps.Parsed.{IsUnread}
-use Rattle.canvas_collect.specs.steps.Rows.{IsRefused, HasJson, HasClass, HasBlame, LacksClass, IsChordRow, ResultFault, LineFault}
-use Rattle.canvas_collect.proofs.Dependency.{blames_one}
-use Rattle.canvas_collect.proofs.Identifiers.{length-run_task}
-use Rattle.canvas_collect.proofs.Json.{json_is}
+use Rattle.canvas_celery.specs.declared.results.stored.StoredFault.{StoredFault}
+use Rattle.canvas_celery.specs.declared.results.stored.StoredFault.TheVariants.{NotJson, OtherTask, UnknownState, UnknownException}
+use Rattle.canvas_celery.specs.declared.results.stored.StoredFault.TheVariants.{Memory}
+use Rattle.canvas_celery.specs.Stored.{result_of, class_of, message_of, Blames, IsResult}
+use Rattle.canvas_celery.specs.declared.results.stored.Lack.TheVariants as lack
+use Rattle.canvas_celery.specs.steps.Lacking.{LacksOutcome}
+use Rattle.canvas_celery.specs.AsStored.{IsJsonOf, Names, IsRow}
+use Rattle.canvas_celery.specs.steps.Parsed.{IsUnread}
+use Rattle.canvas_celery.specs.steps.Rows.{IsRefused, HasJson, HasClass, HasBlame, LacksClass, IsChordRow, ResultFault, LineFault}
+use Rattle.canvas_celery.proofs.Collected.Dependency.{blames_one}
+use Rattle.canvas_celery.proofs.Collected.Identifiers.{length-run_task}
+use Rattle.canvas_celery.proofs.Collected.Json.{json_is}
 
 -- both outcomes of a call
 pub both : {A B : Type 0} (r : Result A B) (P Q : A → Type 0) (R S : B → Type 0)

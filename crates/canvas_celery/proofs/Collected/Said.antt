@@ -2,12 +2,12 @@
 use Rattle.std.proofs.Common.{◌≡◌, ℕ, suc, ◌+◌, ◌<◌, arith, List, [], ◌∷◌, ◌++◌, length, length-append, append-nil, append_assoc, refl, sym, ap, ◌∙◌, subst}
 use Rattle.canvas_task.specs.Text.{Text}
 use Rattle.canvas_report.specs.declared.row.Row.{Row}
-use Rattle.canvas_collect.specs.Pieces.{lines_in}
-use Rattle.canvas_collect.specs.declared.collecting.CollectFault.{CollectFault}
-use Rattle.canvas_collect.specs.declared.collecting.CollectFault.TheVariants as fault
-use Rattle.canvas_collect.specs.AsStored.{Says, AllSaid}
-use Rattle.canvas_collect.specs.Refused.{IsCollectFault}
-use Rattle.canvas_collect.specs.steps.Rows.{Gains, IsRead, RowFault}
+use Rattle.canvas_celery.specs.Pieces.{lines_in}
+use Rattle.canvas_celery.specs.declared.results.collecting.CollectFault.{CollectFault}
+use Rattle.canvas_celery.specs.declared.results.collecting.CollectFault.TheVariants as fault
+use Rattle.canvas_celery.specs.AsStored.{Says, AllSaid}
+use Rattle.canvas_celery.specs.Refused.{IsCollectFault}
+use Rattle.canvas_celery.specs.steps.Rows.{Gains, IsRead, RowFault}
 
 pub longer : {A : Type 0} (xs : List A) (x : A) (n : ℕ) → length xs ≡ n → length (xs ++ x ∷ []) ≡ n + 1
 longer xs x n e = length-append xs (x ∷ []) ∙ ap (λ k. k + 1) e

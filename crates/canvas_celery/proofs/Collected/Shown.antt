@@ -11,13 +11,13 @@ use Rattle.canvas_semantics.specs.Evaluation.{State}
 use Rattle.canvas_semantics.specs.Line.{Line, stop, step, group_end, chord_end, Lines, no_lines, and_line, no_of}
 use Rattle.canvas_report.specs.declared.row.Row.{Row}
 use Rattle.canvas_report.specs.declared.row.Row.TheVariants as row
-use Rattle.canvas_collect.specs.Completed.{Keeps, state_at}
-use Rattle.canvas_collect.specs.Completing.{after, same_failure, chord_failure, put_by, put, reached, into_body, completed, all_completed}
-use Rattle.canvas_collect.specs.Looks.{Look, known, looks, look_at}
-use Rattle.canvas_collect.specs.declared.completing.Flow.{Flow}
-use Rattle.canvas_collect.specs.declared.completing.Flow.TheVariants.{Value, Skip, Raise, Pending}
-use Rattle.canvas_collect.proofs.Flows.{shown}
-use Rattle.canvas_collect.proofs.KeptRows.{kept_refl, kept_trans, set_kept}
+use Rattle.canvas_celery.specs.Completed.{Keeps, state_at}
+use Rattle.canvas_celery.specs.Completing.{after, same_failure, chord_failure, put_by, put, reached, into_body, completed, all_completed}
+use Rattle.canvas_celery.specs.Looks.{Look, known, looks, look_at}
+use Rattle.canvas_celery.specs.declared.results.completing.Flow.{Flow}
+use Rattle.canvas_celery.specs.declared.results.completing.Flow.TheVariants.{Value, Skip, Raise, Pending}
+use Rattle.canvas_celery.proofs.Collected.Flows.{shown}
+use Rattle.canvas_celery.proofs.Collected.KeptRows.{kept_refl, kept_trans, set_kept}
 
 pub shown_at : (rows : List State) (k : ℕ) → look_at (shown rows) k ≡ known (state_at rows k)
 shown_at rows k = get_or-map (λ s. known s) rows (k - 1) None

@@ -9,8 +9,8 @@ use Rattle.canvas_semantics.specs.Line.{Line, elements_of, tree_of, number_line}
 use Rattle.canvas_semantics.specs.States.{states, rows_from, EachMay}
 use Rattle.canvas_semantics.proofs.Numbered.{tree_numbered}
 use Rattle.canvas_semantics.proofs.RowNumbers.{states_whole}
-use Rattle.canvas_collect.proofs.Flows.{Within}
-use Rattle.canvas_collect.specs.Completed.{HasRows}
+use Rattle.canvas_celery.proofs.Collected.Flows.{Within}
+use Rattle.canvas_celery.specs.Completed.{HasRows}
 
 -- ---- the table of a plan
 

@@ -8,10 +8,10 @@ use Rattle.canvas_semantics.specs.Tree.{Call, Task, task, Tasks, no_tasks, and_t
 use Rattle.canvas_semantics.specs.Evaluation.{Flow, nothing, num, list, id, skip, raised, State, Rows, state, ends, last_ends, all_ends, as_group}
 use Rattle.canvas_semantics.specs.Evaluation.{task_rows, tasks_rows, to_links, to_errbacks, eval, eval_chain, member_rows}
 use Rattle.canvas_semantics.specs.States.{rows_from}
-use Rattle.canvas_collect.specs.Called.{if_called, task_called, tasks_called, called, chain_called, members_called}
-use Rattle.canvas_collect.specs.Completed.{HasRows, Keeps, state_at}
-use Rattle.canvas_collect.proofs.Flows.{IsValue, Within, AllThere}
-use Rattle.canvas_collect.proofs.Reached.{has_split}
+use Rattle.canvas_celery.specs.Called.{if_called, task_called, tasks_called, called, chain_called, members_called}
+use Rattle.canvas_celery.specs.Completed.{HasRows, Keeps, state_at}
+use Rattle.canvas_celery.proofs.Collected.Flows.{IsValue, Within, AllThere}
+use Rattle.canvas_celery.proofs.Collected.Reached.{has_split}
 
 pub has_join : (s : List State) (a b : Rows) → HasRows s a → HasRows s b → HasRows s (a ++ b)
 has_join s [] b h i = i

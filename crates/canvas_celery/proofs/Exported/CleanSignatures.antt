@@ -11,7 +11,7 @@ use Rattle.canvas_semantics.specs.Line.{in_group}
 use Rattle.canvas_semantics.specs.PlacedLine.{PTask, p_task, PTasks, no_p_tasks, and_p_task, PPlace, p_nowhere, p_group, p_chord, PLine, p_stop, p_step, p_group_end, p_chord_end, PLines, no_p_lines, and_p_line, strip}
 use Rattle.canvas_envelope.specs.Fits.{is_task_number, size_ok, task_ok, tasks_ok, place_ok, line_ok, members_ok}
 use Rattle.canvas_codec.proofs.RoundTrip.{task_parts, chord_parts}
-use Rattle.canvas_export.specs.Signatures.{Naming, task_id, group_id, index_of, index_wire, Sig, sig_wire, each_wire, own_option, place_options, first_wire, behind, carried_wire, chain_wire, member_wire, group_sig, chord_sigs, task_sig, tasks_wire, body_at, elements, members_wire}
+use Rattle.canvas_celery.specs.Signatures.{Naming, task_id, group_id, index_of, index_wire, Sig, sig_wire, each_wire, own_option, place_options, first_wire, behind, carried_wire, chain_wire, member_wire, group_sig, chord_sigs, task_sig, tasks_wire, body_at, elements, members_wire}
 
 -- ---- places among members
 

@@ -11,9 +11,9 @@ use Rattle.canvas_semantics.specs.Line.{in_group}
 use Rattle.canvas_semantics.specs.PlacedLine.{PTask, p_task, PTasks, no_p_tasks, and_p_task, PPlace, p_nowhere, p_group, p_chord, PLine, p_stop, p_step, p_group_end, p_chord_end, PLines, no_p_lines, and_p_line, strip}
 use Rattle.canvas_envelope.specs.Fits.{is_task_number, size_ok, task_ok, tasks_ok, place_ok, line_ok, members_ok, task_reach, tasks_reach, place_reach, line_reach, greatest_reach, members_reach}
 use Rattle.canvas_codec.proofs.RoundTrip.{task_parts, chord_parts}
-use Rattle.canvas_export.specs.Signatures.{Naming, task_id, Sig, sig_wire, each_wire, own_option, place_options, first_wire, behind, carried_wire, member_wire, group_sig, task_sig, tasks_wire, body_at, elements, members_wire}
-use Rattle.canvas_export.specs.steps.Elements.{has_more}
-use Rattle.canvas_export.proofs.SignaturesBack.{greatest_low}
+use Rattle.canvas_celery.specs.Signatures.{Naming, task_id, Sig, sig_wire, each_wire, own_option, place_options, first_wire, behind, carried_wire, member_wire, group_sig, task_sig, tasks_wire, body_at, elements, members_wire}
+use Rattle.canvas_celery.specs.steps.Elements.{has_more}
+use Rattle.canvas_celery.proofs.Exported.SignaturesBack.{greatest_low}
 
 -- ---- one signature
 

@@ -8,11 +8,11 @@ use Rattle.serde_json.specs.Written.{compact_text}
 use Rattle.canvas_task.specs.Text.{Text}
 use Rattle.canvas_envelope.specs.Content.{Content}
 use Rattle.canvas_envelope.specs.Fits.{fits}
-use Rattle.canvas_export.specs.Envelope.{body_wire, envelope_wire, message_text}
-use Rattle.canvas_export.specs.MessageReading.{IsSound, read_message}
-use Rattle.canvas_export.specs.Signatures.{Naming}
-use Rattle.canvas_export.specs.Sizeless.{sizeless}
-use Rattle.canvas_export.proofs.MessageBack.{IsKept, message_back}
+use Rattle.canvas_celery.specs.Envelope.{body_wire, envelope_wire, message_text}
+use Rattle.canvas_celery.specs.MessageReading.{IsSound, read_message}
+use Rattle.canvas_celery.specs.Signatures.{Naming}
+use Rattle.canvas_celery.specs.Sizeless.{sizeless}
+use Rattle.canvas_celery.proofs.Exported.MessageBack.{IsKept, message_back}
 
 -- an envelope with some body
 abbrev around : Naming → Text → Content → Text → Text

@@ -16,17 +16,17 @@ use Rattle.canvas_envelope.specs.Fits.{is_task_number, how_many, line_ok, member
 use Rattle.canvas_codec.proofs.RoundTrip.{chord_parts}
 use Rattle.canvas_celery.specs.Run.{piece, run_group}
 use Rattle.canvas_celery.specs.Keys.{size_key}
-use Rattle.canvas_export.specs.Starting.{chord_sizes, starting, all_starting}
-use Rattle.canvas_export.specs.Resp.{header_bytes, words_bytes, command_bytes, resp}
-use Rattle.canvas_export.specs.Reading.{◌>>=◌}
-use Rattle.canvas_export.specs.Setting.{Setting}
-use Rattle.canvas_export.specs.Script.{database_words, script_keys, script_arguments, script_command}
-use Rattle.canvas_export.specs.Transaction.{size_command, select_backend, select_broker, sizes_between, transaction}
-use Rattle.canvas_export.specs.Start.{commands, start}
-use Rattle.canvas_export.specs.MessageReading.{group_number, read_message}
-use Rattle.canvas_export.specs.ExportReading.{AreNamed, group_in, paired, all_but_last, script_sizes, script_texts, sizes_in, texts_in, all_sizes, all_texts, read_messages, read_commands, read_export, started}
-use Rattle.canvas_export.proofs.Named.{group_number_back, length-run_group}
-use Rattle.canvas_export.proofs.Reading.{many_bytes, read_back}
+use Rattle.canvas_celery.specs.Starting.{chord_sizes, starting, all_starting}
+use Rattle.canvas_celery.specs.Resp.{header_bytes, words_bytes, command_bytes, resp}
+use Rattle.canvas_celery.specs.Reading.{◌>>=◌}
+use Rattle.canvas_celery.specs.Setting.{Setting}
+use Rattle.canvas_celery.specs.Script.{database_words, script_keys, script_arguments, script_command}
+use Rattle.canvas_celery.specs.Transaction.{size_command, select_backend, select_broker, sizes_between, transaction}
+use Rattle.canvas_celery.specs.Start.{commands, start}
+use Rattle.canvas_celery.specs.MessageReading.{group_number, read_message}
+use Rattle.canvas_celery.specs.ExportReading.{AreNamed, group_in, paired, all_but_last, script_sizes, script_texts, sizes_in, texts_in, all_sizes, all_texts, read_messages, read_commands, read_export, started}
+use Rattle.canvas_celery.proofs.Exported.Named.{group_number_back, length-run_group}
+use Rattle.canvas_celery.proofs.Exported.Reading.{many_bytes, read_back}
 
 number_back : (n : ℕ) → n < 2 ^ 64 → digits_value 10 (decimal n) ≡ n
 number_back n h = (decimal_is_IsNumeral n h).1

@@ -13,12 +13,12 @@ use Rattle.serde_json.specs.Written.{compact_text, outline}
 use Rattle.canvas_wire.specs.steps.Tokens.{data_tokens}
 use Rattle.canvas_task.specs.Text.{Text}
 use Rattle.canvas_envelope.specs.Content.{Content}
-use Rattle.canvas_export.specs.Envelope.{body_wire, envelope_wire}
-use Rattle.canvas_export.specs.Filled.{filled_text, filled_message}
-use Rattle.canvas_export.specs.Places.{filled}
-use Rattle.canvas_export.specs.Signatures.{Naming}
-use Rattle.canvas_export.specs.steps.Filling.{AreGood, tokens_filled}
-use Rattle.canvas_export.proofs.FilledTokens.{filled_whole, json_good}
+use Rattle.canvas_celery.specs.Envelope.{body_wire, envelope_wire}
+use Rattle.canvas_celery.specs.FilledStart.{filled_text, filled_message}
+use Rattle.canvas_celery.specs.Places.{filled}
+use Rattle.canvas_celery.specs.Signatures.{Naming}
+use Rattle.canvas_celery.specs.steps.Filling.{AreGood, tokens_filled}
+use Rattle.canvas_celery.proofs.Exported.FilledTokens.{filled_whole, json_good}
 
 pub good_body : (d : Data) (bytes : Text) → tokens bytes ≡ data_tokens d → AreGood (tokens bytes)
 good_body d bytes read = subst AreGood (sym read) (json_good (outline d))

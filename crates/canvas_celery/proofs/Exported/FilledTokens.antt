@@ -12,9 +12,9 @@ use Rattle.json.specs.Token as token
 use Rattle.json.specs.Token.{Token}
 use Rattle.json.specs.Tree.{json_tokens, items_tokens, members_tokens, HasNumbers, ItemsHaveNumbers}
 use Rattle.json.specs.Value as view
-use Rattle.canvas_export.specs.Places.{number_in, value_at, told_by, filled, filled_items, filled_members}
-use Rattle.canvas_export.specs.Values.{listed}
-use Rattle.canvas_export.specs.steps.Filling.{AreGood, HaveNumbers, token_filled, tokens_filled}
+use Rattle.canvas_celery.specs.Places.{number_in, value_at, told_by, filled, filled_items, filled_members}
+use Rattle.canvas_celery.specs.Values.{listed}
+use Rattle.canvas_celery.specs.steps.Filling.{AreGood, HaveNumbers, token_filled, tokens_filled}
 
 -- ---- the value of a place
 

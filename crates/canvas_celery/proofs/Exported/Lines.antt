@@ -15,10 +15,10 @@ use Rattle.canvas_rewrite.specs.declared.frozen.FrozenEnd.{FrozenEnd, out-Frozen
 use Rattle.canvas_envelope.specs.Content.{call_of}
 use Rattle.canvas_envelope.specs.Wire.{list_or_null}
 use Rattle.canvas_envelope.specs.steps.Parts.{is_stop}
-use Rattle.canvas_export.specs.Signatures.{Naming, Sig, task_sig, elements, members_wire, each_wire, behind, first_wire, carried_wire, member_wire}
-use Rattle.canvas_export.specs.steps.Elements.{call_front, sig_rest, sig_tokens, first_front, first_rest, each_tokens, task_sigs, tail_sigs}
-use Rattle.canvas_export.proofs.Sigs.{each-append, each_items, each_reversed, one_reversed, is_some, first_carried, first_then, first_last, task_carried, listed_back}
-use Rattle.canvas_export.proofs.Elements.{tasks_dropped, line_elements, first_task, only_tail, a_tail, end_stands, a_header}
+use Rattle.canvas_celery.specs.Signatures.{Naming, Sig, task_sig, elements, members_wire, each_wire, behind, first_wire, carried_wire, member_wire}
+use Rattle.canvas_celery.specs.steps.Elements.{call_front, sig_rest, sig_tokens, first_front, first_rest, each_tokens, task_sigs, tail_sigs}
+use Rattle.canvas_celery.proofs.Exported.Sigs.{each-append, each_items, each_reversed, one_reversed, is_some, first_carried, first_then, first_last, task_carried, listed_back}
+use Rattle.canvas_celery.proofs.Exported.Elements.{tasks_dropped, line_elements, first_task, only_tail, a_tail, end_stands, a_header}
 
 -- ---- what was written
 

@@ -7,8 +7,8 @@ use Rattle.std.proofs.lemmas.Option.{slice_get-get_or}
 use Rattle.canvas_task.specs.Text.{Text}
 use Rattle.canvas_semantics.specs.Line.{Line, stop, step, group_end, chord_end, Lines, no_lines, and_line, count_line, count_lines, names, all_names, task_names, tasks_names, name_at}
 use Rattle.canvas_semantics.specs.Tree.{Task, task, Tasks, no_tasks, and_task, count_task, count_tasks}
-use Rattle.canvas_export.specs.Places.{is_marked}
-use Rattle.canvas_export.specs.steps.Filling.{is_marked_name}
+use Rattle.canvas_celery.specs.Places.{is_marked}
+use Rattle.canvas_celery.specs.steps.Filling.{is_marked_name}
 
 -- ---- there are as many names as tasks
 

@@ -20,14 +20,14 @@ use Rattle.canvas_envelope.specs.Fits.{parent_ok, fits}
 use Rattle.canvas_envelope.specs.FrozenGrammar.{levels}
 use Rattle.canvas_envelope.specs.Wire.{list_or_null}
 use Rattle.canvas_codec.proofs.Wholes.{RestFits, Whole, as_content, whole_of}
-use Rattle.canvas_export.specs.Signatures.{Naming, task_id, group_id, index_wire, sig_wire, each_wire, tasks_wire, elements}
-use Rattle.canvas_export.specs.Envelope.{body_wire, parent_id, headers_wire, properties_wire, envelope_wire, message_text}
-use Rattle.canvas_export.specs.MessageReading.{task_of, line_within, own_in, content_in, envelope_content, read_message}
-use Rattle.canvas_export.specs.Sizeless.{sizeless_task, sizeless_line, sizeless}
-use Rattle.canvas_export.proofs.Named.{task_back, task_number_back, arguments_back, named_back}
-use Rattle.canvas_export.proofs.SignaturesBack as signatures
-use Rattle.canvas_export.proofs.Depths.{deep_reversed, carried_low, line_low, callbacks_low}
-use Rattle.canvas_export.proofs.CleanSignatures as clean
+use Rattle.canvas_celery.specs.Signatures.{Naming, task_id, group_id, index_wire, sig_wire, each_wire, tasks_wire, elements}
+use Rattle.canvas_celery.specs.Envelope.{body_wire, parent_id, headers_wire, properties_wire, envelope_wire, message_text}
+use Rattle.canvas_celery.specs.MessageReading.{task_of, line_within, own_in, content_in, envelope_content, read_message}
+use Rattle.canvas_celery.specs.Sizeless.{sizeless_task, sizeless_line, sizeless}
+use Rattle.canvas_celery.proofs.Exported.Named.{task_back, task_number_back, arguments_back, named_back}
+use Rattle.canvas_celery.proofs.Exported.SignaturesBack as signatures
+use Rattle.canvas_celery.proofs.Exported.Depths.{deep_reversed, carried_low, line_low, callbacks_low}
+use Rattle.canvas_celery.proofs.Exported.CleanSignatures as clean
 
 -- ---- what the headers say
 

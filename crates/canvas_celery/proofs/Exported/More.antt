@@ -10,7 +10,7 @@ use Rattle.canvas_rewrite.specs.declared.frozen.FrozenEnd.{FrozenEnd, out-Frozen
 use Rattle.canvas_envelope.specs.steps.Parts.{is_stop}
 use Rattle.canvas_envelope.proofs.FitLemmas.{never_stops, end_stands}
 use Rattle.canvas_envelope.proofs.Seen.{line_none, line_some, end_none, end_some}
-use Rattle.canvas_export.specs.steps.Elements.{has_more}
+use Rattle.canvas_celery.specs.steps.Elements.{has_more}
 
 step_more : (t : PTask) (l : PLine) → is_stop l ≡ false → has_more (p_step t l) ≡ true
 step_more t p_stop h = absurd cc

@@ -20,8 +20,8 @@ use Rattle.canvas_envelope.specs.Fits.{is_task_number}
 use Rattle.canvas_codec.proofs.RoundTrip.{numbered}
 use Rattle.canvas_celery.specs.Run.{run_task, run_group}
 use Rattle.canvas_celery.proofs.Pieces.{in_run_seen}
-use Rattle.canvas_export.specs.Signatures.{sig_wire}
-use Rattle.canvas_export.specs.MessageReading.{without_run, task_of, task_number, group_number}
+use Rattle.canvas_celery.specs.Signatures.{sig_wire}
+use Rattle.canvas_celery.specs.MessageReading.{without_run, task_of, task_number, group_number}
 
 -- ---- identifiers
 

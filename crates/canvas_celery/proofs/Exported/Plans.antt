@@ -12,19 +12,19 @@ use Rattle.canvas_envelope.specs.Content.{Content}
 use Rattle.canvas_envelope.specs.Fits.{fits}
 use Rattle.canvas_effects.specs.Carrying.{is_whole}
 use Rattle.canvas_effects.proofs.Standing.{whole_ok}
-use Rattle.canvas_export.specs.Envelope.{body_wire, message_text}
-use Rattle.canvas_export.specs.MessageReading.{IsSound, read_message}
-use Rattle.canvas_export.specs.ExportReading.{read_export, started}
-use Rattle.canvas_export.specs.Resp.{resp}
-use Rattle.canvas_export.specs.Setting.{Setting}
-use Rattle.canvas_export.specs.Start.{start}
-use Rattle.canvas_export.specs.Starting.{starting}
-use Rattle.canvas_export.specs.Sizeless.{sizeless}
-use Rattle.canvas_export.specs.ExportView.{naming_of}
-use Rattle.canvas_export.proofs.ExportBack.{starting_named, export_back}
-use Rattle.canvas_export.proofs.Texts.{at_once}
-use Rattle.canvas_export.proofs.CleanSignatures.{IsBounded}
-use Rattle.canvas_export.proofs.MessageBack.{kept_bytes, message_back}
+use Rattle.canvas_celery.specs.Envelope.{body_wire, message_text}
+use Rattle.canvas_celery.specs.MessageReading.{IsSound, read_message}
+use Rattle.canvas_celery.specs.ExportReading.{read_export, started}
+use Rattle.canvas_celery.specs.Resp.{resp}
+use Rattle.canvas_celery.specs.Setting.{Setting}
+use Rattle.canvas_celery.specs.Start.{start}
+use Rattle.canvas_celery.specs.Starting.{starting}
+use Rattle.canvas_celery.specs.Sizeless.{sizeless}
+use Rattle.canvas_celery.specs.ExportView.{naming_of}
+use Rattle.canvas_celery.proofs.Exported.ExportBack.{starting_named, export_back}
+use Rattle.canvas_celery.proofs.Exported.Texts.{at_once}
+use Rattle.canvas_celery.proofs.Exported.CleanSignatures.{IsBounded}
+use Rattle.canvas_celery.proofs.Exported.MessageBack.{kept_bytes, message_back}
 
 pub plan_bounded : (run : Text) (plan : Line) → IsPlan plan → IsBounded (naming_of run plan)
 plan_bounded run plan h g = omega (arith, h.runnable.few_tasks, count_elements plan, few_members plan g)

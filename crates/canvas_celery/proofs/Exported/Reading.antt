@@ -11,8 +11,8 @@ use Rattle.std.proofs.lemmas.Cmp.{nat_list_eq_equiv}
 use Rattle.std.proofs.lemmas.Fmt.{decimal_is_IsNumeral}
 use Rattle.std.proofs.lemmas.List.{take-append-drop, length-take-le, length-drop}
 use Rattle.canvas_task.specs.Text.{Text}
-use Rattle.canvas_export.specs.Resp.{header_bytes, word_bytes, words_bytes, command_bytes, resp}
-use Rattle.canvas_export.specs.Reading.{◌>>=◌, before_end, from_end, behind_end, number_in, read_header, read_word, read_words, read_command, read_within, read}
+use Rattle.canvas_celery.specs.Resp.{header_bytes, word_bytes, words_bytes, command_bytes, resp}
+use Rattle.canvas_celery.specs.Reading.{◌>>=◌, before_end, from_end, behind_end, number_in, read_header, read_word, read_words, read_command, read_within, read}
 
 -- ---- what a step of reading says
 

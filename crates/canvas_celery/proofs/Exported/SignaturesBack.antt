@@ -16,10 +16,10 @@ use Rattle.canvas_rewrite.specs.FrozenView.{p_tasks_of, p_lines_of}
 use Rattle.canvas_envelope.specs.Fits.{is_task_number, size_ok, task_ok, tasks_ok, place_ok, line_ok, members_ok, task_reach, tasks_reach, place_reach, line_reach, greatest_reach, members_reach}
 use Rattle.canvas_envelope.specs.FrozenGrammar.{is_chain}
 use Rattle.canvas_codec.proofs.RoundTrip.{task_parts, chord_parts}
-use Rattle.canvas_export.specs.Signatures.{Naming, task_id, group_id, Sig, sig_wire, each_wire, own_option, place_options, first_wire, behind, carried_wire, member_wire, task_sig, tasks_wire, body_at, elements, members_wire}
-use Rattle.canvas_export.specs.MessageReading.{group_number, carried_elements, place_from, task_from, member_elements, task_within, line_within}
-use Rattle.canvas_export.specs.Sizeless.{sizeless_task, sizeless_tasks, sizeless_place, sizeless_line, sizeless_lines}
-use Rattle.canvas_export.proofs.Named.{task_number_back, group_number_back, call_back}
+use Rattle.canvas_celery.specs.Signatures.{Naming, task_id, group_id, Sig, sig_wire, each_wire, own_option, place_options, first_wire, behind, carried_wire, member_wire, task_sig, tasks_wire, body_at, elements, members_wire}
+use Rattle.canvas_celery.specs.MessageReading.{group_number, carried_elements, place_from, task_from, member_elements, task_within, line_within}
+use Rattle.canvas_celery.specs.Sizeless.{sizeless_task, sizeless_tasks, sizeless_place, sizeless_line, sizeless_lines}
+use Rattle.canvas_celery.proofs.Exported.Named.{task_number_back, group_number_back, call_back}
 
 -- ---- options: a look-up passes members of other names
 

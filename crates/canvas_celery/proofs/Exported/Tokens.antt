@@ -16,10 +16,10 @@ use Rattle.canvas_wire.proofs.Writers.{Stands}
 use Rattle.canvas_envelope.specs.MessageView.{place_view}
 use Rattle.canvas_writing.specs.steps.Tokens.{named_tokens}
 use Rattle.canvas_envelope.proofs.Seen.{group_place, chord_place}
-use Rattle.canvas_export.specs.Signatures.{Naming, task_id, group_id, index_wire}
-use Rattle.canvas_export.specs.Envelope.{place_headers, parent_id}
-use Rattle.canvas_export.specs.steps.Tokens.{header_place}
-use Rattle.canvas_export.specs.steps.Elements.{group_options}
+use Rattle.canvas_celery.specs.Signatures.{Naming, task_id, group_id, index_wire}
+use Rattle.canvas_celery.specs.Envelope.{place_headers, parent_id}
+use Rattle.canvas_celery.specs.steps.Tokens.{header_place}
+use Rattle.canvas_celery.specs.steps.Elements.{group_options}
 
 pub appends_as : {E : Type 0} (r : Result (Unit {0}) E) (old new : Written) (ts us : List Token) → ts ≡ us → Appends r old new ts → Appends r old new us
 appends_as (Ok x) old new ts us same h = (h.0 ∙ ap (λ xs. old.tokens ++ xs) same, h.1)

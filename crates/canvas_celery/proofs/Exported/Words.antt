@@ -4,8 +4,8 @@ use Rattle.std.proofs.lemmas.List.{get_or_default}
 use Rattle.std.specs.Prelude.{Result, Ok, Err, OnOk, codes}
 use Rattle.canvas_task.specs.Text.{Text}
 use Rattle.canvas_task.proofs.Turns.{put_on}
-use Rattle.canvas_export.specs.Resp.{header_bytes, word_bytes, words_bytes, command_bytes}
-use Rattle.canvas_export.specs.Script.{database_words}
+use Rattle.canvas_celery.specs.Resp.{header_bytes, word_bytes, words_bytes, command_bytes}
+use Rattle.canvas_celery.specs.Script.{database_words}
 
 pub words-append : (us vs : List Text) → words_bytes (us ++ vs) ≡ words_bytes us ++ words_bytes vs
 words-append [] vs = refl

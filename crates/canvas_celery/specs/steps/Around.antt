@@ -1,11 +1,11 @@
 -- The bytes of a start's commands before the texts of its messages, and after them.
 use Rattle.std.specs.Prelude.{◌≡◌, ℕ, List, ◌++◌, length, map}
 use Rattle.canvas_task.specs.Text.{Text}
-use Rattle.canvas_export.specs.Envelope.{message_text}
-use Rattle.canvas_export.specs.Resp.{resp, words_bytes}
-use Rattle.canvas_export.specs.Signatures.{Naming}
-use Rattle.canvas_export.specs.declared.around.Around.{Around}
-use Rattle.canvas_export.specs.declared.parts.Parts.{Parts}
+use Rattle.canvas_celery.specs.Envelope.{message_text}
+use Rattle.canvas_celery.specs.Resp.{resp, words_bytes}
+use Rattle.canvas_celery.specs.Signatures.{Naming}
+use Rattle.canvas_celery.specs.declared.commands.around.Around.{Around}
+use Rattle.canvas_celery.specs.declared.commands.parts.Parts.{Parts}
 
 abbrev pub around_texts : Around → (texts : List Text) → Text
 around_texts a texts = a.front.items ++ (words_bytes texts ++ a.back.items)

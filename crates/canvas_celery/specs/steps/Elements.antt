@@ -7,7 +7,7 @@ use Rattle.canvas_semantics.specs.PlacedLine.{PTask, PPlace, p_nowhere, p_group,
 use Rattle.canvas_wire.specs.Writing.{args_wire, kwargs_wire}
 use Rattle.canvas_wire.specs.steps.Tokens.{data_tokens, rest_members, call_tokens, kind_tokens, name_tokens}
 use Rattle.canvas_writing.specs.steps.Tokens.{named_tokens}
-use Rattle.canvas_export.specs.Signatures.{Naming, group_id, index_wire, Sig, sig_wire, task_sig, elements, carried_wire}
+use Rattle.canvas_celery.specs.Signatures.{Naming, group_id, index_wire, Sig, sig_wire, task_sig, elements, carried_wire}
 
 -- ---- one signature
 

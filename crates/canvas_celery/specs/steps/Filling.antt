@@ -5,7 +5,7 @@ use Rattle.json.specs.Token.{Token, string, bad}
 use Rattle.json.specs.Tree.{json_tokens, HasNumbers}
 use Rattle.json.specs.Written.{Written}
 use Rattle.canvas_task.specs.Text.{Text}
-use Rattle.canvas_export.specs.Places.{is_marked, told_by}
+use Rattle.canvas_celery.specs.Places.{is_marked, told_by}
 
 abbrev pub text_filled : List Json → Text → Option (List Token)
 text_filled vs s = option_map json_tokens (told_by vs s)

@@ -6,10 +6,10 @@ use Rattle.canvas_task.specs.Numbers.{in_range}
 use Rattle.canvas_task.specs.Printed.{kind_name}
 use Rattle.canvas_task.specs.declared.outcome.Kind.{Kind}
 use Rattle.canvas_task.specs.declared.outcome.Why.{Why}
-use Rattle.canvas_collect.specs.declared.stored.Lack.{Lack}
-use Rattle.canvas_collect.specs.declared.stored.Lack.TheVariants as lack
-use Rattle.canvas_collect.specs.Stored.{state_of, result_of, class_of, message_of, integer_in}
-use Rattle.canvas_collect.specs.Stored.{Blames, Waits}
+use Rattle.canvas_celery.specs.declared.results.stored.Lack.{Lack}
+use Rattle.canvas_celery.specs.declared.results.stored.Lack.TheVariants as lack
+use Rattle.canvas_celery.specs.Stored.{state_of, result_of, class_of, message_of, integer_in}
+use Rattle.canvas_celery.specs.Stored.{Blames, Waits}
 
 -- the reasons for an exception
 abbrev pub LacksFault : (run : Text) → (count : ℕ) → Data → Lack → Type 0

@@ -2,8 +2,8 @@
 use Rattle.std.specs.Prelude.{◌≡◌, None}
 use Rattle.canvas_task.specs.Text.{Text}
 use Rattle.canvas_values.specs.CanvasText.{json_of}
-use Rattle.canvas_collect.specs.declared.stored.StoredFault.{StoredFault}
-use Rattle.canvas_collect.specs.declared.stored.StoredFault.TheVariants.{NotJson, Memory}
+use Rattle.canvas_celery.specs.declared.results.stored.StoredFault.{StoredFault}
+use Rattle.canvas_celery.specs.declared.results.stored.StoredFault.TheVariants.{NotJson, Memory}
 
 -- it is not JSON, or memory was refused
 abbrev pub IsUnread : Text → StoredFault → Type 0

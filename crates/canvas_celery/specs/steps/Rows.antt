@@ -2,15 +2,15 @@
 use Rattle.std.specs.Prelude.{◌≡◌, ◌≢◌, ℕ, List, [], ◌∷◌, ◌++◌, length, string_bytes}
 use Rattle.serde_json.specs.Data.{Data}
 use Rattle.canvas_task.specs.Text.{Text}
-use Rattle.canvas_collect.specs.declared.collecting.CollectFault.{CollectFault}
-use Rattle.canvas_collect.specs.declared.collecting.CollectFault.TheVariants as fault
+use Rattle.canvas_celery.specs.declared.results.collecting.CollectFault.{CollectFault}
+use Rattle.canvas_celery.specs.declared.results.collecting.CollectFault.TheVariants as fault
 use Rattle.canvas_report.specs.declared.row.Row.{Row}
 use Rattle.canvas_report.specs.declared.row.Row.TheVariants.{Value, Raised, Blamed}
-use Rattle.canvas_collect.specs.declared.stored.StoredFault.{StoredFault}
-use Rattle.canvas_collect.specs.declared.stored.StoredFault.TheVariants as stored
-use Rattle.canvas_collect.specs.Pieces.{lines_in}
-use Rattle.canvas_collect.specs.AsStored.{IsJsonOf, IsRaised, IsBlamed, Says, AllSaid}
-use Rattle.canvas_collect.specs.Refused.{RefusesResult, Refuses}
+use Rattle.canvas_celery.specs.declared.results.stored.StoredFault.{StoredFault}
+use Rattle.canvas_celery.specs.declared.results.stored.StoredFault.TheVariants as stored
+use Rattle.canvas_celery.specs.Pieces.{lines_in}
+use Rattle.canvas_celery.specs.AsStored.{IsJsonOf, IsRaised, IsBlamed, Says, AllSaid}
+use Rattle.canvas_celery.specs.Refused.{RefusesResult, Refuses}
 
 -- memory is refused
 abbrev pub IsRefused : StoredFault → Type 0

@@ -4,7 +4,7 @@ use Rattle.json.specs.Token.{Token}
 use Rattle.serde_json.specs.Data.{null}
 use Rattle.canvas_semantics.specs.PlacedLine.{PPlace, p_nowhere, p_group, p_chord}
 use Rattle.canvas_writing.specs.steps.Tokens.{named_tokens}
-use Rattle.canvas_export.specs.Signatures.{Naming, group_id, index_wire}
+use Rattle.canvas_celery.specs.Signatures.{Naming, group_id, index_wire}
 
 -- the members `group` and `group_index`
 abbrev pub header_place : Naming → ℕ → PPlace → List Token

@@ -2,19 +2,19 @@
 
 ghost use Rattle.std.specs.Prelude.{ℕ, List, ◌≡◌, ◌+◌, ◌++◌, ◌∷◌, [], OnOk, IfOk, Some, None, map, codes, decimal, length};
 ghost use Rattle.canvas_task.specs.Text.{Text};
-ghost use Rattle.canvas_export.specs.Resp.{command_bytes, word_bytes, words_bytes};
+ghost use Rattle.canvas_celery.specs.Resp.{command_bytes, word_bytes, words_bytes};
 ghost use Rattle.canvas_celery.specs.Keys.{size_key, marker_key};
-ghost use Rattle.canvas_export.specs.Script.{script, database_words, script_command};
-ghost use Rattle.canvas_export.specs.steps.Around.{Surrounds};
-ghost use Rattle.canvas_export.specs.steps.Sizes.{size_view};
-ghost use Rattle.canvas_export.specs.steps.Words.{database_word};
-ghost use Rattle.canvas_export.specs.ExportView.{setting};
+ghost use Rattle.canvas_celery.specs.Script.{script, database_words, script_command};
+ghost use Rattle.canvas_celery.specs.steps.Around.{Surrounds};
+ghost use Rattle.canvas_celery.specs.steps.Sizes.{size_view};
+ghost use Rattle.canvas_celery.specs.steps.Words.{database_word};
+ghost use Rattle.canvas_celery.specs.ExportView.{setting};
 
-use crate::Target;
-use crate::around::Around;
-use crate::resp::{begin_command, push_number, push_word};
-use crate::starting::Size;
-use canvas_celery::{Run, marker_key, size_key};
+use crate::commands::Target;
+use crate::commands::around::Around;
+use crate::commands::resp::{begin_command, push_number, push_word};
+use crate::commands::starting::Size;
+use crate::{Run, marker_key, size_key};
 use canvas_envelope::Message;
 use std::alloc::{AllocError, Global};
 

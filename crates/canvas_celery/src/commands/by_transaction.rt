@@ -2,17 +2,17 @@
 
 ghost use Rattle.std.specs.Prelude.{◌≡◌, ◌++◌, ◌∷◌, [], List, OnOk, IfOk, length, map, string_bytes, codes};
 ghost use Rattle.canvas_task.specs.Text.{Text};
-ghost use Rattle.canvas_export.specs.Resp.{command_bytes, words_bytes, resp};
-ghost use Rattle.canvas_export.specs.Transaction.{size_command, select, select_backend, select_broker, sizes_between, transaction};
-ghost use Rattle.canvas_export.specs.steps.Around.{Surrounds};
-ghost use Rattle.canvas_export.specs.steps.Sizes.{size_view};
-ghost use Rattle.canvas_export.specs.ExportView.{setting};
+ghost use Rattle.canvas_celery.specs.Resp.{command_bytes, words_bytes, resp};
+ghost use Rattle.canvas_celery.specs.Transaction.{size_command, select, select_backend, select_broker, sizes_between, transaction};
+ghost use Rattle.canvas_celery.specs.steps.Around.{Surrounds};
+ghost use Rattle.canvas_celery.specs.steps.Sizes.{size_view};
+ghost use Rattle.canvas_celery.specs.ExportView.{setting};
 
-use crate::Target;
-use crate::around::Around;
-use crate::resp::{begin_command, decimal_of, push_command, push_word};
-use crate::starting::Size;
-use canvas_celery::{Run, size_key};
+use crate::commands::Target;
+use crate::commands::around::Around;
+use crate::commands::resp::{begin_command, decimal_of, push_command, push_word};
+use crate::commands::starting::Size;
+use crate::{Run, size_key};
 use canvas_envelope::Message;
 use std::alloc::{AllocError, Global};
 

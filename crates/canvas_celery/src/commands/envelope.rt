@@ -8,12 +8,14 @@ ghost use Rattle.serde_json.specs.Written.{compact_text};
 ghost use Rattle.canvas_wire.specs.steps.Tokens.{Appends, data_tokens};
 ghost use Rattle.canvas_envelope.specs.Fits.{fits};
 ghost use Rattle.canvas_writing.specs.steps.Tokens.{named_tokens};
-ghost use Rattle.canvas_export.specs.Envelope.{delivery_wire, properties_wire, envelope_wire, message_text};
-ghost use Rattle.canvas_export.specs.MessageReading.{IsSound, read_message};
-ghost use Rattle.canvas_export.specs.Sizeless.{sizeless};
-ghost use Rattle.canvas_export.specs.ExportView.{naming};
+ghost use Rattle.canvas_celery.specs.Envelope.{delivery_wire, properties_wire, envelope_wire, message_text};
+ghost use Rattle.canvas_celery.specs.MessageReading.{IsSound, read_message};
+ghost use Rattle.canvas_celery.specs.Sizeless.{sizeless};
+ghost use Rattle.canvas_celery.specs.ExportView.{naming};
 
-use crate::write::{Names, body_of, write_headers, write_number, write_task_member, write_text};
+use crate::commands::write::{
+    Names, body_of, write_headers, write_number, write_task_member, write_text,
+};
 use base64::engine::general_purpose::STANDARD;
 use canvas_envelope::Message;
 use canvas_task::TaskNo;

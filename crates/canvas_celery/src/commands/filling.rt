@@ -10,10 +10,10 @@ ghost use Rattle.json.specs.Reads.{token_of};
 ghost use Rattle.json.specs.Token.{Token as SpecToken};
 ghost use Rattle.json.specs.Tree.{HasNumbers};
 ghost use Rattle.json.specs.Value.{value_view};
-ghost use Rattle.canvas_export.specs.Places.{is_marked, value_at};
-ghost use Rattle.canvas_export.specs.steps.Filling.{AreGood, Fills, HaveNumbers, text_filled, token_filled, tokens_filled};
+ghost use Rattle.canvas_celery.specs.Places.{is_marked, value_at};
+ghost use Rattle.canvas_celery.specs.steps.Filling.{AreGood, Fills, HaveNumbers, text_filled, token_filled, tokens_filled};
 
-use crate::FillFault;
+use crate::commands::FillFault;
 use itoa::Buffer;
 use json::{Reader, Scratch, Token, Value, Writer};
 use std::alloc::Global;

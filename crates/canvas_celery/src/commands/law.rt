@@ -8,15 +8,15 @@ ghost use Rattle.canvas_semantics.specs.Line.{Line};
 ghost use Rattle.canvas_rewrite.specs.Planned.{IsPlan};
 ghost use Rattle.canvas_envelope.specs.Content.{Content};
 ghost use Rattle.canvas_envelope.specs.Fits.{fits};
-ghost use Rattle.canvas_export.specs.Resp.{resp};
-ghost use Rattle.canvas_export.specs.Reading.{read};
-ghost use Rattle.canvas_export.specs.Envelope.{body_wire, message_text};
-ghost use Rattle.canvas_export.specs.MessageReading.{read_message};
-ghost use Rattle.canvas_export.specs.ExportReading.{AreNamed, read_export, started};
-ghost use Rattle.canvas_export.specs.Setting.{Setting};
-ghost use Rattle.canvas_export.specs.Start.{start};
-ghost use Rattle.canvas_export.specs.Sizeless.{sizeless};
-ghost use Rattle.canvas_export.specs.ExportView.{naming_of};
+ghost use Rattle.canvas_celery.specs.Resp.{resp};
+ghost use Rattle.canvas_celery.specs.Reading.{read};
+ghost use Rattle.canvas_celery.specs.Envelope.{body_wire, message_text};
+ghost use Rattle.canvas_celery.specs.MessageReading.{read_message};
+ghost use Rattle.canvas_celery.specs.ExportReading.{AreNamed, read_export, started};
+ghost use Rattle.canvas_celery.specs.Setting.{Setting};
+ghost use Rattle.canvas_celery.specs.Start.{start};
+ghost use Rattle.canvas_celery.specs.Sizeless.{sizeless};
+ghost use Rattle.canvas_celery.specs.ExportView.{naming_of};
 
 /// States that commands read back from their bytes, if these are fewer than 2^64, and that only
 /// their bytes read as commands.

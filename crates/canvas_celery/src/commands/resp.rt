@@ -1,7 +1,7 @@
 //! Commands in the Redis serialization protocol: arrays of bulk strings.
 
 ghost use Rattle.std.specs.Prelude.{◌≡◌, ◌++◌, OnOk, IfOk, codes, map, decimal, string_bytes};
-ghost use Rattle.canvas_export.specs.Resp.{header_bytes, word_bytes, words_bytes, command_bytes};
+ghost use Rattle.canvas_celery.specs.Resp.{header_bytes, word_bytes, words_bytes, command_bytes};
 
 use std::alloc::{AllocError, Global};
 

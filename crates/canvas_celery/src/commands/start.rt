@@ -4,16 +4,16 @@ ghost use Rattle.std.specs.Prelude.{◌≡◌, IfOk, OnOk, map};
 ghost use Rattle.std.specs.Io.KnownBytes.{Appends};
 ghost use Rattle.canvas_semantics.specs.PlacedLine.{bare};
 ghost use Rattle.canvas_effects.specs.Effects.{first_messages};
-ghost use Rattle.canvas_export.specs.Resp.{resp};
-ghost use Rattle.canvas_export.specs.Starting.{starting};
-ghost use Rattle.canvas_export.specs.Start.{start};
-ghost use Rattle.canvas_export.specs.ExportView.{setting, naming_of};
-ghost use Rattle.canvas_export.specs.Envelope.{message_text};
+ghost use Rattle.canvas_celery.specs.Resp.{resp};
+ghost use Rattle.canvas_celery.specs.Starting.{starting};
+ghost use Rattle.canvas_celery.specs.Start.{start};
+ghost use Rattle.canvas_celery.specs.ExportView.{setting, naming_of};
+ghost use Rattle.canvas_celery.specs.Envelope.{message_text};
 
-use crate::Target;
-use crate::parts::Parts;
-use crate::write::Names;
-use canvas_celery::Run;
+use crate::Run;
+use crate::commands::Target;
+use crate::commands::parts::Parts;
+use crate::commands::write::Names;
 use canvas_rewrite::Plan;
 use canvas_task::Memory;
 use std::alloc::Global;
@@ -34,8 +34,8 @@ pub struct Start {
 impl Model for Start {
     ghost use Rattle.std.specs.Prelude.{List, ℕ, string_bytes};
     ghost use Rattle.std.specs.Coded.{coded_list, coded_ℕ};
-    ghost use Rattle.canvas_export.specs.ExportView.{naming_of};
-    ghost use Rattle.canvas_export.specs.steps.Around.{parts_bytes};
+    ghost use Rattle.canvas_celery.specs.ExportView.{naming_of};
+    ghost use Rattle.canvas_celery.specs.steps.Around.{parts_bytes};
 
     ghost Value = { List ℕ };
 

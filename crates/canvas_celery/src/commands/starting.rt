@@ -2,8 +2,8 @@
 
 ghost use Rattle.std.specs.Prelude.{◌≡◌, ◌++◌, OnOk, map};
 ghost use Rattle.canvas_rewrite.specs.FrozenView.{p_line_view, p_end_view, p_lines_of};
-ghost use Rattle.canvas_export.specs.Starting.{starting, all_starting};
-ghost use Rattle.canvas_export.specs.steps.Sizes.{size_view};
+ghost use Rattle.canvas_celery.specs.Starting.{starting, all_starting};
+ghost use Rattle.canvas_celery.specs.steps.Sizes.{size_view};
 
 use canvas_rewrite::{FrozenEnd, FrozenLine};
 use canvas_task::GroupNo;

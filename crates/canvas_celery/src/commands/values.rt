@@ -5,10 +5,10 @@ ghost use Rattle.std.specs.Str.{IsUtf8};
 ghost use Rattle.json.specs.Json.{document};
 ghost use Rattle.json.specs.Tree.{HasNumbers};
 ghost use Rattle.json.specs.Value.{value_view};
-ghost use Rattle.canvas_export.specs.Values.{AreValues, items_of};
-ghost use Rattle.canvas_export.specs.steps.Filling.{HaveNumbers};
+ghost use Rattle.canvas_celery.specs.Values.{AreValues, items_of};
+ghost use Rattle.canvas_celery.specs.steps.Filling.{HaveNumbers};
 
-use crate::FillFault;
+use crate::commands::FillFault;
 use json::{Error, Scratch, Value};
 use std::alloc::Global;
 

@@ -3,15 +3,15 @@
 
 ghost use Rattle.std.specs.Prelude.{◌≡◌, [], length, IfOk, IfErr, OnOk};
 ghost use Rattle.canvas_semantics.specs.Line.{count_line};
-ghost use Rattle.canvas_collect.specs.Pieces.{lines_in};
-ghost use Rattle.canvas_collect.specs.AsStored.{AllSaid};
-ghost use Rattle.canvas_collect.specs.Refused.{IsCollectFault};
-ghost use Rattle.canvas_collect.specs.steps.Rows.{Gains, RowFault};
+ghost use Rattle.canvas_celery.specs.Pieces.{lines_in};
+ghost use Rattle.canvas_celery.specs.AsStored.{AllSaid};
+ghost use Rattle.canvas_celery.specs.Refused.{IsCollectFault};
+ghost use Rattle.canvas_celery.specs.steps.Rows.{Gains, RowFault};
 
-use crate::pieces::{count_lines, split_line};
-use crate::showing::read_row;
-use crate::stored::StoredFault;
-use canvas_celery::Run;
+use crate::Run;
+use crate::results::pieces::{count_lines, split_line};
+use crate::results::showing::read_row;
+use crate::results::stored::StoredFault;
 use canvas_report::Row;
 use canvas_rewrite::Plan;
 use canvas_task::TaskNo;

@@ -14,13 +14,13 @@ ghost use Rattle.canvas_semantics.specs.Evaluation.{State, why_of};
 ghost use Rattle.canvas_semantics.specs.Line.{Line, step, members};
 ghost use Rattle.canvas_rewrite.specs.FrozenView.{task_in, line_in, end_in, lines_of, steps_onto};
 ghost use Rattle.canvas_report.specs.declared.row.Row.TheVariants.{Known};
-ghost use Rattle.canvas_collect.specs.Completed.{Completes};
-ghost use Rattle.canvas_collect.specs.Completing.{passed, after, same_failure, chord_failure, put, reached};
-ghost use Rattle.canvas_collect.specs.Completing.{gathered_on, gathered_from, into_body, completed, all_completed, plan_completed};
-ghost use Rattle.canvas_collect.specs.Filled.{pending, IsFilling, AreFilled};
-ghost use Rattle.canvas_collect.specs.Looks.{Look, look, looks, look_at};
-ghost use Rattle.canvas_collect.specs.declared.completing.Flow.TheVariants.{Value, Skip};
-ghost use Rattle.canvas_collect.specs.steps.Asked.{look_of};
+ghost use Rattle.canvas_celery.specs.Completed.{Completes};
+ghost use Rattle.canvas_celery.specs.Completing.{passed, after, same_failure, chord_failure, put, reached};
+ghost use Rattle.canvas_celery.specs.Completing.{gathered_on, gathered_from, into_body, completed, all_completed, plan_completed};
+ghost use Rattle.canvas_celery.specs.FilledRows.{pending, IsFilling, AreFilled};
+ghost use Rattle.canvas_celery.specs.Looks.{Look, look, looks, look_at};
+ghost use Rattle.canvas_celery.specs.declared.results.completing.Flow.TheVariants.{Value, Skip};
+ghost use Rattle.canvas_celery.specs.steps.Asked.{look_of};
 
 use canvas_report::Row;
 use canvas_rewrite::{FrozenEnd, FrozenLine, FrozenTask, Plan};
@@ -164,7 +164,7 @@ fn is_open(rows: &[Row], task: TaskNo) -> bool
 }
 
 /// Replaces the row of a task that is pending.
-#[tactic(auto, using(crate::proofs::FilledRows::filled))]
+#[tactic(auto, using(crate::proofs::Collected::FilledRows::filled))]
 fn put_row(rows: &mut [Row], task: TaskNo, row: Row)
     requires there { task - 1 < length rows.now }
     requires open { get_or rows.now (task - 1) pending ≡ pending }
@@ -176,7 +176,7 @@ fn put_row(rows: &mut [Row], task: TaskNo, row: Row)
 }
 
 /// Gives a task into which this flows its failure, if its row is pending.
-#[tactic(auto, using(crate::proofs::FilledRows::filled))]
+#[tactic(auto, using(crate::proofs::Collected::FilledRows::filled))]
 fn fill(rows: &mut [Row], task: TaskNo, flow: &Flow) -> Result<(), AllocError>
     ensures filled { AreFilled rows.old rows.new }
     ensures reached { OnOk result (looks rows.new ≡ reached flow.now task (looks rows.old)) }
@@ -212,7 +212,7 @@ fn behind(rows: &[Row], task: TaskNo, flow: &Flow) -> Flow
 }
 
 /// Fills the row of a task into which this flows. Returns the flow out of it.
-#[tactic(auto, using(crate::proofs::FilledRows::filled))]
+#[tactic(auto, using(crate::proofs::Collected::FilledRows::filled))]
 fn complete_task(rows: &mut [Row], task: &FrozenTask, flow: &Flow) -> Result<Flow, AllocError>
     ensures filled { AreFilled rows.old rows.new }
     ensures completed { IfOk result (λ next. (table : ℕ → List ℕ) (rest : Line)
@@ -226,7 +226,7 @@ fn complete_task(rows: &mut [Row], task: &FrozenTask, flow: &Flow) -> Result<Flo
 }
 
 /// Fills the rows of some tasks. Returns the flow after them.
-#[tactic(auto, using(crate::proofs::FilledRows::filled))]
+#[tactic(auto, using(crate::proofs::Collected::FilledRows::filled))]
 fn complete_tasks(rows: &mut [Row], tasks: &[FrozenTask], flow: Flow) -> Result<Flow, AllocError>
     ensures filled { AreFilled rows.old rows.new }
     ensures completed { IfOk result (λ last. (table : ℕ → List ℕ) (rest : Line)
@@ -294,7 +294,7 @@ fn header_flow(plan: &Plan, rows: &[Row], group: GroupNo, flow: &Flow) -> Flow
 }
 
 #[cycle(lines)]
-#[tactic(auto, using(crate::proofs::FilledRows::filled))]
+#[tactic(auto, using(crate::proofs::Collected::FilledRows::filled))]
 fn complete_all(
     plan: &Plan,
     rows: &mut [Row],
@@ -312,7 +312,7 @@ fn complete_all(
 }
 
 #[cycle(lines)]
-#[tactic(auto, using(crate::proofs::FilledRows::filled))]
+#[tactic(auto, using(crate::proofs::Collected::FilledRows::filled))]
 fn complete_end(
     plan: &Plan,
     rows: &mut [Row],
@@ -334,7 +334,7 @@ fn complete_end(
 }
 
 #[cycle(lines)]
-#[tactic(auto, using(crate::proofs::FilledRows::filled))]
+#[tactic(auto, using(crate::proofs::Collected::FilledRows::filled))]
 fn complete_line(
     plan: &Plan,
     rows: &mut [Row],
@@ -356,7 +356,7 @@ fn complete_line(
 /// body of a chord a ChordError that names the first member that failed, with its class. For
 /// outcomes that the engine's own tasks have, these are what evaluating the canvas gives, if each
 /// task that was called has its row. If memory is refused, some rows may be filled.
-#[tactic(auto, using(crate::proofs::FilledRows::filled))]
+#[tactic(auto, using(crate::proofs::Collected::FilledRows::filled))]
 pub fn complete(plan: &Plan, rows: &mut [Row]) -> Result<(), Memory>
     ensures filled { AreFilled rows.old rows.new }
     ensures completed { OnOk result (looks rows.new ≡ plan_completed plan.now (looks rows.old)) }

@@ -6,9 +6,9 @@ ghost use Rattle.uuid.specs.Text.{hex_digit, lower};
 ghost use Rattle.canvas_task.specs.Text.{Text};
 ghost use Rattle.canvas_semantics.specs.Line.{count_line};
 ghost use Rattle.canvas_celery.specs.Run.{run_task};
-ghost use Rattle.canvas_collect.specs.steps.Digits.{number_digits};
+ghost use Rattle.canvas_celery.specs.steps.Digits.{number_digits};
 
-use canvas_celery::Run;
+use crate::Run;
 use canvas_rewrite::Plan;
 use canvas_task::TaskNo;
 

@@ -2,7 +2,7 @@
 
 ghost use Rattle.std.specs.Prelude.{◌≡◌, ◌==◌, ◌<◌, ◌∷◌, length};
 ghost use Rattle.std.specs.List.{position_or_len, before_first, after_first};
-ghost use Rattle.canvas_collect.specs.Pieces.{lines_in};
+ghost use Rattle.canvas_celery.specs.Pieces.{lines_in};
 
 /// Returns the index of the first such byte, or the text's length.
 fn place_of(text: &[u8], byte: u8) -> usize

@@ -5,16 +5,18 @@ ghost use Rattle.serde_json.specs.Data.{depth};
 ghost use Rattle.serde_json.specs.Read.{max_depth};
 ghost use Rattle.serde_json.specs.View.{view};
 ghost use Rattle.canvas_semantics.specs.Line.{count_line};
-ghost use Rattle.canvas_collect.specs.Stored.{class_of, message_of};
-ghost use Rattle.canvas_collect.specs.declared.stored.Lack.TheVariants as lack;
-ghost use Rattle.canvas_collect.specs.steps.Lacking.{LacksFault, LacksOutcome};
-ghost use Rattle.canvas_collect.specs.AsStored.{IsJsonOf, IsRow, Says};
-ghost use Rattle.canvas_collect.specs.steps.Found.{value_at};
-ghost use Rattle.canvas_collect.specs.steps.Rows.{IsRefused, HasJson, HasClass, HasBlame, LacksClass};
-ghost use Rattle.canvas_collect.specs.steps.Rows.{IsChordRow, ResultFault, LineFault};
+ghost use Rattle.canvas_celery.specs.Stored.{class_of, message_of};
+ghost use Rattle.canvas_celery.specs.declared.results.stored.Lack.TheVariants as lack;
+ghost use Rattle.canvas_celery.specs.steps.Lacking.{LacksFault, LacksOutcome};
+ghost use Rattle.canvas_celery.specs.AsStored.{IsJsonOf, IsRow, Says};
+ghost use Rattle.canvas_celery.specs.steps.Found.{value_at};
+ghost use Rattle.canvas_celery.specs.steps.Rows.{IsRefused, HasJson, HasClass, HasBlame, LacksClass};
+ghost use Rattle.canvas_celery.specs.steps.Rows.{IsChordRow, ResultFault, LineFault};
 
-use crate::stored::{Lack, StoredFault, blame_in, is_of, message_in, outcome_of, parsed, text_in};
-use canvas_celery::Run;
+use crate::Run;
+use crate::results::stored::{
+    Lack, StoredFault, blame_in, is_of, message_in, outcome_of, parsed, text_in,
+};
 use canvas_report::Row;
 use canvas_rewrite::Plan;
 use canvas_task::TaskNo;

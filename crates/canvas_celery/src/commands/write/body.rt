@@ -13,9 +13,9 @@ ghost use Rattle.canvas_envelope.specs.MessageView.{place_seen, rest_seen};
 ghost use Rattle.canvas_envelope.specs.Wire.{list_or_null};
 ghost use Rattle.canvas_envelope.specs.steps.Parts.{is_stop};
 ghost use Rattle.canvas_writing.specs.steps.Tokens.{named_tokens};
-ghost use Rattle.canvas_export.specs.Signatures.{tasks_wire, each_wire, elements, body_at};
-ghost use Rattle.canvas_export.specs.Envelope.{embed_wire, body_wire};
-ghost use Rattle.canvas_export.specs.ExportView.{naming};
+ghost use Rattle.canvas_celery.specs.Signatures.{tasks_wire, each_wire, elements, body_at};
+ghost use Rattle.canvas_celery.specs.Envelope.{embed_wire, body_wire};
+ghost use Rattle.canvas_celery.specs.ExportView.{naming};
 
 use super::frozen::{write_carried, write_reversed, write_tail_backwards, write_tasks};
 use super::names::Names;

@@ -1,7 +1,7 @@
 use Rattle.std.proofs.Common.{[], ◌∷◌}
-use Rattle.canvas_export.specs.steps.Words.{database_word}
-use Rattle.canvas_export.proofs.Words.{first_word, last_word}
-use Rattle.canvas_export.proofs.by_script.push_databases.Goals as goal
+use Rattle.canvas_celery.specs.steps.Words.{database_word}
+use Rattle.canvas_celery.proofs.Exported.Words.{first_word, last_word}
+use Rattle.canvas_celery.proofs.commands.by_script.push_databases.Goals as goal
 
 pub returns : goal.returns
 returns c =

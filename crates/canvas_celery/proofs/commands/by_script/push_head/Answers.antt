@@ -1,9 +1,9 @@
 use Rattle.std.proofs.Common.{◌∙◌, ◌+◌, [], ◌∷◌, codes, length}
 use Rattle.std.specs.Prelude.{decimal}
-use Rattle.canvas_export.specs.Script.{script}
+use Rattle.canvas_celery.specs.Script.{script}
 use Rattle.canvas_celery.specs.Keys.{marker_key}
-use Rattle.canvas_export.proofs.Words.{first_word, then_word, last_word, word_as, ok_word_as}
-use Rattle.canvas_export.proofs.by_script.push_head.Goals as goal
+use Rattle.canvas_celery.proofs.Exported.Words.{first_word, then_word, last_word, word_as, ok_word_as}
+use Rattle.canvas_celery.proofs.commands.by_script.push_head.Goals as goal
 
 pub returns : goal.returns
 returns c =

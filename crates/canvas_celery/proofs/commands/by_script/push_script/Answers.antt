@@ -1,13 +1,13 @@
 use Rattle.std.proofs.Common.{◌≡◌, ◌∙◌, refl, ap, sym, [], ◌∷◌, ◌+◌, ◌++◌, codes, length, map, List, ℕ}
 use Rattle.std.specs.Prelude.{decimal}
 use Rattle.canvas_task.specs.Text.{Text}
-use Rattle.canvas_export.specs.Resp.{command_bytes, word_bytes, words_bytes}
-use Rattle.canvas_export.specs.Script.{script, database_words}
+use Rattle.canvas_celery.specs.Resp.{command_bytes, word_bytes, words_bytes}
+use Rattle.canvas_celery.specs.Script.{script, database_words}
 use Rattle.canvas_celery.specs.Keys.{marker_key, size_key}
-use Rattle.canvas_export.specs.steps.Sizes.{size_view}
-use Rattle.canvas_export.proofs.Pieces.{maps, ok_then}
-use Rattle.canvas_export.proofs.Words.{then_words, before_texts, command_of, counted_all, in_order, length-map, three_settings}
-use Rattle.canvas_export.proofs.by_script.push_script.Goals as goal
+use Rattle.canvas_celery.specs.steps.Sizes.{size_view}
+use Rattle.canvas_celery.proofs.Exported.Pieces.{maps, ok_then}
+use Rattle.canvas_celery.proofs.Exported.Words.{then_words, before_texts, command_of, counted_all, in_order, length-map, three_settings}
+use Rattle.canvas_celery.proofs.commands.by_script.push_script.Goals as goal
 
 pub returns : goal.returns
 returns c =

@@ -1,8 +1,8 @@
 use Rattle.std.proofs.Common.{arith, sym}
 use Rattle.canvas_celery.specs.Keys.{size_key}
-use Rattle.canvas_export.specs.steps.Sizes.{size_view}
-use Rattle.canvas_export.proofs.Words.{next_word}
-use Rattle.canvas_export.proofs.by_script.push_size_keys.Goals as goal
+use Rattle.canvas_celery.specs.steps.Sizes.{size_view}
+use Rattle.canvas_celery.proofs.Exported.Words.{next_word}
+use Rattle.canvas_celery.proofs.commands.by_script.push_size_keys.Goals as goal
 
 pub loop-size-preserved : goal.loop-size-preserved
 loop-size-preserved c =

@@ -1,8 +1,8 @@
 use Rattle.std.proofs.Common.{◌≡◌, ◌++◌, map, drop}
-use Rattle.canvas_export.specs.Resp.{words_bytes}
+use Rattle.canvas_celery.specs.Resp.{words_bytes}
 use Rattle.canvas_celery.specs.Keys.{size_key}
-use Rattle.canvas_export.specs.steps.Sizes.{size_view}
-use Rattle.canvas_export.proofs.by_script.push_size_keys.Given as goal
+use Rattle.canvas_celery.specs.steps.Sizes.{size_view}
+use Rattle.canvas_celery.proofs.commands.by_script.push_size_keys.Given as goal
 
 abbrev pub invariant-loop-size : goal.invariant-loop-size
 invariant-loop-size l =

@@ -1,8 +1,8 @@
 use Rattle.std.proofs.Common.{arith, sym}
-use Rattle.canvas_export.specs.Transaction.{size_command}
-use Rattle.canvas_export.specs.steps.Sizes.{size_view}
-use Rattle.canvas_export.proofs.Pieces.{next_command}
-use Rattle.canvas_export.proofs.by_transaction.push_size_commands.Goals as goal
+use Rattle.canvas_celery.specs.Transaction.{size_command}
+use Rattle.canvas_celery.specs.steps.Sizes.{size_view}
+use Rattle.canvas_celery.proofs.Exported.Pieces.{next_command}
+use Rattle.canvas_celery.proofs.commands.by_transaction.push_size_commands.Goals as goal
 
 pub loop-size-preserved : goal.loop-size-preserved
 loop-size-preserved c =

@@ -1,8 +1,8 @@
 use Rattle.std.proofs.Common.{◌≡◌, ◌++◌, map, drop}
-use Rattle.canvas_export.specs.Resp.{resp}
-use Rattle.canvas_export.specs.Transaction.{size_command}
-use Rattle.canvas_export.specs.steps.Sizes.{size_view}
-use Rattle.canvas_export.proofs.by_transaction.push_size_commands.Given as goal
+use Rattle.canvas_celery.specs.Resp.{resp}
+use Rattle.canvas_celery.specs.Transaction.{size_command}
+use Rattle.canvas_celery.specs.steps.Sizes.{size_view}
+use Rattle.canvas_celery.proofs.commands.by_transaction.push_size_commands.Given as goal
 
 abbrev pub invariant-loop-size : goal.invariant-loop-size
 invariant-loop-size l =

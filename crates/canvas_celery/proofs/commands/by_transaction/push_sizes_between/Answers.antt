@@ -1,9 +1,9 @@
 use Rattle.std.proofs.Common.{◌++◌, ◌∙◌, ap, sym, map}
-use Rattle.canvas_export.specs.Resp.{resp}
-use Rattle.canvas_export.specs.Transaction.{size_command, select_backend, select_broker}
-use Rattle.canvas_export.specs.steps.Sizes.{size_view}
-use Rattle.canvas_export.proofs.Pieces.{ok_as, three, maps}
-use Rattle.canvas_export.proofs.by_transaction.push_sizes_between.Goals as goal
+use Rattle.canvas_celery.specs.Resp.{resp}
+use Rattle.canvas_celery.specs.Transaction.{size_command, select_backend, select_broker}
+use Rattle.canvas_celery.specs.steps.Sizes.{size_view}
+use Rattle.canvas_celery.proofs.Exported.Pieces.{ok_as, three, maps}
+use Rattle.canvas_celery.proofs.commands.by_transaction.push_sizes_between.Goals as goal
 
 pub returns : goal.returns
 returns c =

@@ -1,11 +1,11 @@
 use Rattle.std.proofs.Common.{◌≡◌, ◌∙◌, List, [], ◌∷◌, ◌++◌, codes, length, map, sym, refl, append_assoc}
 use Rattle.canvas_task.specs.Text.{Text}
-use Rattle.canvas_export.specs.Resp.{command_bytes, words_bytes, resp}
-use Rattle.canvas_export.specs.Transaction.{sizes_between, transaction}
-use Rattle.canvas_export.specs.ExportView.{setting}
-use Rattle.canvas_export.specs.steps.Sizes.{size_view}
-use Rattle.canvas_export.proofs.Pieces.{ok_then, whole}
-use Rattle.canvas_export.proofs.by_transaction.push_transaction.Goals as goal
+use Rattle.canvas_celery.specs.Resp.{command_bytes, words_bytes, resp}
+use Rattle.canvas_celery.specs.Transaction.{sizes_between, transaction}
+use Rattle.canvas_celery.specs.ExportView.{setting}
+use Rattle.canvas_celery.specs.steps.Sizes.{size_view}
+use Rattle.canvas_celery.proofs.Exported.Pieces.{ok_then, whole}
+use Rattle.canvas_celery.proofs.commands.by_transaction.push_transaction.Goals as goal
 
 pub returns : goal.returns
 returns c =

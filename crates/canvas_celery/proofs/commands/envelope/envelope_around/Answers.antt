@@ -2,10 +2,10 @@ use Rattle.std.proofs.Common.{◌∙◌, refl, ap}
 use Rattle.serde_json.specs.Data.{string}
 use Rattle.serde_json.specs.Written.{compact_text}
 use Rattle.canvas_wire.proofs.Writers.{whole_text}
-use Rattle.canvas_export.specs.Envelope.{envelope_wire}
-use Rattle.canvas_export.specs.ExportView.{naming}
-use Rattle.canvas_export.proofs.MessageBack.{kept_by}
-use Rattle.canvas_export.proofs.envelope.envelope_around.Goals as goal
+use Rattle.canvas_celery.specs.Envelope.{envelope_wire}
+use Rattle.canvas_celery.specs.ExportView.{naming}
+use Rattle.canvas_celery.proofs.Exported.MessageBack.{kept_by}
+use Rattle.canvas_celery.proofs.commands.envelope.envelope_around.Goals as goal
 
 pub returns-clause-text : goal.returns-clause-text
 returns-clause-text c =

@@ -1,7 +1,7 @@
 use Rattle.std.proofs.Common.{◌∙◌}
-use Rattle.canvas_export.specs.ExportView.{naming}
-use Rattle.canvas_export.proofs.EnvelopesBack.{its_text, its_back}
-use Rattle.canvas_export.proofs.envelope.envelope_text.Goals as goal
+use Rattle.canvas_celery.specs.ExportView.{naming}
+use Rattle.canvas_celery.proofs.Exported.EnvelopesBack.{its_text, its_back}
+use Rattle.canvas_celery.proofs.commands.envelope.envelope_text.Goals as goal
 
 pub returns-clause-text : goal.returns-clause-text
 returns-clause-text c =

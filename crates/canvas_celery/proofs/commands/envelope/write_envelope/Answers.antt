@@ -4,11 +4,11 @@ use Rattle.serde_json.specs.Data.{string}
 use Rattle.canvas_wire.specs.steps.Tokens.{data_tokens}
 use Rattle.canvas_wire.proofs.Writers.{after_ok, then_tokens}
 use Rattle.canvas_envelope.specs.Content.{number_of}
-use Rattle.canvas_export.specs.Envelope.{headers_wire, properties_wire}
-use Rattle.canvas_export.specs.ExportView.{naming}
-use Rattle.canvas_export.proofs.Lines.{appended}
-use Rattle.canvas_export.proofs.Tokens.{envelope_of, envelope_written}
-use Rattle.canvas_export.proofs.envelope.write_envelope.Goals as goal
+use Rattle.canvas_celery.specs.Envelope.{headers_wire, properties_wire}
+use Rattle.canvas_celery.specs.ExportView.{naming}
+use Rattle.canvas_celery.proofs.Exported.Lines.{appended}
+use Rattle.canvas_celery.proofs.Exported.Tokens.{envelope_of, envelope_written}
+use Rattle.canvas_celery.proofs.commands.envelope.write_envelope.Goals as goal
 
 pub returns-clause-tokens : goal.returns-clause-tokens
 returns-clause-tokens c =

@@ -3,17 +3,17 @@ use Rattle.canvas_task.specs.Text.{Text}
 use Rattle.canvas_semantics.specs.PlacedLine.{bare}
 use Rattle.canvas_effects.specs.Effects.{first_messages}
 use Rattle.canvas_envelope.specs.Content.{Content}
-use Rattle.canvas_export.specs.Envelope.{message_text}
-use Rattle.canvas_export.specs.ExportView.{setting, naming_of}
-use Rattle.canvas_export.specs.MessageReading.{IsSound, read_message}
-use Rattle.canvas_export.specs.Sizeless.{sizeless}
-use Rattle.canvas_export.specs.Resp.{resp}
-use Rattle.canvas_export.specs.Start.{start}
-use Rattle.canvas_export.specs.Starting.{starting}
-use Rattle.canvas_export.specs.steps.Around.{parts_bytes}
-use Rattle.canvas_export.proofs.Plans.{start_back}
-use Rattle.canvas_export.proofs.Words.{length-map}
-use Rattle.canvas_export.proofs.exporting.export.Goals as goal
+use Rattle.canvas_celery.specs.Envelope.{message_text}
+use Rattle.canvas_celery.specs.ExportView.{setting, naming_of}
+use Rattle.canvas_celery.specs.MessageReading.{IsSound, read_message}
+use Rattle.canvas_celery.specs.Sizeless.{sizeless}
+use Rattle.canvas_celery.specs.Resp.{resp}
+use Rattle.canvas_celery.specs.Start.{start}
+use Rattle.canvas_celery.specs.Starting.{starting}
+use Rattle.canvas_celery.specs.steps.Around.{parts_bytes}
+use Rattle.canvas_celery.proofs.Exported.Plans.{start_back}
+use Rattle.canvas_celery.proofs.Exported.Words.{length-map}
+use Rattle.canvas_celery.proofs.commands.exporting.export.Goals as goal
 
 pub returns-in-Ok-clause-bytes : goal.returns-in-Ok-clause-bytes
 returns-in-Ok-clause-bytes c =

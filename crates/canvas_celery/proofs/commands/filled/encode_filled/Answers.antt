@@ -1,9 +1,9 @@
 use Rattle.std.proofs.Common.{◌<◌, length, Some, map, arith, sym}
 use Rattle.json.specs.Value.{value_view}
-use Rattle.canvas_export.specs.ExportView.{naming}
-use Rattle.canvas_export.specs.Filled.{filled_message}
-use Rattle.canvas_export.proofs.Texts.{next_text, last_text}
-use Rattle.canvas_export.proofs.filled.encode_filled.Goals as goal
+use Rattle.canvas_celery.specs.ExportView.{naming}
+use Rattle.canvas_celery.specs.FilledStart.{filled_message}
+use Rattle.canvas_celery.proofs.Exported.Texts.{next_text, last_text}
+use Rattle.canvas_celery.proofs.commands.filled.encode_filled.Goals as goal
 
 pub loop-message-preserved : goal.loop-message-preserved
 loop-message-preserved c =

@@ -1,8 +1,8 @@
 use Rattle.std.proofs.Common.{◌≡◌, Some, map, take}
 use Rattle.json.specs.Value.{value_view}
-use Rattle.canvas_export.specs.ExportView.{naming}
-use Rattle.canvas_export.specs.Filled.{filled_message}
-use Rattle.canvas_export.proofs.filled.encode_filled.Given as goal
+use Rattle.canvas_celery.specs.ExportView.{naming}
+use Rattle.canvas_celery.specs.FilledStart.{filled_message}
+use Rattle.canvas_celery.proofs.commands.filled.encode_filled.Given as goal
 
 abbrev pub invariant-loop-message : goal.invariant-loop-message
 invariant-loop-message l =

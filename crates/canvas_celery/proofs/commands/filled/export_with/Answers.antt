@@ -1,12 +1,12 @@
 use Rattle.std.proofs.Common.{◌∙◌, length, List, Some, ap, map, sym}
 use Rattle.canvas_envelope.specs.Content.{Content}
 use Rattle.canvas_task.specs.Text.{Text}
-use Rattle.canvas_export.specs.ExportView.{naming_of}
-use Rattle.canvas_export.specs.Filled.{filled_message}
-use Rattle.canvas_export.specs.steps.Around.{around_texts}
-use Rattle.canvas_export.proofs.Texts.{at_once}
-use Rattle.canvas_export.proofs.Words.{length-map}
-use Rattle.canvas_export.proofs.filled.export_with.Goals as goal
+use Rattle.canvas_celery.specs.ExportView.{naming_of}
+use Rattle.canvas_celery.specs.FilledStart.{filled_message}
+use Rattle.canvas_celery.specs.steps.Around.{around_texts}
+use Rattle.canvas_celery.proofs.Exported.Texts.{at_once}
+use Rattle.canvas_celery.proofs.Exported.Words.{length-map}
+use Rattle.canvas_celery.proofs.commands.filled.export_with.Goals as goal
 
 pub returns : goal.returns
 returns c =

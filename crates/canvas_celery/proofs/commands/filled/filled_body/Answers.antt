@@ -1,10 +1,10 @@
 use Rattle.std.proofs.Common.{rules, ◌≡◌, ◌∙◌, ap, map}
 use Rattle.json.specs.Lex.{tokens}
 use Rattle.json.specs.Value.{value_view}
-use Rattle.canvas_export.specs.Envelope.{body_wire}
-use Rattle.canvas_export.specs.ExportView.{naming}
-use Rattle.canvas_export.proofs.FilledMessages.{good_body, body_made}
-use Rattle.canvas_export.proofs.filled.filled_body.Goals as goal
+use Rattle.canvas_celery.specs.Envelope.{body_wire}
+use Rattle.canvas_celery.specs.ExportView.{naming}
+use Rattle.canvas_celery.proofs.Exported.FilledMessages.{good_body, body_made}
+use Rattle.canvas_celery.proofs.commands.filled.filled_body.Goals as goal
 
 pub filled_text-requires-clause-good : goal.filled_text-requires-clause-good
 filled_text-requires-clause-good c =

@@ -2,8 +2,8 @@ use Rattle.std.proofs.Common.{◌++◌, ap, ◌∙◌, map}
 use Rattle.json.specs.Lex.{tokens}
 use Rattle.json.specs.Print.{print}
 use Rattle.json.specs.Value.{value_view}
-use Rattle.canvas_export.proofs.FilledTokens.{last_token}
-use Rattle.canvas_export.proofs.filling.filled_text.Goals as goal
+use Rattle.canvas_celery.proofs.Exported.FilledTokens.{last_token}
+use Rattle.canvas_celery.proofs.commands.filling.filled_text.Goals as goal
 
 pub returns : goal.returns
 returns c =

@@ -1,9 +1,9 @@
 use Rattle.std.proofs.Common.{◌≡◌, [], length, map}
 use Rattle.json.specs.Lex.{tokens}
 use Rattle.json.specs.Value.{value_view}
-use Rattle.canvas_export.specs.steps.Filling.{AreGood}
-use Rattle.canvas_export.proofs.FilledTokens.{Left}
-use Rattle.canvas_export.proofs.filling.filled_text.Given as goal
+use Rattle.canvas_celery.specs.steps.Filling.{AreGood}
+use Rattle.canvas_celery.proofs.Exported.FilledTokens.{Left}
+use Rattle.canvas_celery.proofs.commands.filling.filled_text.Given as goal
 
 abbrev pub invariant-loop-token : goal.invariant-loop-token
 invariant-loop-token l =

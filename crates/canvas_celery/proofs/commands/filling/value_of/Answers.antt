@@ -1,6 +1,6 @@
 use Rattle.json.specs.Value.{value_view}
-use Rattle.canvas_export.proofs.FilledTokens.{value_read, number_kept}
-use Rattle.canvas_export.proofs.filling.value_of.Goals as goal
+use Rattle.canvas_celery.proofs.Exported.FilledTokens.{value_read, number_kept}
+use Rattle.canvas_celery.proofs.commands.filling.value_of.Goals as goal
 
 pub returns-then-number-values-clause-value : goal.returns-then-number-values-clause-value
 returns-then-number-values-clause-value c =

@@ -1,5 +1,5 @@
-use Rattle.canvas_export.proofs.Reading.{read_back, nothing_else}
-use Rattle.canvas_export.proofs.law.law_of_commands.Goals as goal
+use Rattle.canvas_celery.proofs.Exported.Reading.{read_back, nothing_else}
+use Rattle.canvas_celery.proofs.commands.law.law_of_commands.Goals as goal
 
 pub returns-clause-read_back : goal.returns-clause-read_back
 returns-clause-read_back c = read_back

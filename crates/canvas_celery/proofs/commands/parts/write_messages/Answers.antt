@@ -1,15 +1,15 @@
 use Rattle.std.proofs.Common.{◌≡◌, ◌∙◌, ◌<◌, ◌++◌, [], length, drop, map, Some, arith, refl, sym, ap, append-nil, subst}
 use Rattle.std.proofs.lemmas.List.{drop_all}
 use Rattle.std.specs.Io.KnownBytes.{Appends}
-use Rattle.canvas_export.specs.Resp.{word_bytes, words_bytes}
-use Rattle.canvas_export.specs.Envelope.{message_text}
-use Rattle.canvas_export.specs.MessageReading.{read_message}
-use Rattle.canvas_export.specs.Sizeless.{sizeless}
-use Rattle.canvas_export.specs.ExportView.{naming}
-use Rattle.canvas_export.proofs.Texts.{next_read, all_read}
-use Rattle.canvas_export.proofs.Words.{next_word}
-use Rattle.canvas_export.proofs.Written.{nothing_yet, more}
-use Rattle.canvas_export.proofs.parts.write_messages.Goals as goal
+use Rattle.canvas_celery.specs.Resp.{word_bytes, words_bytes}
+use Rattle.canvas_celery.specs.Envelope.{message_text}
+use Rattle.canvas_celery.specs.MessageReading.{read_message}
+use Rattle.canvas_celery.specs.Sizeless.{sizeless}
+use Rattle.canvas_celery.specs.ExportView.{naming}
+use Rattle.canvas_celery.proofs.Exported.Texts.{next_read, all_read}
+use Rattle.canvas_celery.proofs.Exported.Words.{next_word}
+use Rattle.canvas_celery.proofs.Exported.Written.{nothing_yet, more}
+use Rattle.canvas_celery.proofs.commands.parts.write_messages.Goals as goal
 
 pub loop-message-init : goal.loop-message-init
 loop-message-init g c = (([], nothing_yet (g.W.Write.contents c.args.out.now), refl), λ sound. refl)

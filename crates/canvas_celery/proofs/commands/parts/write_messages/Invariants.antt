@@ -1,11 +1,11 @@
 use Rattle.std.proofs.Common.{◌≡◌, ℕ, List, ◌++◌, Some, map, take, drop}
 use Rattle.std.specs.Io.KnownBytes.{Appends}
-use Rattle.canvas_export.specs.Resp.{words_bytes}
-use Rattle.canvas_export.specs.ExportView.{naming}
-use Rattle.canvas_export.specs.Envelope.{message_text}
-use Rattle.canvas_export.specs.MessageReading.{IsSound, read_message}
-use Rattle.canvas_export.specs.Sizeless.{sizeless}
-use Rattle.canvas_export.proofs.parts.write_messages.Given as goal
+use Rattle.canvas_celery.specs.Resp.{words_bytes}
+use Rattle.canvas_celery.specs.ExportView.{naming}
+use Rattle.canvas_celery.specs.Envelope.{message_text}
+use Rattle.canvas_celery.specs.MessageReading.{IsSound, read_message}
+use Rattle.canvas_celery.specs.Sizeless.{sizeless}
+use Rattle.canvas_celery.proofs.commands.parts.write_messages.Given as goal
 
 -- what was written so far, and the texts to come
 abbrev pub invariant-loop-message : goal.invariant-loop-message

@@ -1,6 +1,6 @@
 use Rattle.std.proofs.Common.{◌≡◌, ◌++◌, map, drop}
-use Rattle.canvas_export.specs.Resp.{words_bytes}
-use Rattle.canvas_export.proofs.resp.push_texts.Given as goal
+use Rattle.canvas_celery.specs.Resp.{words_bytes}
+use Rattle.canvas_celery.proofs.commands.resp.push_texts.Given as goal
 
 abbrev pub invariant-loop-text : goal.invariant-loop-text
 invariant-loop-text l =

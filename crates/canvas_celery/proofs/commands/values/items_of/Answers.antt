@@ -2,9 +2,9 @@ use Rattle.std.proofs.Common.{◌∙◌, Some, ap, map, subst}
 use Rattle.json.specs.Tree.{HasNumbers}
 use Rattle.json.specs.Value.{value_view}
 use Rattle.json.proofs.Trees.{view-Array}
-use Rattle.canvas_export.specs.Values.{items_of}
-use Rattle.canvas_export.proofs.FilledTokens.{items_kept, numbers_kept}
-use Rattle.canvas_export.proofs.values.items_of.Goals as goal
+use Rattle.canvas_celery.specs.Values.{items_of}
+use Rattle.canvas_celery.proofs.Exported.FilledTokens.{items_kept, numbers_kept}
+use Rattle.canvas_celery.proofs.commands.values.items_of.Goals as goal
 
 pub returns-in-Array-clause-values : goal.returns-in-Array-clause-values
 returns-in-Array-clause-values c =

@@ -1,10 +1,10 @@
 use Rattle.std.proofs.Common.{◌≡◌, ◌<◌, ℕ, subst, sym, ◌∙◌, arith, rules}
 use Rattle.canvas_semantics.specs.Line.{count_line}
-use Rattle.canvas_collect.specs.steps.Rows.{Gains, RowFault}
-use Rattle.canvas_collect.specs.Refused.{IsCollectFault}
-use Rattle.canvas_collect.specs.Pieces.{lines_in}
-use Rattle.canvas_collect.proofs.Said.{some_left, read_more, read_none, read_all, refused_next}
-use Rattle.canvas_collect.proofs.collecting.push_rows.Goals as goal
+use Rattle.canvas_celery.specs.steps.Rows.{Gains, RowFault}
+use Rattle.canvas_celery.specs.Refused.{IsCollectFault}
+use Rattle.canvas_celery.specs.Pieces.{lines_in}
+use Rattle.canvas_celery.proofs.Collected.Said.{some_left, read_more, read_none, read_all, refused_next}
+use Rattle.canvas_celery.proofs.results.collecting.push_rows.Goals as goal
 
 pub loop-index-init : goal.loop-index-init
 loop-index-init c = read_none c.args.run.now.digits (count_line c.args.plan.now) c.args.text.now c.args.rows.now.items c.requires.empty

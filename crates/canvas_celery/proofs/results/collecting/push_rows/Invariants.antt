@@ -1,6 +1,6 @@
 use Rattle.canvas_semantics.specs.Line.{count_line}
-use Rattle.canvas_collect.specs.steps.Rows.{IsRead}
-use Rattle.canvas_collect.proofs.collecting.push_rows.Given as goal
+use Rattle.canvas_celery.specs.steps.Rows.{IsRead}
+use Rattle.canvas_celery.proofs.results.collecting.push_rows.Given as goal
 
 abbrev pub invariant-loop-index : goal.invariant-loop-index
 invariant-loop-index l =

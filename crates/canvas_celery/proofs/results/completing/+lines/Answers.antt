@@ -5,9 +5,9 @@ use Rattle.canvas_rewrite.specs.FrozenView.{task_in, line_in, end_in, lines_of, 
 use Rattle.canvas_rewrite.specs.declared.frozen.FrozenLine.{FrozenLine}
 use Rattle.canvas_rewrite.specs.declared.frozen.FrozenEnd.{out-FrozenEnd}
 use Rattle.canvas_rewrite.proofs.PlanLines.{in_none, in_some, in_group, in_chord}
-use Rattle.canvas_collect.specs.Completing.{into_body, completed, all_completed}
-use Rattle.canvas_collect.specs.Looks.{Look, looks}
-use Rattle.canvas_collect.proofs.completing.+lines.Goals as goal
+use Rattle.canvas_celery.specs.Completing.{into_body, completed, all_completed}
+use Rattle.canvas_celery.specs.Looks.{Look, looks}
+use Rattle.canvas_celery.proofs.results.completing.+lines.Goals as goal
 
 pub complete_end-returns-in-Some-clause-completed : goal.complete_end-returns-in-Some-clause-completed
 complete_end-returns-in-Some-clause-completed t c =

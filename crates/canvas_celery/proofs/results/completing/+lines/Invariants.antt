@@ -1,10 +1,10 @@
 use Rattle.std.proofs.Common.{◌≡◌, ℕ, map, drop}
 use Rattle.canvas_semantics.specs.Line.{members}
 use Rattle.canvas_rewrite.specs.FrozenView.{line_in, lines_of}
-use Rattle.canvas_collect.specs.Completing.{all_completed}
-use Rattle.canvas_collect.specs.Filled.{AreFilled}
-use Rattle.canvas_collect.specs.Looks.{looks}
-use Rattle.canvas_collect.proofs.completing.+lines.Given as goal
+use Rattle.canvas_celery.specs.Completing.{all_completed}
+use Rattle.canvas_celery.specs.FilledRows.{AreFilled}
+use Rattle.canvas_celery.specs.Looks.{looks}
+use Rattle.canvas_celery.proofs.results.completing.+lines.Given as goal
 
 abbrev pub invariant-complete_all-loop-line : goal.invariant-complete_all-loop-line
 invariant-complete_all-loop-line l =

@@ -3,12 +3,12 @@ use Rattle.canvas_semantics.specs.Line.{members}
 use Rattle.canvas_semantics.specs.PlacedLine.{strip}
 use Rattle.canvas_semantics.proofs.Numbered.{strip_bare}
 use Rattle.canvas_rewrite.specs.FrozenView.{line_in}
-use Rattle.canvas_collect.specs.Completing.{completed}
-use Rattle.canvas_collect.specs.Looks.{looks}
-use Rattle.canvas_collect.specs.declared.completing.Flow.TheVariants.{Value}
-use Rattle.canvas_collect.proofs.Knowing.{completes}
-use Rattle.canvas_collect.proofs.Shown.{looks_shown, rows_shown}
-use Rattle.canvas_collect.proofs.completing.complete.Goals as goal
+use Rattle.canvas_celery.specs.Completing.{completed}
+use Rattle.canvas_celery.specs.Looks.{looks}
+use Rattle.canvas_celery.specs.declared.results.completing.Flow.TheVariants.{Value}
+use Rattle.canvas_celery.proofs.Collected.Knowing.{completes}
+use Rattle.canvas_celery.proofs.Collected.Shown.{looks_shown, rows_shown}
+use Rattle.canvas_celery.proofs.results.completing.complete.Goals as goal
 
 pub returns-clause-completed : goal.returns-clause-completed
 returns-clause-completed c =

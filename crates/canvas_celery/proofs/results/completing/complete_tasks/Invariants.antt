@@ -1,10 +1,10 @@
 use Rattle.std.proofs.Common.{◌≡◌, List, ℕ, map, drop}
 use Rattle.canvas_semantics.specs.Line.{Line}
 use Rattle.canvas_rewrite.specs.FrozenView.{task_in, steps_onto}
-use Rattle.canvas_collect.specs.Completing.{completed}
-use Rattle.canvas_collect.specs.Filled.{AreFilled}
-use Rattle.canvas_collect.specs.Looks.{looks}
-use Rattle.canvas_collect.proofs.completing.complete_tasks.Given as goal
+use Rattle.canvas_celery.specs.Completing.{completed}
+use Rattle.canvas_celery.specs.FilledRows.{AreFilled}
+use Rattle.canvas_celery.specs.Looks.{looks}
+use Rattle.canvas_celery.proofs.results.completing.complete_tasks.Given as goal
 
 abbrev pub invariant-loop-task : goal.invariant-loop-task
 invariant-loop-task l =

@@ -1,9 +1,9 @@
 use Rattle.std.proofs.Common.{◌∙◌, ◌+◌, drop, sym, ap}
 use Rattle.std.proofs.lemmas.List.{drop_all}
 use Rattle.canvas_task.proofs.Turns.{item_first}
-use Rattle.canvas_collect.specs.Completing.{gathered_on, gathered_from}
-use Rattle.canvas_collect.specs.Looks.{looks}
-use Rattle.canvas_collect.proofs.completing.gathered.Goals as goal
+use Rattle.canvas_celery.specs.Completing.{gathered_on, gathered_from}
+use Rattle.canvas_celery.specs.Looks.{looks}
+use Rattle.canvas_celery.proofs.results.completing.gathered.Goals as goal
 
 pub loop-last-preserved : goal.loop-last-preserved
 loop-last-preserved c =

@@ -1,8 +1,8 @@
 use Rattle.std.proofs.Common.{◌≡◌, drop}
-use Rattle.canvas_collect.specs.Completing.{gathered_from}
-use Rattle.canvas_collect.specs.Looks.{looks}
-use Rattle.canvas_collect.specs.declared.completing.Flow.TheVariants.{Value}
-use Rattle.canvas_collect.proofs.completing.gathered.Given as goal
+use Rattle.canvas_celery.specs.Completing.{gathered_from}
+use Rattle.canvas_celery.specs.Looks.{looks}
+use Rattle.canvas_celery.specs.declared.results.completing.Flow.TheVariants.{Value}
+use Rattle.canvas_celery.proofs.results.completing.gathered.Given as goal
 
 abbrev pub invariant-loop-last : goal.invariant-loop-last
 invariant-loop-last l =

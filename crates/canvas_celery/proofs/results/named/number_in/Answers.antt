@@ -1,6 +1,6 @@
 use Rattle.std.proofs.Common.{arith, ap, length, drop, ◌≡◌, ◌∙◌}
-use Rattle.canvas_collect.proofs.Identifiers.{length-run_task, drop-run_task}
-use Rattle.canvas_collect.proofs.named.number_in.Goals as goal
+use Rattle.canvas_celery.proofs.Collected.Identifiers.{length-run_task, drop-run_task}
+use Rattle.canvas_celery.proofs.results.named.number_in.Goals as goal
 
 pub returns-then-id-lt28 : goal.returns-then-id-lt28
 returns-then-id-lt28 c run k full small named =

@@ -1,7 +1,7 @@
 use Rattle.std.proofs.Common.{◌≡◌, ◌/◌, ◌%◌, ◌^◌, ℕ, get_or, ap}
-use Rattle.canvas_collect.specs.steps.Digits.{number_digits}
-use Rattle.canvas_collect.proofs.Digits.{none_some, top_byte, byte, fits, second_fits, third_fits, two_fit, three_fit, four_fit, of_bytes}
-use Rattle.canvas_collect.proofs.named.number_of.Goals as goal
+use Rattle.canvas_celery.specs.steps.Digits.{number_digits}
+use Rattle.canvas_celery.proofs.Collected.Digits.{none_some, top_byte, byte, fits, second_fits, third_fits, two_fit, three_fit, four_fit, of_bytes}
+use Rattle.canvas_celery.proofs.results.named.number_of.Goals as goal
 
 pub overflow_mul-result : goal.overflow_mul-result
 overflow_mul-result c = fits _ c.in_ok-first-in-len8.ensures.below

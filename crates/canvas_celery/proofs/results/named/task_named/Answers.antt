@@ -1,8 +1,8 @@
 use Rattle.std.proofs.Common.{rules, arith, ◌≡◌, ◌∙◌, length, sym, ap, Some, None, true, false}
 use Rattle.std.proofs.lemmas.Slice.Eq.{bytes_eq-Decides}
 use Rattle.canvas_celery.specs.Run.{run_task}
-use Rattle.canvas_collect.proofs.Identifiers.{full}
-use Rattle.canvas_collect.proofs.named.task_named.Goals as goal
+use Rattle.canvas_celery.proofs.Collected.Identifiers.{full}
+use Rattle.canvas_celery.proofs.results.named.task_named.Goals as goal
 
 pub returns-in_err-number_in : goal.returns-in_err-number_in
 returns-in_err-number_in c =

@@ -1,6 +1,6 @@
 use Rattle.std.proofs.Common.{◌<◌, ◌==◌, ◌≡◌, false, length, arith, sym, eq-eqb, get_or, ℕ}
 use Rattle.std.proofs.lemmas.List.Sums.{position_or_len_is}
-use Rattle.canvas_collect.proofs.pieces.place_of.Goals as goal
+use Rattle.canvas_celery.proofs.results.pieces.place_of.Goals as goal
 
 pub returns-then-text-index : goal.returns-then-text-index
 returns-then-text-index c =

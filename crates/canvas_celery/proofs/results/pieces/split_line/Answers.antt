@@ -1,5 +1,5 @@
-use Rattle.canvas_collect.proofs.Lines.{some_line, shorter_after}
-use Rattle.canvas_collect.proofs.pieces.split_line.Goals as goal
+use Rattle.canvas_celery.proofs.Collected.Lines.{some_line, shorter_after}
+use Rattle.canvas_celery.proofs.results.pieces.split_line.Goals as goal
 
 pub returns-clause-line : goal.returns-clause-line
 returns-clause-line c =

@@ -1,12 +1,12 @@
 use Rattle.std.proofs.Common.{rules, ◌≡◌, ℕ, length, subst}
 use Rattle.canvas_semantics.specs.Line.{count_line}
 use Rattle.canvas_task.specs.Text.{Text}
-use Rattle.canvas_collect.specs.AsStored.{Names}
-use Rattle.canvas_collect.specs.Stored.{message_of}
-use Rattle.canvas_collect.specs.steps.Found.{value_at}
-use Rattle.canvas_collect.proofs.Identifiers.{full}
-use Rattle.canvas_collect.proofs.RowLemmas.{both, of_blame, of_chord, class_there, named_utf8}
-use Rattle.canvas_collect.proofs.showing.chord_row.Goals as goal
+use Rattle.canvas_celery.specs.AsStored.{Names}
+use Rattle.canvas_celery.specs.Stored.{message_of}
+use Rattle.canvas_celery.specs.steps.Found.{value_at}
+use Rattle.canvas_celery.proofs.Collected.Identifiers.{full}
+use Rattle.canvas_celery.proofs.Collected.RowLemmas.{both, of_blame, of_chord, class_there, named_utf8}
+use Rattle.canvas_celery.proofs.results.showing.chord_row.Goals as goal
 
 pub blamed_row-requires : goal.blamed_row-requires
 blamed_row-requires c =

@@ -3,11 +3,11 @@ use Rattle.std.specs.Prelude.{IfOk, string_bytes}
 use Rattle.serde_json.specs.Data.{Data, null, depth}
 use Rattle.serde_json.specs.declared.value.Value.TheVariants as value
 use Rattle.serde_json.specs.declared.value.Value.TheFolds.{the_lemmas}
-use Rattle.canvas_collect.specs.AsStored.{IsJsonOf}
+use Rattle.canvas_celery.specs.AsStored.{IsJsonOf}
 use Rattle.serde_json.specs.Read.{max_depth}
 use Rattle.serde_json.specs.View.{view}
-use Rattle.canvas_collect.proofs.RowLemmas.{written}
-use Rattle.canvas_collect.proofs.showing.json_text.Goals as goal
+use Rattle.canvas_celery.proofs.Collected.RowLemmas.{written}
+use Rattle.canvas_celery.proofs.results.showing.json_text.Goals as goal
 
 pub returns-in-Some : goal.returns-in-Some
 returns-in-Some c =

@@ -3,14 +3,14 @@ use Rattle.serde_json.specs.Data.{Data, depth}
 use Rattle.serde_json.specs.Read.{max_depth}
 use Rattle.serde_json.specs.View.{view}
 use Rattle.canvas_semantics.specs.Line.{count_line}
-use Rattle.canvas_collect.specs.declared.stored.Lack.{Lack}
-use Rattle.canvas_collect.specs.declared.stored.Lack.TheVariants.{Dependency}
-use Rattle.canvas_collect.specs.Stored.{result_of}
-use Rattle.canvas_collect.specs.steps.Lacking.{LacksFault, LacksOutcome}
-use Rattle.canvas_collect.specs.steps.Found.{value_at}
-use Rattle.canvas_collect.specs.steps.Rows.{IsChordRow}
-use Rattle.canvas_collect.proofs.RowLemmas.{both, result_low, chord_row, no_json}
-use Rattle.canvas_collect.proofs.showing.other_row.Goals as goal
+use Rattle.canvas_celery.specs.declared.results.stored.Lack.{Lack}
+use Rattle.canvas_celery.specs.declared.results.stored.Lack.TheVariants.{Dependency}
+use Rattle.canvas_celery.specs.Stored.{result_of}
+use Rattle.canvas_celery.specs.steps.Lacking.{LacksFault, LacksOutcome}
+use Rattle.canvas_celery.specs.steps.Found.{value_at}
+use Rattle.canvas_celery.specs.steps.Rows.{IsChordRow}
+use Rattle.canvas_celery.proofs.Collected.RowLemmas.{both, result_low, chord_row, no_json}
+use Rattle.canvas_celery.proofs.results.showing.other_row.Goals as goal
 
 pub value_row-requires : goal.value_row-requires
 value_row-requires c =

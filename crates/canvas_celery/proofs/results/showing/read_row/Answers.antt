@@ -2,11 +2,11 @@ use Rattle.std.proofs.Common.{◌≡◌, false, true, refl, inl, inr}
 use Rattle.serde_json.specs.View.{view}
 use Rattle.std.proofs.lemmas.Result.{err_from_is_err_and}
 use Rattle.canvas_semantics.specs.Line.{count_line}
-use Rattle.canvas_collect.specs.AsStored.{IsRow, Says}
-use Rattle.canvas_collect.specs.steps.Rows.{ResultFault, LineFault}
-use Rattle.canvas_collect.proofs.Gathering.{is_nil, not_nil}
-use Rattle.canvas_collect.proofs.RowLemmas.{both, parsed_low, of_unread, of_result}
-use Rattle.canvas_collect.proofs.showing.read_row.Goals as goal
+use Rattle.canvas_celery.specs.AsStored.{IsRow, Says}
+use Rattle.canvas_celery.specs.steps.Rows.{ResultFault, LineFault}
+use Rattle.canvas_celery.proofs.Collected.Gathering.{is_nil, not_nil}
+use Rattle.canvas_celery.proofs.Collected.RowLemmas.{both, parsed_low, of_unread, of_result}
+use Rattle.canvas_celery.proofs.results.showing.read_row.Goals as goal
 
 pub returns-then-is_empty : goal.returns-then-is_empty
 returns-then-is_empty c = inl (is_nil c.args.text.now c.if-is_empty.ensures, refl)

@@ -1,9 +1,9 @@
 use Rattle.std.proofs.Common.{rules, ◌≡◌, arith, codes, length, sym, ◌∙◌}
 use Rattle.canvas_semantics.specs.Line.{count_line}
 use Rattle.canvas_celery.specs.Run.{run_task}
-use Rattle.canvas_collect.proofs.Dependency.{in_parts, parts_of}
-use Rattle.canvas_collect.proofs.Identifiers.{full}
-use Rattle.canvas_collect.proofs.stored.blame_in.Goals as goal
+use Rattle.canvas_celery.proofs.Collected.Dependency.{in_parts, parts_of}
+use Rattle.canvas_celery.proofs.Collected.Identifiers.{full}
+use Rattle.canvas_celery.proofs.results.stored.blame_in.Goals as goal
 
 pub returns : goal.returns
 returns c =

@@ -2,8 +2,8 @@ use Rattle.std.proofs.Common.{rules, ◌≡◌, subst}
 use Rattle.serde_json.specs.View.{view}
 use Rattle.canvas_semantics.specs.Line.{count_line}
 use Rattle.canvas_task.specs.Text.{Text}
-use Rattle.canvas_collect.specs.Stored.{message_of, Blames}
-use Rattle.canvas_collect.proofs.stored.chord_failure.Goals as goal
+use Rattle.canvas_celery.specs.Stored.{message_of, Blames}
+use Rattle.canvas_celery.proofs.results.stored.chord_failure.Goals as goal
 
 pub returns-in-None : goal.returns-in-None
 returns-in-None c =

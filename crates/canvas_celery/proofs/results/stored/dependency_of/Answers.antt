@@ -1,9 +1,9 @@
 use Rattle.std.proofs.Common.{rules, ◌≡◌, length}
 use Rattle.canvas_semantics.specs.Line.{count_line}
 use Rattle.canvas_task.specs.Printed.{why_name}
-use Rattle.canvas_collect.proofs.Dependency.{blames_one, one_name}
-use Rattle.canvas_collect.proofs.Identifiers.{full}
-use Rattle.canvas_collect.proofs.stored.dependency_of.Goals as goal
+use Rattle.canvas_celery.proofs.Collected.Dependency.{blames_one, one_name}
+use Rattle.canvas_celery.proofs.Collected.Identifiers.{full}
+use Rattle.canvas_celery.proofs.results.stored.dependency_of.Goals as goal
 
 pub returns-in-Some-why_of : goal.returns-in-Some-why_of
 returns-in-Some-why_of c = blames_one c.args.run.now.digits c.args.message.now (count_line c.args.plan.now) _ _ _ c.in-Some.ensures c.in-Some-why_of.ensures

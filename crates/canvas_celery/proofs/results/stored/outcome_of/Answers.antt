@@ -2,11 +2,11 @@ use Rattle.std.proofs.Common.{rules, ◌≡◌, codes, subst}
 use Rattle.serde_json.specs.Data.{Data}
 use Rattle.serde_json.specs.View.{view}
 use Rattle.canvas_semantics.specs.Line.{count_line}
-use Rattle.canvas_collect.specs.Stored.{state_of, result_of}
-use Rattle.canvas_collect.specs.steps.Lacking.{LacksFault}
-use Rattle.canvas_collect.specs.steps.Found.{value_at}
-use Rattle.canvas_collect.proofs.Refusals.{of_exception}
-use Rattle.canvas_collect.proofs.stored.outcome_of.Goals as goal
+use Rattle.canvas_celery.specs.Stored.{state_of, result_of}
+use Rattle.canvas_celery.specs.steps.Lacking.{LacksFault}
+use Rattle.canvas_celery.specs.steps.Found.{value_at}
+use Rattle.canvas_celery.proofs.Collected.Refusals.{of_exception}
+use Rattle.canvas_celery.proofs.results.stored.outcome_of.Goals as goal
 
 pub returns-in-Err : goal.returns-in-Err
 returns-in-Err c =

@@ -1,7 +1,7 @@
 use Rattle.std.proofs.Common.{◌≡◌, true, false}
-use Rattle.canvas_collect.proofs.Json.{json_is, json_is_none}
-use Rattle.canvas_collect.proofs.stored.parsed.Goals as goal
-use Rattle.canvas_collect.proofs.stored.parsed.Goals.{then-is_memory, else-is_memory}
+use Rattle.canvas_celery.proofs.Collected.Json.{json_is, json_is_none}
+use Rattle.canvas_celery.proofs.results.stored.parsed.Goals as goal
+use Rattle.canvas_celery.proofs.results.stored.parsed.Goals.{then-is_memory, else-is_memory}
 
 pub returns-in-Ok : goal.returns-in-Ok
 returns-in-Ok c = json_is c.args.text.now _ c.in-Ok.ensures.ok.0 c.in-Ok.ensures.ok.1

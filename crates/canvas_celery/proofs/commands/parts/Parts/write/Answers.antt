@@ -1,11 +1,11 @@
 use Rattle.std.proofs.Common.{◌≡◌, List, map, Some, subst}
 use Rattle.canvas_envelope.specs.Content.{Content}
-use Rattle.canvas_export.specs.ExportView.{naming}
-use Rattle.canvas_export.specs.Envelope.{message_text}
-use Rattle.canvas_export.specs.MessageReading.{IsSound, read_message}
-use Rattle.canvas_export.specs.Sizeless.{sizeless}
-use Rattle.canvas_export.proofs.Pieces.{in_any}
-use Rattle.canvas_export.proofs.parts.Parts.write.Goals as goal
+use Rattle.canvas_celery.specs.ExportView.{naming}
+use Rattle.canvas_celery.specs.Envelope.{message_text}
+use Rattle.canvas_celery.specs.MessageReading.{IsSound, read_message}
+use Rattle.canvas_celery.specs.Sizeless.{sizeless}
+use Rattle.canvas_celery.proofs.Exported.Pieces.{in_any}
+use Rattle.canvas_celery.proofs.commands.parts.Parts.write.Goals as goal
 
 pub returns-clause-reads_back : goal.returns-clause-reads_back
 returns-clause-reads_back g c =

@@ -1,9 +1,9 @@
 use Rattle.std.proofs.Common.{◌∙◌}
 use Rattle.canvas_wire.proofs.Writers.{whole_text}
-use Rattle.canvas_export.specs.Envelope.{body_wire}
-use Rattle.canvas_export.specs.ExportView.{naming}
-use Rattle.canvas_export.proofs.Tokens.{whole_tokens, whole_utf8}
-use Rattle.canvas_export.proofs.write.body.body_of.Goals as goal
+use Rattle.canvas_celery.specs.Envelope.{body_wire}
+use Rattle.canvas_celery.specs.ExportView.{naming}
+use Rattle.canvas_celery.proofs.Exported.Tokens.{whole_tokens, whole_utf8}
+use Rattle.canvas_celery.proofs.commands.write.body.body_of.Goals as goal
 
 pub returns-clause-text : goal.returns-clause-text
 returns-clause-text c =

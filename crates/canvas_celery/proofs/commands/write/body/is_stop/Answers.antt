@@ -1,6 +1,6 @@
 use Rattle.std.proofs.Common.{◌∙◌}
 use Rattle.canvas_envelope.proofs.FitLemmas.{stop_some, stop_none}
-use Rattle.canvas_export.proofs.write.body.is_stop.Goals as goal
+use Rattle.canvas_celery.proofs.commands.write.body.is_stop.Goals as goal
 
 pub returns-in-Some : goal.returns-in-Some
 returns-in-Some c = stop_some c.args.line.now c.in-Some.field-0 c.in-Some.is

@@ -1,11 +1,11 @@
 use Rattle.std.proofs.Common.{[], ◌∷◌, ◌∙◌, sym}
 use Rattle.json.specs.Token.{null, begin_array}
 use Rattle.canvas_wire.proofs.Writers.{after_ok}
-use Rattle.canvas_export.specs.ExportView.{naming}
-use Rattle.canvas_export.proofs.Tokens.{appends_as}
-use Rattle.canvas_export.proofs.Lines.{appended}
-use Rattle.canvas_export.proofs.Elements.{no_tasks, some_tasks}
-use Rattle.canvas_export.proofs.write.body.write_callbacks.Goals as goal
+use Rattle.canvas_celery.specs.ExportView.{naming}
+use Rattle.canvas_celery.proofs.Exported.Tokens.{appends_as}
+use Rattle.canvas_celery.proofs.Exported.Lines.{appended}
+use Rattle.canvas_celery.proofs.Exported.Elements.{no_tasks, some_tasks}
+use Rattle.canvas_celery.proofs.commands.write.body.write_callbacks.Goals as goal
 
 pub returns-then-is_empty : goal.returns-then-is_empty
 returns-then-is_empty c =

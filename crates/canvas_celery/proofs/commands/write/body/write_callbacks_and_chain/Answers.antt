@@ -6,9 +6,9 @@ use Rattle.canvas_rewrite.specs.FrozenView.{p_tasks_of, p_task_view}
 use Rattle.canvas_writing.specs.steps.Tokens.{named_tokens}
 use Rattle.canvas_envelope.specs.MessageView.{rest_seen}
 use Rattle.canvas_envelope.specs.Wire.{list_or_null}
-use Rattle.canvas_export.specs.Signatures.{tasks_wire, each_wire, elements}
-use Rattle.canvas_export.specs.ExportView.{naming}
-use Rattle.canvas_export.proofs.write.body.write_callbacks_and_chain.Goals as goal
+use Rattle.canvas_celery.specs.Signatures.{tasks_wire, each_wire, elements}
+use Rattle.canvas_celery.specs.ExportView.{naming}
+use Rattle.canvas_celery.proofs.commands.write.body.write_callbacks_and_chain.Goals as goal
 
 pub returns : goal.returns
 returns c =

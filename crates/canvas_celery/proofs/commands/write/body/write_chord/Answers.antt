@@ -4,11 +4,11 @@ use Rattle.canvas_wire.specs.steps.Tokens.{data_tokens}
 use Rattle.canvas_rewrite.specs.FrozenView.{p_line_view}
 use Rattle.canvas_envelope.specs.MessageView.{place_seen}
 use Rattle.canvas_envelope.proofs.Seen.{group_place, chord_place}
-use Rattle.canvas_export.specs.Signatures.{carried_wire, elements, body_at}
-use Rattle.canvas_export.specs.ExportView.{naming}
-use Rattle.canvas_export.proofs.Tokens.{appends_as}
-use Rattle.canvas_export.proofs.Lines.{appended}
-use Rattle.canvas_export.proofs.write.body.write_chord.Goals as goal
+use Rattle.canvas_celery.specs.Signatures.{carried_wire, elements, body_at}
+use Rattle.canvas_celery.specs.ExportView.{naming}
+use Rattle.canvas_celery.proofs.Exported.Tokens.{appends_as}
+use Rattle.canvas_celery.proofs.Exported.Lines.{appended}
+use Rattle.canvas_celery.proofs.commands.write.body.write_chord.Goals as goal
 
 pub returns-in-Some-chord : goal.returns-in-Some-chord
 returns-in-Some-chord c =

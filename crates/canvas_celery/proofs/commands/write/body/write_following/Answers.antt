@@ -2,10 +2,10 @@ use Rattle.std.proofs.Common.{[], ◌∷◌, ◌∙◌, sym, ap}
 use Rattle.json.specs.Token.{null, begin_array, end_array}
 use Rattle.canvas_wire.proofs.Writers.{after_ok, then_tokens}
 use Rattle.canvas_rewrite.specs.FrozenView.{p_line_view}
-use Rattle.canvas_export.specs.ExportView.{naming}
-use Rattle.canvas_export.proofs.Tokens.{appends_as}
-use Rattle.canvas_export.proofs.Lines.{appended, turned_written, stop_listed, rest_listed}
-use Rattle.canvas_export.proofs.write.body.write_following.Goals as goal
+use Rattle.canvas_celery.specs.ExportView.{naming}
+use Rattle.canvas_celery.proofs.Exported.Tokens.{appends_as}
+use Rattle.canvas_celery.proofs.Exported.Lines.{appended, turned_written, stop_listed, rest_listed}
+use Rattle.canvas_celery.proofs.commands.write.body.write_following.Goals as goal
 
 pub returns-then-is_stop : goal.returns-then-is_stop
 returns-then-is_stop c =

@@ -3,11 +3,11 @@ use Rattle.json.specs.Token.{null}
 use Rattle.canvas_wire.specs.steps.Tokens.{data_tokens}
 use Rattle.canvas_envelope.specs.MessageView.{rest_seen}
 use Rattle.canvas_envelope.specs.Wire.{list_or_null}
-use Rattle.canvas_export.specs.Signatures.{each_wire, elements}
-use Rattle.canvas_export.specs.ExportView.{naming}
-use Rattle.canvas_export.proofs.Tokens.{appends_as}
-use Rattle.canvas_export.proofs.Lines.{appended}
-use Rattle.canvas_export.proofs.write.body.write_rest.Goals as goal
+use Rattle.canvas_celery.specs.Signatures.{each_wire, elements}
+use Rattle.canvas_celery.specs.ExportView.{naming}
+use Rattle.canvas_celery.proofs.Exported.Tokens.{appends_as}
+use Rattle.canvas_celery.proofs.Exported.Lines.{appended}
+use Rattle.canvas_celery.proofs.commands.write.body.write_rest.Goals as goal
 
 pub returns-in-Some : goal.returns-in-Some
 returns-in-Some c =

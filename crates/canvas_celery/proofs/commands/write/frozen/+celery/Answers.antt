@@ -8,14 +8,14 @@ use Rattle.canvas_rewrite.specs.FrozenView.{p_task_view, p_line_view, p_end_view
 use Rattle.canvas_envelope.specs.MessageView.{place_seen}
 use Rattle.canvas_writing.specs.steps.Tokens.{named_tokens}
 use Rattle.canvas_envelope.proofs.Seen.{group_place}
-use Rattle.canvas_export.specs.Signatures.{elements, behind, carried_wire, first_wire}
-use Rattle.canvas_export.specs.ExportView.{naming}
-use Rattle.canvas_export.specs.steps.Elements.{chord_option, each_tokens, task_sigs}
-use Rattle.canvas_export.proofs.Tokens.{appends_as}
-use Rattle.canvas_export.proofs.Sigs.{task_whole, each_items, two_elements, linked_behind, none_behind, chain_member, lone_member, chain_written, members_ended, first_whole}
-use Rattle.canvas_export.proofs.Elements.{no_link, a_chord, no_tail, no_element, a_group, end_stands, link_written, task_written, group_front, chord_front}
-use Rattle.canvas_export.proofs.Lines.{nothing, appended, next_task, last_task, next_line, last_line, task_before, elements_written, others_written, end_behind, task_first, carried_task, others_turned, end_first, carried_end, end_turned, tail_written, tail_turned, body_behind}
-use Rattle.canvas_export.proofs.write.frozen.+celery.Goals as goal
+use Rattle.canvas_celery.specs.Signatures.{elements, behind, carried_wire, first_wire}
+use Rattle.canvas_celery.specs.ExportView.{naming}
+use Rattle.canvas_celery.specs.steps.Elements.{chord_option, each_tokens, task_sigs}
+use Rattle.canvas_celery.proofs.Exported.Tokens.{appends_as}
+use Rattle.canvas_celery.proofs.Exported.Sigs.{task_whole, each_items, two_elements, linked_behind, none_behind, chain_member, lone_member, chain_written, members_ended, first_whole}
+use Rattle.canvas_celery.proofs.Exported.Elements.{no_link, a_chord, no_tail, no_element, a_group, end_stands, link_written, task_written, group_front, chord_front}
+use Rattle.canvas_celery.proofs.Exported.Lines.{nothing, appended, next_task, last_task, next_line, last_line, task_before, elements_written, others_written, end_behind, task_first, carried_task, others_turned, end_first, carried_end, end_turned, tail_written, tail_turned, body_behind}
+use Rattle.canvas_celery.proofs.commands.write.frozen.+celery.Goals as goal
 
 -- ---- tasks
 

@@ -2,10 +2,10 @@ use Rattle.std.proofs.Common.{[], ◌∷◌, map}
 use Rattle.json.specs.Token.{end_array}
 use Rattle.canvas_wire.proofs.Writers.{after_ok}
 use Rattle.canvas_rewrite.specs.FrozenView.{p_task_view}
-use Rattle.canvas_export.specs.ExportView.{naming}
-use Rattle.canvas_export.proofs.Sigs.{tasks_items}
-use Rattle.canvas_export.proofs.Lines.{appended}
-use Rattle.canvas_export.proofs.write.frozen.write_tasks.Goals as goal
+use Rattle.canvas_celery.specs.ExportView.{naming}
+use Rattle.canvas_celery.proofs.Exported.Sigs.{tasks_items}
+use Rattle.canvas_celery.proofs.Exported.Lines.{appended}
+use Rattle.canvas_celery.proofs.commands.write.frozen.write_tasks.Goals as goal
 
 pub returns : goal.returns
 returns c =

@@ -4,10 +4,10 @@ use Rattle.canvas_wire.specs.steps.Tokens.{data_tokens}
 use Rattle.canvas_wire.proofs.Writers.{after_ok, then_tokens}
 use Rattle.canvas_envelope.specs.Content.{number_of, place_of, call_of}
 use Rattle.canvas_envelope.specs.MessageView.{place_seen}
-use Rattle.canvas_export.specs.ExportView.{naming}
-use Rattle.canvas_export.proofs.Lines.{appended}
-use Rattle.canvas_export.proofs.Tokens.{headers_tokens, headers_of_parts, headers_written}
-use Rattle.canvas_export.proofs.write.message.write_headers.Goals as goal
+use Rattle.canvas_celery.specs.ExportView.{naming}
+use Rattle.canvas_celery.proofs.Exported.Lines.{appended}
+use Rattle.canvas_celery.proofs.Exported.Tokens.{headers_tokens, headers_of_parts, headers_written}
+use Rattle.canvas_celery.proofs.commands.write.message.write_headers.Goals as goal
 
 pub returns : goal.returns
 returns c =

@@ -1,9 +1,9 @@
 use Rattle.std.proofs.Common.{codes, ap, sym}
 use Rattle.canvas_writing.specs.steps.Tokens.{named_tokens}
-use Rattle.canvas_export.specs.Envelope.{parent_id}
-use Rattle.canvas_export.specs.ExportView.{naming}
-use Rattle.canvas_export.proofs.Tokens.{appends_as}
-use Rattle.canvas_export.proofs.write.message.write_parent.Goals as goal
+use Rattle.canvas_celery.specs.Envelope.{parent_id}
+use Rattle.canvas_celery.specs.ExportView.{naming}
+use Rattle.canvas_celery.proofs.Exported.Tokens.{appends_as}
+use Rattle.canvas_celery.proofs.commands.write.message.write_parent.Goals as goal
 
 pub returns-in-Some : goal.returns-in-Some
 returns-in-Some c =

@@ -1,10 +1,10 @@
 use Rattle.std.proofs.Common.{◌∙◌, ap, sym}
 use Rattle.canvas_wire.proofs.Writers.{after_ok}
 use Rattle.canvas_envelope.specs.MessageView.{place_seen}
-use Rattle.canvas_export.specs.ExportView.{naming}
-use Rattle.canvas_export.specs.steps.Tokens.{header_place}
-use Rattle.canvas_export.proofs.Tokens.{header_of}
-use Rattle.canvas_export.proofs.write.message.write_place.Goals as goal
+use Rattle.canvas_celery.specs.ExportView.{naming}
+use Rattle.canvas_celery.specs.steps.Tokens.{header_place}
+use Rattle.canvas_celery.proofs.Exported.Tokens.{header_of}
+use Rattle.canvas_celery.proofs.commands.write.message.write_place.Goals as goal
 
 pub returns-in_ok-write_group_member-in-Some : goal.returns-in_ok-write_group_member-in-Some
 returns-in_ok-write_group_member-in-Some c =

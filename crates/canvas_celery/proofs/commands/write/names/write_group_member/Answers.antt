@@ -1,8 +1,8 @@
 use Rattle.std.proofs.Common.{[], ◌∷◌, refl}
 use Rattle.json.specs.Token.{key}
 use Rattle.canvas_wire.proofs.Writers.{after_ok}
-use Rattle.canvas_export.proofs.Ascii.{run_group_ascii}
-use Rattle.canvas_export.proofs.write.names.write_group_member.Goals as goal
+use Rattle.canvas_celery.proofs.Exported.Ascii.{run_group_ascii}
+use Rattle.canvas_celery.proofs.commands.write.names.write_group_member.Goals as goal
 
 pub write_id-requires : goal.write_id-requires
 write_id-requires c = rw c.group_text.ensures.value (run_group_ascii c.args.names.now.run.now.digits c.args.names.now.run.now.hexadecimal c.args.group)

@@ -1,6 +1,6 @@
 use Rattle.std.proofs.Common.{◌∙◌, sym}
-use Rattle.canvas_export.proofs.More.{more_tasks, more_before, more_end, more_chord, more_group}
-use Rattle.canvas_export.proofs.write.pieces.+more.Goals as goal
+use Rattle.canvas_celery.proofs.Exported.More.{more_tasks, more_before, more_end, more_chord, more_group}
+use Rattle.canvas_celery.proofs.commands.write.pieces.+more.Goals as goal
 
 pub end_has_more-returns-in-Some : goal.end_has_more-returns-in-Some
 end_has_more-returns-in-Some t c = c.has_more.ensures ∙ more_chord c.args.end.now c.in-Some.body c.in-Some.is

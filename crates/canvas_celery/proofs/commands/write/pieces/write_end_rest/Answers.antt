@@ -1,9 +1,9 @@
 use Rattle.std.proofs.Common.{ap, sym}
-use Rattle.canvas_export.specs.ExportView.{naming}
-use Rattle.canvas_export.specs.steps.Elements.{first_rest}
-use Rattle.canvas_export.proofs.Tokens.{appends_as}
-use Rattle.canvas_export.proofs.Elements.{a_group, a_header}
-use Rattle.canvas_export.proofs.write.pieces.write_end_rest.Goals as goal
+use Rattle.canvas_celery.specs.ExportView.{naming}
+use Rattle.canvas_celery.specs.steps.Elements.{first_rest}
+use Rattle.canvas_celery.proofs.Exported.Tokens.{appends_as}
+use Rattle.canvas_celery.proofs.Exported.Elements.{a_group, a_header}
+use Rattle.canvas_celery.proofs.commands.write.pieces.write_end_rest.Goals as goal
 
 pub returns-in-Some : goal.returns-in-Some
 returns-in-Some c =

@@ -1,11 +1,11 @@
 use Rattle.std.proofs.Common.{◌∙◌, ap, sym}
 use Rattle.canvas_wire.proofs.Writers.{after_ok}
 use Rattle.canvas_envelope.specs.MessageView.{place_seen}
-use Rattle.canvas_export.specs.ExportView.{naming}
-use Rattle.canvas_export.specs.steps.Elements.{group_options}
-use Rattle.canvas_export.proofs.Tokens.{options_of_place}
-use Rattle.canvas_export.proofs.Lines.{nothing}
-use Rattle.canvas_export.proofs.write.pieces.write_group_options.Goals as goal
+use Rattle.canvas_celery.specs.ExportView.{naming}
+use Rattle.canvas_celery.specs.steps.Elements.{group_options}
+use Rattle.canvas_celery.proofs.Exported.Tokens.{options_of_place}
+use Rattle.canvas_celery.proofs.Exported.Lines.{nothing}
+use Rattle.canvas_celery.proofs.commands.write.pieces.write_group_options.Goals as goal
 
 pub returns-in_ok-write_group_member-in-Some : goal.returns-in_ok-write_group_member-in-Some
 returns-in_ok-write_group_member-in-Some c =

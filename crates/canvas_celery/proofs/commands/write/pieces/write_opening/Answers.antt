@@ -1,8 +1,8 @@
 use Rattle.std.proofs.Common.{[], ◌∷◌, codes, refl}
 use Rattle.json.specs.Token.{key, begin_object}
 use Rattle.canvas_wire.proofs.Writers.{after_ok, then_tokens}
-use Rattle.canvas_export.proofs.Lines.{appended}
-use Rattle.canvas_export.proofs.write.pieces.write_opening.Goals as goal
+use Rattle.canvas_celery.proofs.Exported.Lines.{appended}
+use Rattle.canvas_celery.proofs.commands.write.pieces.write_opening.Goals as goal
 
 pub returns : goal.returns
 returns c =

@@ -1,9 +1,9 @@
 use Rattle.std.proofs.Common.{[], ◌∷◌, ◌∙◌, codes}
 use Rattle.json.specs.Token.{key, begin_object}
 use Rattle.canvas_wire.proofs.Writers.{after_ok, then_tokens}
-use Rattle.canvas_export.proofs.Lines.{appended}
-use Rattle.canvas_export.proofs.Elements.{front_written}
-use Rattle.canvas_export.proofs.write.pieces.write_task_front.Goals as goal
+use Rattle.canvas_celery.proofs.Exported.Lines.{appended}
+use Rattle.canvas_celery.proofs.Exported.Elements.{front_written}
+use Rattle.canvas_celery.proofs.commands.write.pieces.write_task_front.Goals as goal
 
 pub returns : goal.returns
 returns c =
