@@ -1,6 +1,7 @@
 use Rattle.std.proofs.Common.{◌<◌, length, arith}
 use Rattle.canvas_semantics.specs.Line.{names}
-use Rattle.canvas_celery.proofs.Exported.MarkedNames.{names_long, one_more, found_one, all_unmarked}
+use Rattle.canvas_report.proofs.ReportLines.{names_long}
+use Rattle.canvas_celery.proofs.Exported.MarkedNames.{one_more, found_one, all_unmarked}
 use Rattle.canvas_celery.proofs.commands.filled.marked_name.Goals as goal
 
 pub loop-index-preserved : goal.loop-index-preserved
