@@ -13,7 +13,7 @@ pub struct Worked {
 }
 
 /// The canvas of a frame and its calls, with a report that is spelled shortly.
-pub fn of_frame(alloc: Global, frame: &str, calls: &str, report: &str) -> Result<Worked, Memory> {
+fn of_frame(alloc: Global, frame: &str, calls: &str, report: &str) -> Result<Worked, Memory> {
     Ok(Worked {
         text: spelled::canvas(alloc, frame, calls)?,
         report: spelled::report(alloc, report)?,
