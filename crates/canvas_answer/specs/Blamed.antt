@@ -21,10 +21,10 @@ use Rattle.canvas_stubs.specs.Stubs.{any_name, stub_of}
 use Rattle.canvas_stubs.specs.declared.stub.Does.{Does}
 use Rattle.canvas_stubs.specs.declared.stub.Does.TheVariants.{SameAs}
 use Rattle.canvas_stubs.specs.declared.stub.Stub.{Stub}
-use Rattle.canvas_warning.specs.Calls.{taken}
-use Rattle.canvas_warning.specs.Parameters.{blamed}
-use Rattle.canvas_warning.specs.declared.position.Input.{Input}
-use Rattle.canvas_warning.specs.declared.position.Input.TheVariants.{Nothing, Number, Numbers, Identifier}
+use Rattle.canvas_check.specs.Calls.{taken}
+use Rattle.canvas_check.specs.Parameters.{blamed}
+use Rattle.canvas_check.specs.declared.position.Input.{Input}
+use Rattle.canvas_check.specs.declared.position.Input.TheVariants.{Nothing, Number, Numbers, Identifier}
 
 -- ---- the built-in task that answers a call
 

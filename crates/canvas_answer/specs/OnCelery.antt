@@ -10,19 +10,19 @@ use Rattle.canvas_semantics.specs.Report.{report_of}
 use Rattle.canvas_semantics.specs.States.{rows_from}
 use Rattle.canvas_effects.specs.Effects.{first_messages}
 use Rattle.canvas_celery.specs.Keys.{result_keys}
-use Rattle.canvas_collect.specs.AsStored.{AllSaid}
-use Rattle.canvas_collect.specs.Completed.{Completes}
-use Rattle.canvas_collect.specs.Completing.{plan_completed}
-use Rattle.canvas_collect.specs.Filled.{AreFilled}
-use Rattle.canvas_collect.specs.Looks.{looks}
-use Rattle.canvas_collect.specs.Pieces.{lines_in}
-use Rattle.canvas_export.specs.Envelope.{message_text}
-use Rattle.canvas_export.specs.ExportView.{setting, naming_of}
-use Rattle.canvas_export.specs.Filled.{IsFilledStart}
-use Rattle.canvas_export.specs.Resp.{resp}
-use Rattle.canvas_export.specs.Start.{start}
-use Rattle.canvas_export.specs.Starting.{starting}
-use Rattle.canvas_export.specs.declared.target.Target.{Target}
+use Rattle.canvas_celery.specs.AsStored.{AllSaid}
+use Rattle.canvas_celery.specs.Completed.{Completes}
+use Rattle.canvas_celery.specs.Completing.{plan_completed}
+use Rattle.canvas_celery.specs.FilledRows.{AreFilled}
+use Rattle.canvas_celery.specs.Looks.{looks}
+use Rattle.canvas_celery.specs.Pieces.{lines_in}
+use Rattle.canvas_celery.specs.Envelope.{message_text}
+use Rattle.canvas_celery.specs.ExportView.{setting, naming_of}
+use Rattle.canvas_celery.specs.FilledStart.{IsFilledStart}
+use Rattle.canvas_celery.specs.Resp.{resp}
+use Rattle.canvas_celery.specs.Start.{start}
+use Rattle.canvas_celery.specs.Starting.{starting}
+use Rattle.canvas_celery.specs.declared.commands.target.Target.{Target}
 use Rattle.canvas_report.specs.Wording.{stored_said, explained_said}
 use Rattle.canvas_report.specs.declared.row.Row.{Row}
 use Rattle.canvas_report.specs.declared.row.Row.TheVariants.{Known}

@@ -4,7 +4,7 @@ use Rattle.std.specs.Prelude.{ℕ, Bool, ◌+◌, ◌/◌, ◌%◌, ◌||◌, �
 use Rattle.std.specs.Prelude.{if◌then◌else◌, chars, flat_map}
 use Rattle.std.specs.Char.{digit_char}
 use Rattle.canvas_task.specs.Text.{Text}
-use Rattle.canvas_finding.specs.Shown.{is_printable}
+use Rattle.canvas_check.specs.Shown.{is_printable}
 
 -- a byte of a printed line, or the one that ends it
 abbrev pub is_line_byte : ℕ → Bool

@@ -3,10 +3,10 @@ use Rattle.std.specs.Prelude.{◌≡◌, ◌≢◌, ℕ, Bool, true, false, if�
 use Rattle.clap.specs.Walk.{Row, first_of}
 use Rattle.canvas_adapt.specs.RenameTexts.{AreRenameTexts}
 use Rattle.canvas_celery.specs.declared.run_number.Run as run_number
-use Rattle.canvas_export.specs.declared.target.Target.{Target}
-use Rattle.canvas_lists.specs.EntryList.{IsEntryFault, IsEntryList}
-use Rattle.canvas_lists.specs.declared.entry_list.EntryFault.TheVariants.{BadAgain}
-use Rattle.canvas_lists.specs.TurnList.{IsTurnList}
+use Rattle.canvas_celery.specs.declared.commands.target.Target.{Target}
+use Rattle.canvas_runs.specs.EntryList.{IsEntryFault, IsEntryList}
+use Rattle.canvas_runs.specs.declared.entry_list.EntryFault.TheVariants.{BadAgain}
+use Rattle.canvas_runs.specs.TurnList.{IsTurnList}
 use Rattle.canvas_task.specs.Text.{Text}
 use Rattle.canvas_words.specs.declared.subcommand.Subcommand.{Subcommand}
 use Rattle.canvas_words.specs.declared.subcommand.Subcommand.TheVariants.{Run, Turns, Normal, Check, Adapt, Graph, Page, Messages, Export, Keys, Collect}

@@ -6,9 +6,8 @@ ghost use Rattle.canvas_answer.specs.Requests.{IsAgain};
 
 use crate::given::text_given;
 use crate::refusal::Refusal;
-use canvas_lists::{EntryFault, read_again};
 use canvas_rewrite::Plan;
-use canvas_runs::When;
+use canvas_runs::{EntryFault, When, read_again};
 use canvas_task::{TaskNo, name_ok};
 use clap::ArgMatches;
 use std::alloc::{AllocError, Global};

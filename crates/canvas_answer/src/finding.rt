@@ -1,6 +1,6 @@
 //! The place at which a canvas is refused, for people and as JSON.
 
-use canvas_finding::{Finding, Spot, Step, pointer_text};
+use canvas_check::{Finding, Spot, Step, pointer_text};
 use canvas_report::quoted_json;
 use std::alloc::{AllocError, Global};
 use std::fmt;

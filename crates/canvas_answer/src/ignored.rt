@@ -4,7 +4,7 @@
 //! doesn't know to the broker.
 
 use crate::answer::Remark;
-use canvas_finding::{Signature, shown_name};
+use canvas_check::{Signature, shown_name};
 use std::alloc::{AllocError, Global};
 
 /// Appends the line on an option.

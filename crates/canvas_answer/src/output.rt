@@ -8,8 +8,8 @@ ghost use Rattle.canvas_answer.specs.Printing.{printed};
 
 use crate::printing::write_lines;
 use crate::refusal::Refusal;
+use canvas_celery::Start;
 use canvas_envelope::Letter;
-use canvas_export::Start;
 use canvas_report::message_line;
 use canvas_task::Memory;
 use std::alloc::Global;

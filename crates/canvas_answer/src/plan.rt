@@ -5,7 +5,7 @@ ghost use Rattle.canvas_values.specs.CanvasText.{text_reading};
 ghost use Rattle.canvas_answer.specs.Plans.{IsTextPlan, IsReadRefusal};
 
 use crate::refusal::Refusal;
-use canvas_finding::{Reading, Signature, read};
+use canvas_check::{Reading, Signature, read};
 use canvas_rewrite::Plan;
 use canvas_sig::{Canvas, SigFault, read_canvas};
 use canvas_task::Memory;

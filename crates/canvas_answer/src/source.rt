@@ -17,6 +17,7 @@ use crate::names::check_names;
 use crate::prepared::{Plans, Prepared};
 use crate::refusal::Refusal;
 use crate::setting::Setting;
+use canvas_check::{Blame, Expected, Forecast, Input, Wrong, blamed, forecasts, tasks_in};
 use canvas_ran::fates;
 use canvas_report::{Fate, Report, Row, Told, rows_text, stored_rows_text};
 use canvas_rewrite::Plan;
@@ -24,7 +25,6 @@ use canvas_sig::Canvas;
 use canvas_stubs::Stub;
 use canvas_task::{Memory, TaskNo, Tasks};
 use canvas_values::TaskSig;
-use canvas_warning::{Blame, Expected, Forecast, Input, Wrong, blamed, forecasts, tasks_in};
 use std::alloc::{AllocError, Global};
 
 /// A canvas's text, how it is prepared, and the tasks that answer its calls, with the stubs before

@@ -8,7 +8,7 @@ use crate::celery::CeleryRefusal;
 use crate::finding::{pointer_json, task_json, write_columns};
 use crate::refusal::Refusal;
 use crate::said::{Name, Note};
-use canvas_finding::{Finding, find};
+use canvas_check::{Finding, find};
 use canvas_report::quoted_json;
 use canvas_sig::SigFault;
 use canvas_task::Memory;

@@ -1,11 +1,10 @@
 //! The warnings of `canvas check` for a canvas that is accepted.
 
 use crate::source::{AtFault, Foreseen, Source};
-use canvas_finding::{Signature, pointer_text, shown_name};
+use canvas_check::{Expected, Forecast, Input, Signature, Wrong, pointer_text, shown_name};
 use canvas_report::quoted_json;
 use canvas_sig::Canvas;
 use canvas_task::{Memory, Tasks};
-use canvas_warning::{Expected, Forecast, Input, Wrong};
 use std::alloc::{AllocError, Global};
 use std::collections::BTreeMap;
 

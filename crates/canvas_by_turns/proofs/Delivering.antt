@@ -5,10 +5,10 @@ use Rattle.std.specs.List.{remove}
 use Rattle.std.proofs.lemmas.Option.{slice_get_read, same_Some}
 use Rattle.canvas_envelope.specs.declared.envelope.Envelope.{Envelope}
 use Rattle.canvas_runs.specs.Core.{taking, resting, over, failed, owning, doing, reading, acking, is_inside}
-use Rattle.canvas_turns.specs.Redeliveries.{Entry, wanted, spent, has, without}
+use Rattle.canvas_runs.specs.Redeliveries.{Entry, wanted, spent, has, without}
 use Rattle.canvas_core.specs.CoreState as standing
 use Rattle.canvas_core.specs.CoreState.{CoreView, Left, point_in, point_at}
-use Rattle.canvas_turns.specs.Turns.{redelivery}
+use Rattle.canvas_runs.specs.Turns.{redelivery}
 use Rattle.canvas_by_turns.specs.steps.Noting.{Noted}
 use Rattle.canvas_by_turns.specs.steps.TurnRuns.{Redelivers}
 use Rattle.canvas_by_turns.specs.declared.turn_run.TurnRun.{TurnRun}

@@ -5,7 +5,7 @@ use Rattle.std.specs.List.{remove}
 use Rattle.std.proofs.lemmas.Bool.{false≢true}
 use Rattle.std.proofs.lemmas.List.{take_all}
 use Rattle.canvas_runs.specs.declared.when.When.{When}
-use Rattle.canvas_turns.specs.Redeliveries.{Entry, is_for, has, without}
+use Rattle.canvas_runs.specs.Redeliveries.{Entry, is_for, has, without}
 
 module _ (k : ℕ) (w : When) where
   pub none_more : (es : List Entry) (i : ℕ) (e : Entry) → slice_get es i ≡ Some e → has k w (take i es) ≡ false → is_for k w e ≡ false

@@ -12,7 +12,7 @@ use Rattle.canvas_history.specs.Roster.{Roster}
 use Rattle.canvas_history.specs.Table.{Results}
 use Rattle.canvas_runs.specs.Core as C
 use Rattle.canvas_runs.specs.Worker.{sealed}
-use Rattle.canvas_turns.specs.Turns.{Step}
+use Rattle.canvas_runs.specs.Turns.{Step}
 use Rattle.canvas_core.specs.Asks.{Asked, Answer}
 use Rattle.canvas_by_turns.specs.Noted.{did_seen, step_seen, opening_step, opening_steps}
 use Rattle.canvas_by_turns.specs.Traced.{sent_by, sent_in, sent_after}

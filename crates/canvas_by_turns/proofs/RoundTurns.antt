@@ -7,8 +7,8 @@ use Rattle.std.proofs.lemmas.List.{take_all}
 use Rattle.canvas_task.specs.Apply.{Behaviour}
 use Rattle.canvas_semantics.specs.Line.{Line}
 use Rattle.canvas_runs.proofs.Lists.Sums.{total-append}
-use Rattle.canvas_turns.specs.Turns.{Step, IsWorker, HasEnded, round, rounds, redelivers_one, redeliveries_in}
-use Rattle.canvas_turns.proofs.TurnEnds.{begins_list, begins_rotation, rounds_next}
+use Rattle.canvas_runs.specs.Turns.{Step, IsWorker, HasEnded, round, rounds, redelivers_one, redeliveries_in}
+use Rattle.canvas_runs.proofs.ByTurns.TurnEnds.{begins_list, begins_rotation, rounds_next}
 use Rattle.canvas_core.specs.declared.cause.Cause.{Cause}
 use Rattle.canvas_core.specs.declared.cause.Cause.TheVariants.{Memory, Stopped}
 use Rattle.canvas_by_turns.specs.steps.TurnRuns.{Given, Reached, HasReached, IsTurn, IsHalt, IsPartOfRound, IsHaltInRound, IsEarlyEnd, IsRunThrough}

@@ -25,10 +25,10 @@ use Rattle.canvas_runs.specs.declared.when.When.{When}
 use Rattle.canvas_runs.specs.declared.when.When.TheVariants.{Early, Late}
 use Rattle.canvas_runs.proofs.Lists.Sums.{total-append}
 use Rattle.canvas_runs.proofs.Runs.MoreAsks.{by_append, scripts_append, held_append, asks_of_scripts}
-use Rattle.canvas_turns.specs.Redeliveries.{TurnedAgain, wanted, spent, comes_to, message_in, point_of, point, answers_again, agains_in}
-use Rattle.canvas_turns.specs.Turns.{Step, IsWorker, redelivery, Turned, all_taken, delivers_again, left, holds, holds_more, is_queued, redelivers_one}
-use Rattle.canvas_turns.proofs.Redeliveries.{again_step, again_spend}
-use Rattle.canvas_turns.proofs.Turning.{queue_more, results_more, turned_append}
+use Rattle.canvas_runs.specs.Redeliveries.{TurnedAgain, wanted, spent, comes_to, message_in, point_of, point, answers_again, agains_in}
+use Rattle.canvas_runs.specs.Turns.{Step, IsWorker, redelivery, Turned, all_taken, delivers_again, left, holds, holds_more, is_queued, redelivers_one}
+use Rattle.canvas_runs.proofs.ByTurns.Redeliveries.{again_step, again_spend}
+use Rattle.canvas_runs.proofs.ByTurns.Turning.{queue_more, results_more, turned_append}
 use Rattle.canvas_core.specs.Asks.{Asked, Answer, replied}
 use Rattle.canvas_core.specs.Cores.{IsAlike}
 use Rattle.canvas_core.specs.Books.{no_book}

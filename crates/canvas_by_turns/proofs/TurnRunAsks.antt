@@ -10,7 +10,7 @@ use Rattle.canvas_backend.specs.Plain.{PlainView, held}
 use Rattle.canvas_history.specs.Roster.{Roster}
 use Rattle.canvas_runs.specs.Core as C
 use Rattle.canvas_runs.specs.Core.{ReadsBack}
-use Rattle.canvas_turns.specs.Turns.{queue_next, results_next}
+use Rattle.canvas_runs.specs.Turns.{queue_next, results_next}
 use Rattle.canvas_core.specs.Asks.{Asked, FoundOf, replied}
 use Rattle.canvas_effects.specs.Job.{store, publish, part}
 use Rattle.canvas_runs.specs.Book.{Book, book_on}

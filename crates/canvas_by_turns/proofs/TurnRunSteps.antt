@@ -19,8 +19,8 @@ use Rattle.canvas_runs.specs.Core.{to_queue, to_table, rest, from_queue, from_ta
 use Rattle.canvas_history.specs.Lists.{Each, by}
 use Rattle.canvas_runs.specs.Worker.{worker}
 use Rattle.canvas_runs.proofs.Runs.MoreAsks.{by_more, by_other, left_more, core_more, scripts_more, asks_of_scripts, held_append}
-use Rattle.canvas_turns.specs.Turns.{Step, IsWorker, Turned, Answers, HasEnded, left, queue_after, queue_next, results_after, results_next, holds_more, some_inside, is_queued}
-use Rattle.canvas_turns.proofs.Turning.{queue_more, results_more, turned_step}
+use Rattle.canvas_runs.specs.Turns.{Step, IsWorker, Turned, Answers, HasEnded, left, queue_after, queue_next, results_after, results_next, holds_more, some_inside, is_queued}
+use Rattle.canvas_runs.proofs.ByTurns.Turning.{queue_more, results_more, turned_step}
 use Rattle.canvas_core.specs.Asks.{Asked, Answer, FoundOf, replied}
 use Rattle.canvas_core.specs.Books.{no_book}
 use Rattle.canvas_core.specs.Cores.{GoTogether, IsAlike}

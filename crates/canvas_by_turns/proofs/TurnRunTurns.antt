@@ -9,11 +9,11 @@ use Rattle.canvas_history.specs.Table.{Results, store, part, read}
 use Rattle.canvas_backend.specs.Plain.{held}
 use Rattle.canvas_history.specs.Roster.{Roster, roster_of}
 use Rattle.canvas_runs.specs.Core.{to_table, taking, doing, reading, ReadsBack, is_inside}
-use Rattle.canvas_turns.specs.TurnLaws.{Answerable}
-use Rattle.canvas_turns.specs.Turns.{Step, IsWorker, HasEnded, results_after, results_next, is_queued}
-use Rattle.canvas_turns.proofs.TurnLaw.{next_answerable, held_range}
-use Rattle.canvas_turns.proofs.Redeliveries.{again_skip}
-use Rattle.canvas_turns.proofs.Turning.{results_more, turned_skip}
+use Rattle.canvas_runs.specs.TurnLaws.{Answerable}
+use Rattle.canvas_runs.specs.Turns.{Step, IsWorker, HasEnded, results_after, results_next, is_queued}
+use Rattle.canvas_runs.proofs.ByTurns.TurnLaw.{next_answerable, held_range}
+use Rattle.canvas_runs.proofs.ByTurns.Redeliveries.{again_skip}
+use Rattle.canvas_runs.proofs.ByTurns.Turning.{results_more, turned_skip}
 use Rattle.canvas_effects.specs.Job as job
 use Rattle.canvas_history.specs.Lists.{by}
 use Rattle.canvas_runs.specs.Book.{book_of, book_on}

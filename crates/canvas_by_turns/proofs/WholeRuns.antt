@@ -14,16 +14,16 @@ use Rattle.canvas_history.specs.Table.{no_results}
 use Rattle.canvas_backend.specs.Plain.{held}
 use Rattle.canvas_runs.specs.Tally.{greatest_count}
 use Rattle.canvas_runs.specs.Law.{its_state}
-use Rattle.canvas_turns.specs.Termination.{most_steps}
-use Rattle.canvas_turns.specs.Redeliveries.{Entry, TurnedAgain, no_turn, ByEntries, RunEntries, agains_in}
+use Rattle.canvas_runs.specs.Termination.{most_steps}
+use Rattle.canvas_runs.specs.Redeliveries.{Entry, TurnedAgain, no_turn, ByEntries, RunEntries, agains_in}
 use Rattle.canvas_semantics.specs.States.{EachMay}
 use Rattle.canvas_runs.specs.Worker.{sealed}
-use Rattle.canvas_turns.specs.TurnLaws.{held_rows}
-use Rattle.canvas_turns.specs.Turns.{Step, FirstsRead, all_taken, rounds, redeliveries_in}
-use Rattle.canvas_turns.proofs.Agains.{few_again, agains_few, agains_are}
-use Rattle.canvas_turns.proofs.Redeliveries.{are_turns}
-use Rattle.canvas_turns.proofs.Spends.{spends_length}
-use Rattle.canvas_turns.proofs.TurnLaw.{states_are, states_may}
+use Rattle.canvas_runs.specs.TurnLaws.{held_rows}
+use Rattle.canvas_runs.specs.Turns.{Step, FirstsRead, all_taken, rounds, redeliveries_in}
+use Rattle.canvas_runs.proofs.ByTurns.Agains.{few_again, agains_few, agains_are}
+use Rattle.canvas_runs.proofs.ByTurns.Redeliveries.{are_turns}
+use Rattle.canvas_runs.proofs.ByTurns.Spends.{spends_length}
+use Rattle.canvas_runs.proofs.ByTurns.TurnLaw.{states_are, states_may}
 use Rattle.canvas_core.specs.CoreState.{CoreView, begun}
 use Rattle.canvas_core.specs.declared.cause.Cause.{Cause}
 use Rattle.canvas_core.specs.declared.cause.Cause.TheVariants.{Memory, Stopped}

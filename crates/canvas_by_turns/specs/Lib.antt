@@ -7,7 +7,7 @@ pub use Rattle.canvas_backend.specs.Plain
 pub use Rattle.canvas_effects.specs.Effects
 pub use Rattle.canvas_history.specs.Roster
 pub use Rattle.canvas_history.specs.Table
-pub use Rattle.canvas_lists.specs.TurnList
+pub use Rattle.canvas_runs.specs.TurnList
 pub use Rattle.canvas_rewrite.specs.Planned
 pub use Rattle.canvas_runs.specs.Worker
 pub use Rattle.canvas_runs.specs.declared.when.When
@@ -15,6 +15,6 @@ pub use Rattle.canvas_semantics.specs.Evaluation
 pub use Rattle.canvas_semantics.specs.Line
 pub use Rattle.canvas_semantics.specs.States
 pub use Rattle.canvas_semantics.specs.Tree
-pub use Rattle.canvas_turns.specs.Termination
-pub use Rattle.canvas_turns.specs.Redeliveries
-pub use Rattle.canvas_turns.specs.Turns
+pub use Rattle.canvas_runs.specs.Termination
+pub use Rattle.canvas_runs.specs.Redeliveries
+pub use Rattle.canvas_runs.specs.Turns

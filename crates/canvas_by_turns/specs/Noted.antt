@@ -13,8 +13,8 @@ use Rattle.canvas_history.specs.Queue as queue
 use Rattle.canvas_history.specs.Table as table
 use Rattle.canvas_runs.specs.Core.{Ask, Reply, to_queue, to_table, rest, ack, from_queue, from_table, rested, acked}
 use Rattle.canvas_runs.specs.Worker.{sealed}
-use Rattle.canvas_turns.specs.Redeliveries.{Entry}
-use Rattle.canvas_turns.specs.Turns.{Step}
+use Rattle.canvas_runs.specs.Redeliveries.{Entry}
+use Rattle.canvas_runs.specs.Turns.{Step}
 use Rattle.canvas_by_turns.specs.Correct.{IsWholeAgain}
 use Rattle.canvas_by_turns.specs.declared.notes.Did.{Did}
 use Rattle.canvas_by_turns.specs.declared.notes.Did.TheVariants as did

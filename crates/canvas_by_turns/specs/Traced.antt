@@ -11,7 +11,7 @@ use Rattle.canvas_envelope.specs.declared.envelope.Envelope.{Envelope}
 use Rattle.canvas_history.specs.Queue as queue
 use Rattle.canvas_runs.specs.Core.{Ask, to_queue}
 use Rattle.canvas_runs.specs.Worker.{sealed}
-use Rattle.canvas_turns.specs.Turns.{Step}
+use Rattle.canvas_runs.specs.Turns.{Step}
 use Rattle.canvas_by_turns.specs.Correct.{IsWholeRun}
 
 abbrev pub sent_by : Ask Envelope → List Envelope

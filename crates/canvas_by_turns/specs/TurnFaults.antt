@@ -1,6 +1,6 @@
 -- Why a text has no list of turns, as a fault of runs.
 use Rattle.std.specs.Prelude.{ℕ, ◌<◌, List, length, None}
-use Rattle.canvas_lists.specs.TurnList.{IsTurnList}
+use Rattle.canvas_runs.specs.TurnList.{IsTurnList}
 use Rattle.canvas_core.specs.declared.cause.Cause.TheVariants.{Memory}
 use Rattle.canvas_by_turns.specs.declared.fault.RunFault.{RunFault}
 use Rattle.canvas_by_turns.specs.declared.fault.RunFault.TheVariants.{BadTurn, Halted}

@@ -1,7 +1,7 @@
 //! Entries of a run by turns: the points at which an envelope is redelivered.
 ghost use Rattle.std.specs.Prelude.{◌≡◌, ◌<◌, true, false, MatchOption, length};
 ghost use Rattle.std.specs.List.{remove};
-ghost use Rattle.canvas_turns.specs.Redeliveries.{is_for, has, without};
+ghost use Rattle.canvas_runs.specs.Redeliveries.{is_for, has, without};
 
 use canvas_runs::When;
 use canvas_task::TaskNo;

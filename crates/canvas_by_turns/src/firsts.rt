@@ -4,7 +4,7 @@ ghost use Rattle.canvas_history.specs.Lists.{Each};
 ghost use Rattle.canvas_runs.specs.Worker.{sealed};
 ghost use Rattle.canvas_by_turns.specs.steps.TurnRuns.{ReadsAs};
 ghost use Rattle.canvas_effects.specs.Effects.{first_messages};
-ghost use Rattle.canvas_turns.specs.Turns.{FirstsRead};
+ghost use Rattle.canvas_runs.specs.Turns.{FirstsRead};
 
 use canvas_effects::FirstMessages;
 use canvas_envelope::{Letter, Message};

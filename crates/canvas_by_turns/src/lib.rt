@@ -1,7 +1,7 @@
 //! Runs of plans by turns, on one thread.
 //!
 //! A run is described by its steps, each a worker's ask with its answer. What a worker has left,
-//! what is queued and what is stored follow from the steps before (`canvas_turns`, `specs/Turns`),
+//! what is queued and what is stored follow from the steps before (`canvas_runs`, `specs/Turns`),
 //! so the contract of a run names no state of the code.
 #![tactic(auto)]
 

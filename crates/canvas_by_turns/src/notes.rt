@@ -2,7 +2,7 @@
 ghost use Rattle.std.specs.Prelude.{◌≡◌, ◌∷◌, ◌++◌, [], IfOk, None, OnOk, false, map, option_to_list};
 ghost use Rattle.canvas_history.specs.Queue as queue;
 ghost use Rattle.canvas_runs.specs.Core as C;
-ghost use Rattle.canvas_turns.specs.Turns.{redelivery};
+ghost use Rattle.canvas_runs.specs.Turns.{redelivery};
 ghost use Rattle.canvas_by_turns.specs.Noted.{did_seen, opening_step, step_seen};
 ghost use Rattle.canvas_by_turns.specs.Traced.{sent_by, sent_in};
 ghost use Rattle.canvas_by_turns.specs.steps.Noting.{Noted, publishes};

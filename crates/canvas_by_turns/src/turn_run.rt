@@ -10,7 +10,7 @@ ghost use Rattle.canvas_history.specs.Roster.{roster_of};
 ghost use Rattle.canvas_runs.specs.Core.{ReadsBack, is_inside};
 ghost use Rattle.canvas_runs.specs.Tally.{greatest_count};
 ghost use Rattle.canvas_runs.specs.Worker.{sealed};
-ghost use Rattle.canvas_turns.specs.Turns.{Step, IsWorker, FirstsRead, is_queued};
+ghost use Rattle.canvas_runs.specs.Turns.{Step, IsWorker, FirstsRead, is_queued};
 ghost use Rattle.canvas_core.specs.Books.{no_book};
 ghost use Rattle.canvas_core.specs.EnvelopeWorker.{enveloped_by, no_tasks};
 ghost use Rattle.canvas_core.specs.CoreState as standing;

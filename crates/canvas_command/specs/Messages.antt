@@ -6,8 +6,8 @@ use Rattle.canvas_task.specs.Text.{Text}
 use Rattle.canvas_semantics.specs.Evaluation.{State}
 use Rattle.canvas_semantics.specs.Line.{Line}
 use Rattle.canvas_envelope.specs.declared.envelope.Envelope.{Envelope}
-use Rattle.canvas_calls.specs.Calls.{calls_text}
-use Rattle.canvas_calls.specs.Fronts.{fronts}
+use Rattle.canvas_ran.specs.Calls.{calls_text}
+use Rattle.canvas_ran.specs.Fronts.{fronts}
 use Rattle.canvas_engine.specs.Traced.{IsTraced}
 use Rattle.canvas_answer.specs.Answers.{AnswersAll}
 use Rattle.canvas_answer.specs.Letters.{message_lines}

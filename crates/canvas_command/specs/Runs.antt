@@ -21,7 +21,7 @@ use Rattle.canvas_by_turns.specs.declared.fault.RunFault.TheVariants.{BadWorkers
 use Rattle.canvas_by_turns.specs.Correct.{IsRunFault}
 use Rattle.canvas_by_turns.specs.Noted.{IsStepped, step_seen}
 use Rattle.canvas_by_turns.specs.declared.notes.Step.{Step}
-use Rattle.canvas_turns.specs.Redeliveries.{Entry}
+use Rattle.canvas_runs.specs.Redeliveries.{Entry}
 use Rattle.canvas_steps.specs.Lines.{none_held, steps_text}
 use Rattle.canvas_report.specs.Failing.{any_failed}
 use Rattle.canvas_report.specs.declared.report.Report.{Report}

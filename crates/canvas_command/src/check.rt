@@ -9,7 +9,7 @@ use canvas_answer::refusal::Refusal;
 use canvas_answer::reporting::OutputOptions;
 use canvas_answer::source::Source;
 use canvas_answer::warnings::warnings_of;
-use canvas_finding::{Reading, Signature, read};
+use canvas_check::{Reading, Signature, read};
 use canvas_rewrite::Plan;
 use canvas_sig::Canvas;
 use canvas_task::Tasks;

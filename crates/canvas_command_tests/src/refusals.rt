@@ -2,7 +2,7 @@
 
 use canvas_command::{Refusal, refuse_words, refused};
 use canvas_engine::{Cause, RunFault};
-use canvas_lists::EntryFault;
+use canvas_runs::EntryFault;
 use std::alloc::Global;
 use std::io::{self, ErrorKind};
 use std::test::Fail;

@@ -11,7 +11,7 @@ use Rattle.canvas_semantics.specs.SameMeaning.{IsSame}
 use Rattle.canvas_semantics.specs.States.{states, rows_from}
 use Rattle.canvas_semantics.proofs.RowNumbers.{states_in, states_listed}
 use Rattle.canvas_semantics.proofs.SameReport.{same_report}
-use Rattle.canvas_turns.specs.Redeliveries.{Entry}
+use Rattle.canvas_runs.specs.Redeliveries.{Entry}
 use Rattle.canvas_by_turns.specs.Correct.{AreWorkers, IsAsked, IsWholeAgain}
 use Rattle.canvas_history.specs.Callers.{told}
 use Rattle.canvas_rewrite.specs.Planned.{IsPlan}

@@ -18,9 +18,9 @@ use Rattle.canvas_runs.specs.Law.{publications}
 use Rattle.canvas_runs.specs.Run.{Run, Closed, published_all}
 use Rattle.canvas_runs.specs.Tally.{Tally as Counts, CountsOf}
 use Rattle.canvas_runs.specs.Worker.{sealed}
-use Rattle.canvas_callers.specs.PerCaller.{QueuePerCaller, TablePerCaller}
-use Rattle.canvas_callers.specs.CallerLaws.{broker_calls_seen}
-use Rattle.canvas_callers.specs.Rows.{RanWell}
+use Rattle.canvas_runs.specs.PerCaller.{QueuePerCaller, TablePerCaller}
+use Rattle.canvas_runs.specs.CallerLaws.{broker_calls_seen}
+use Rattle.canvas_runs.specs.CallerRows.{RanWell}
 use Rattle.canvas_core.specs.declared.cause.Cause.TheVariants.{Memory, Stopped}
 use Rattle.canvas_by_turns.specs.Correct.{AreWorkers}
 use Rattle.canvas_by_turns.specs.declared.fault.RunFault.{RunFault}

@@ -11,7 +11,7 @@ pub use Rattle.canvas_by_turns.specs.TurnFaults
 pub use Rattle.canvas_history.specs.Callers
 pub use Rattle.canvas_history.specs.Roster
 pub use Rattle.canvas_history.specs.Table
-pub use Rattle.canvas_lists.specs.TurnList
+pub use Rattle.canvas_runs.specs.TurnList
 pub use Rattle.canvas_rewrite.specs.Ends
 pub use Rattle.canvas_rewrite.specs.Planned
 pub use Rattle.canvas_runs.specs.Tally
@@ -21,7 +21,7 @@ pub use Rattle.canvas_semantics.specs.Line
 pub use Rattle.canvas_semantics.specs.Report
 pub use Rattle.canvas_semantics.specs.States
 pub use Rattle.canvas_semantics.specs.Tree
-pub use Rattle.canvas_turns.specs.Termination
-pub use Rattle.canvas_turns.specs.Redeliveries
-pub use Rattle.canvas_turns.specs.Turns
+pub use Rattle.canvas_runs.specs.Termination
+pub use Rattle.canvas_runs.specs.Redeliveries
+pub use Rattle.canvas_runs.specs.Turns
 pub use Rattle.canvas_values.specs.CanvasText

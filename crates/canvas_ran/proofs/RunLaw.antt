@@ -24,6 +24,7 @@ use Rattle.canvas_effects.specs.Flowing.{Input, no_input, number_input, list_inp
 use Rattle.canvas_effects.specs.Job.{Job, store, publish, part}
 use Rattle.canvas_effects.specs.Placing.{last_task}
 use Rattle.canvas_runs.proofs.Laws.EventStates.{event_states}
+use Rattle.canvas_runs.proofs.Plans.StateRows.{input_fails, input_passes}
 use Rattle.canvas_report.specs.Fates.{Fates}
 use Rattle.canvas_ran.specs.Ran.{fate, blamed_behind, blamed_for, task_fates, tasks_fates, header_out, line_fates, lines_fates, fates}
 use Rattle.canvas_ran.specs.RanLaws.{RanIsRun}
@@ -111,19 +112,6 @@ input_ran no_input d = refl
 input_ran (number_input n) d = refl
 input_ran (list_input ns) d = refl
 input_ran (id_input k) d = refl
-
-input_fails : (k : ℕ) (x : Input) (f : Fault) → to_errbacks k (Some (input_flow x)) (Some (Failure f)) ≡ Some
-    (eval.id k)
-input_fails k no_input f = refl
-input_fails k (number_input n) f = refl
-input_fails k (list_input ns) f = refl
-input_fails k (id_input j) f = refl
-
-input_passes : (k : ℕ) (x : Input) (n : ℤ) → to_errbacks k (Some (input_flow x)) (Some (Success n)) ≡ None
-input_passes k no_input n = refl
-input_passes k (number_input m) n = refl
-input_passes k (list_input ns) n = refl
-input_passes k (id_input j) n = refl
 
 module _ (behaviour : Behaviour) where
   input_state : (k : ℕ) (call : Call) (ls es : Tasks) (x : Input)

@@ -1,6 +1,7 @@
 //! Runs of canvases as data: what a worker asks, which histories of the queue and of the table of
-//! results a run has, and the law of whole runs. There is no running code here: each function has
-//! an empty body, and its contract is a law.
+//! results a run has, and the law of whole runs. What the callers of shared objects saw makes such
+//! a run, and so does a run by turns on one thread. Each law is the contract of a function with an
+//! empty body. The running code is `When`, and the texts of lists: of turns, and of redeliveries.
 //!
 //! A core run is a machine: what is left to do, what is asked next, and what an answer leads to.
 //! What it asks is a call of the queue or of the table, an acknowledgement, or whether more may
@@ -17,6 +18,11 @@
 //! time: the law goes by the numbers of tasks, of which every cause is smaller than its effects.
 #![tactic(auto)]
 
+mod callers;
+mod comma_list;
+mod entry_list;
+mod turn_list;
+mod turns;
 mod when;
 
 ghost use Rattle.std.specs.Prelude.{◌≡◌, ◌≤◌, ℕ};
@@ -40,13 +46,21 @@ ghost use Rattle.canvas_runs.specs.Core.{IsCoreRun, taking};
 ghost use Rattle.canvas_runs.specs.Worker.{worker};
 ghost use Rattle.canvas_history.specs.Queue.{IsLegal as IsQueueLegal};
 
+pub use callers::{law_of_callers, rows_of_runs, runs_of_callers};
+pub use comma_list::ListFault;
+pub use entry_list::{EntryFault, read_again};
+pub use turn_list::read_turns;
+pub use turns::{
+    ends_of_turns, laws_of_entries, laws_of_turns, runs_by_entries, turns_go_on, turns_of_a_chord,
+};
 pub use when::When;
 
 /// The law of runs. For any number of workers and any order of their calls, a run of a plan stores
 /// only the outcomes that evaluating its canvas gives, and publishes only the messages of tasks
 /// that are run, each once. A run that is closed stores all these outcomes, publishes all these
 /// messages and returns all these parts, each once. So each task of the canvas has the state that
-/// evaluating the canvas gives. In every run each chord is completed at most once.
+/// evaluating the canvas gives. In every run each chord is completed at most once, and at most one
+/// store of a task is the first: the others answer Again, no more than its message was redelivered.
 pub fn law_of_runs()
     ensures every_run { (behaviour : Behaviour) (l : Line) → IsPlan l → (r : Run behaviour l)
         → FirstPart behaviour l r }

@@ -6,8 +6,8 @@ use Rattle.canvas_rewrite.specs.declared.frozen.FrozenEnd.{FrozenEnd}
 use Rattle.canvas_semantics.specs.Line.{Line}
 use Rattle.canvas_semantics.specs.Tree.{Call, Task, task}
 use Rattle.canvas_stubs.specs.declared.stub.Stub.{Stub}
-use Rattle.canvas_warning.specs.declared.position.Input.{Input}
-use Rattle.canvas_warning.specs.declared.position.Input.TheVariants.{Number}
+use Rattle.canvas_check.specs.declared.position.Input.{Input}
+use Rattle.canvas_check.specs.declared.position.Input.TheVariants.{Number}
 use Rattle.canvas_answer.specs.Blamed.{Blames, line_blames, task_blames}
 
 abbrev pub call_in : Task → Call

@@ -1,7 +1,7 @@
 //! Why a canvas isn't started on Celery's workers, or its results have no report.
 
 use crate::refusal::Refusal;
-use canvas_collect::{CollectFault, StoredFault};
+use canvas_celery::{CollectFault, StoredFault};
 use canvas_task::TaskNo;
 use std::fmt::{self, Display};
 

@@ -10,9 +10,9 @@ use Rattle.canvas_task.specs.Apply.{Behaviour}
 use Rattle.canvas_semantics.specs.Evaluation.{State}
 use Rattle.canvas_semantics.specs.Line.{Line, tree_of}
 use Rattle.canvas_semantics.specs.States.{states, EachMay}
-use Rattle.canvas_turns.specs.Redeliveries.{Entry, ByEntries}
-use Rattle.canvas_turns.specs.TurnLaws.{held_rows}
-use Rattle.canvas_turns.specs.Turns.{Step, IsWorker, HasEnded, Begins, redeliveries_in}
+use Rattle.canvas_runs.specs.Redeliveries.{Entry, ByEntries}
+use Rattle.canvas_runs.specs.TurnLaws.{held_rows}
+use Rattle.canvas_runs.specs.Turns.{Step, IsWorker, HasEnded, Begins, redeliveries_in}
 use Rattle.canvas_core.specs.declared.cause.Cause.TheVariants.{Memory, Stopped}
 use Rattle.canvas_by_turns.specs.Correct.{AreWorkers, AreTurns, IsAsked, IsWholeAgain}
 use Rattle.canvas_by_turns.specs.Noted.{opening_steps}

@@ -3,7 +3,7 @@ use Rattle.std.specs.Prelude.{◌≡◌, Bool, true, false, List, [], ◌++◌, 
 use Rattle.canvas_envelope.specs.declared.envelope.Envelope.{Envelope}
 use Rattle.canvas_history.specs.Queue as queue
 use Rattle.canvas_runs.specs.Core.{Ask, to_queue}
-use Rattle.canvas_turns.specs.Turns.{Step}
+use Rattle.canvas_runs.specs.Turns.{Step}
 use Rattle.canvas_by_turns.specs.Noted.{step_seen}
 use Rattle.canvas_by_turns.specs.declared.notes.Keeps.{Keeps}
 use Rattle.canvas_by_turns.specs.declared.notes.Keeps.TheVariants.{Nothing, Published, All}

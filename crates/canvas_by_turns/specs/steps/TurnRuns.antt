@@ -18,9 +18,9 @@ use Rattle.canvas_runs.specs.Core.{to_queue, to_table, rest, from_queue, from_ta
 use Rattle.canvas_history.specs.Lists.{by}
 use Rattle.canvas_runs.specs.Tally.{greatest_count}
 use Rattle.canvas_runs.specs.Worker.{read_envelope, sealed}
-use Rattle.canvas_turns.specs.Redeliveries.{Entry, TurnedAgain, wanted, spent, agains_in}
-use Rattle.canvas_turns.specs.Turns.{Step, redelivery, HasEnded, IsWorker, AllEnded, Begins, round, rounds, queue_after, queue_next, results_after, results_next, redeliveries_in}
-use Rattle.canvas_turns.specs.TurnLaws.{ByTurns}
+use Rattle.canvas_runs.specs.Redeliveries.{Entry, TurnedAgain, wanted, spent, agains_in}
+use Rattle.canvas_runs.specs.Turns.{Step, redelivery, HasEnded, IsWorker, AllEnded, Begins, round, rounds, queue_after, queue_next, results_after, results_next, redeliveries_in}
+use Rattle.canvas_runs.specs.TurnLaws.{ByTurns}
 use Rattle.canvas_envelope.specs.Content.{Content}
 use Rattle.canvas_core.specs.Asks.{Asked, Answer, FoundOf, replied}
 use Rattle.canvas_core.specs.Books.{no_book}

@@ -26,7 +26,7 @@ use Rattle.canvas_runs.specs.Worker.{opened}
 use Rattle.canvas_runs.proofs.Laws.Bodies.{start_sends}
 use Rattle.canvas_runs.proofs.Laws.ProgramOrder.{order_sends, order_calls, completed_before}
 use Rattle.canvas_runs.proofs.Laws.SecondLaw.{second_part}
-use Rattle.canvas_callers.specs.CallerRuns.{numbers_along}
+use Rattle.canvas_runs.specs.CallerRuns.{numbers_along}
 use Rattle.canvas_engine.specs.Evidence.{IsRun}
 use Rattle.canvas_engine.specs.Headline.{of_task, publications, Headline}
 use Rattle.canvas_engine.specs.declared.threads.records.Records.{Records}

@@ -25,9 +25,9 @@ use Rattle.canvas_runs.proofs.Ends.FewCalls.{same_sum, few_calls}
 use Rattle.canvas_runs.proofs.Laws.FirstLaw.{inner_run, callers}
 use Rattle.canvas_runs.proofs.Laws.SecondLaw.{second_part}
 use Rattle.canvas_runs.proofs.Lists.Sums.{total-append, sum_to-le, sum_to-both, total_by, at_zero}
-use Rattle.canvas_callers.specs.CallerRuns.{Ran, EndedWell}
-use Rattle.canvas_callers.specs.Rows.{reads_from}
-use Rattle.canvas_callers.proofs.FromCallerRuns.{the_run, the_closed}
+use Rattle.canvas_runs.specs.CallerRuns.{Ran, EndedWell}
+use Rattle.canvas_runs.specs.CallerRows.{reads_from}
+use Rattle.canvas_runs.proofs.ByCallers.FromCallerRuns.{the_run, the_closed}
 use Rattle.canvas_engine.specs.RecordLaws.{FewEntries, AllArePlain}
 
 -- ---- how long a list is

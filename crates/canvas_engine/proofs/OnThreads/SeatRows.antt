@@ -8,8 +8,8 @@ use Rattle.canvas_history.specs.Table.{read, found}
 use Rattle.canvas_history.specs.Seats.{Stands}
 use Rattle.canvas_history.specs.Roster.{Roster}
 use Rattle.canvas_runs.specs.Following.{Seat, Serves}
-use Rattle.canvas_callers.specs.Rows.{reads_from}
-use Rattle.canvas_callers.proofs.Snoc.{read_more}
+use Rattle.canvas_runs.specs.CallerRows.{reads_from}
+use Rattle.canvas_runs.proofs.ByCallers.Snoc.{read_more}
 
 pub row_read : (plan : Roster) (s t u : Seat) (rows : List State) (i n : ℕ) (x : State) → i < length rows → n ≡ i + 1 → length (take i rows) ≡ i
     → Serves plan s (reads_from 1 (take i rows)) t

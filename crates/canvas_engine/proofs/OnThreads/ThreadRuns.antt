@@ -19,9 +19,9 @@ use Rattle.canvas_history.specs.Roster.{roster_of}
 use Rattle.canvas_history.specs.Queue.{QueueEntry as Entries}
 use Rattle.canvas_runs.specs.Following.{Pass, Seat, Makes, Serves, starting, IsDone, IsOver}
 use Rattle.canvas_history.specs.Lists.{Each}
-use Rattle.canvas_callers.specs.CallerLaws.{broker_calls_seen}
-use Rattle.canvas_callers.specs.CallerRuns.{PlanWorker, HasFollowed, CallerRun, Ran, EndedWell, OwnTally, first_pass, first_seat}
-use Rattle.canvas_callers.specs.Rows.{reads_from, RanTo, RanWell}
+use Rattle.canvas_runs.specs.CallerLaws.{broker_calls_seen}
+use Rattle.canvas_runs.specs.CallerRuns.{PlanWorker, HasFollowed, CallerRun, Ran, EndedWell, OwnTally, first_pass, first_seat}
+use Rattle.canvas_runs.specs.CallerRows.{reads_from, RanTo, RanWell}
 use Rattle.canvas_semantics.specs.States.{EachMay}
 use Rattle.canvas_runs.specs.Run.{IsRead, published_all}
 use Rattle.canvas_runs.specs.Tally.{Tally as Counts, EachCounts, greatest_count}
@@ -30,9 +30,9 @@ use Rattle.canvas_runs.proofs.Laws.Causes.{by_cause, completed_once, by_its_caus
 use Rattle.canvas_runs.proofs.Laws.FirstLaw.{first_part}
 use Rattle.canvas_runs.proofs.Lists.Words.{each_weaker}
 use Rattle.canvas_runs.specs.Core.{Between}
-use Rattle.canvas_callers.proofs.FromCallerRuns.{passes, seats, the_run, the_closed}
-use Rattle.canvas_callers.proofs.Rows.{rows_of_well, rows_of_any}
-use Rattle.canvas_callers.proofs.Tallies.{tallies_count}
+use Rattle.canvas_runs.proofs.ByCallers.FromCallerRuns.{passes, seats, the_run, the_closed}
+use Rattle.canvas_runs.proofs.ByCallers.Rows.{rows_of_well, rows_of_any}
+use Rattle.canvas_runs.proofs.ByCallers.Tallies.{tallies_count}
 use Rattle.canvas_worker.specs.Finished.{Finished}
 use Rattle.canvas_worker.proofs.Polls.Stepping.{nothing_done}
 use Rattle.canvas_worker.specs.declared.record.Record.{Record}

@@ -22,10 +22,10 @@ use Rattle.canvas_runs.specs.Following.{Pass, Seat, Serves}
 use Rattle.canvas_runs.specs.Run.{published_all}
 use Rattle.canvas_runs.specs.Worker.{opened}
 use Rattle.canvas_runs.proofs.Lists.Words.{in_each, in_append_cases}
-use Rattle.canvas_callers.specs.PerCaller.{HasQueueCalls, QueuePerCaller}
-use Rattle.canvas_callers.specs.CallerRuns.{CallerRun, Ran, numbers_along}
-use Rattle.canvas_callers.specs.Rows.{reads_from}
-use Rattle.canvas_callers.proofs.FromCallerRuns.{passes, sent}
+use Rattle.canvas_runs.specs.PerCaller.{HasQueueCalls, QueuePerCaller}
+use Rattle.canvas_runs.specs.CallerRuns.{CallerRun, Ran, numbers_along}
+use Rattle.canvas_runs.specs.CallerRows.{reads_from}
+use Rattle.canvas_runs.proofs.ByCallers.FromCallerRuns.{passes, sent}
 use Rattle.canvas_core.specs.CoreState.{task_of}
 use Rattle.canvas_worker.specs.Finished.{Finished}
 use Rattle.canvas_worker.specs.Polls.{IsWanted}

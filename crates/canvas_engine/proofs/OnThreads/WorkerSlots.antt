@@ -12,7 +12,7 @@ use Rattle.canvas_history.specs.Callers.{Owes}
 use Rattle.canvas_runs.specs.Calls.{QueueAnswered, TableAnswered}
 use Rattle.canvas_runs.specs.Following.{Pass, Seat, Makes, Serves, IsOver as IsEnded}
 use Rattle.canvas_history.specs.Lists.{Each}
-use Rattle.canvas_callers.specs.CallerRuns.{CallerRun, SplitPasses, JoinPasses, SplitSeats, JoinSeats}
+use Rattle.canvas_runs.specs.CallerRuns.{CallerRun, SplitPasses, JoinPasses, SplitSeats, JoinSeats}
 use Rattle.canvas_worker.specs.Finished.{Finished}
 use Rattle.canvas_worker.specs.declared.record.Record.{Record}
 use Rattle.canvas_engine.specs.steps.Gathering.{numbered_counts, tallies_from, AreWanted}

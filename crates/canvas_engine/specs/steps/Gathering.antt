@@ -15,9 +15,9 @@ use Rattle.canvas_history.specs.Lists.{Each}
 use Rattle.canvas_runs.specs.Run.{published_all}
 use Rattle.canvas_runs.specs.Tally.{Tally as Counts, greatest_count}
 use Rattle.canvas_runs.specs.Worker.{sealed}
-use Rattle.canvas_callers.specs.CallerRuns.{CallerRun, SplitPasses, JoinPasses, SplitSeats, JoinSeats, first_pass, first_seat}
-use Rattle.canvas_callers.specs.Rows.{reads_from}
-use Rattle.canvas_turns.specs.Turns.{FirstsRead}
+use Rattle.canvas_runs.specs.CallerRuns.{CallerRun, SplitPasses, JoinPasses, SplitSeats, JoinSeats, first_pass, first_seat}
+use Rattle.canvas_runs.specs.CallerRows.{reads_from}
+use Rattle.canvas_runs.specs.Turns.{FirstsRead}
 use Rattle.canvas_worker.specs.Polls.{IsWanted}
 use Rattle.canvas_worker.specs.declared.record.Record.{Record}
 use Rattle.canvas_core.specs.declared.cause.Cause.{Cause}

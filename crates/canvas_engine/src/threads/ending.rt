@@ -9,7 +9,7 @@ ghost use Rattle.canvas_history.specs.Roster.{roster_of};
 ghost use Rattle.canvas_history.specs.Callers.{told};
 ghost use Rattle.canvas_worker.specs.Finished.{Finished};
 ghost use Rattle.canvas_runs.specs.Following.{Seat, Serves};
-ghost use Rattle.canvas_callers.specs.Rows.{reads_from};
+ghost use Rattle.canvas_runs.specs.CallerRows.{reads_from};
 ghost use Rattle.canvas_by_turns.specs.Correct.{AreWorkers};
 ghost use Rattle.canvas_by_turns.specs.declared.fault.RunFault.TheVariants as fault;
 ghost use Rattle.canvas_engine.specs.Evidence.{IsRun, IsThreadFault};

@@ -4,7 +4,7 @@ ghost use Rattle.std.specs.Vec.{vec_capacity};
 ghost use Rattle.canvas_semantics.specs.Line.{tree_of};
 ghost use Rattle.canvas_history.specs.Callers.{told};
 ghost use Rattle.canvas_history.specs.Roster.{roster_of};
-ghost use Rattle.canvas_callers.specs.CallerRuns.{first_pass, first_seat};
+ghost use Rattle.canvas_runs.specs.CallerRuns.{first_pass, first_seat};
 ghost use Rattle.canvas_runs.specs.ProgramOrder.{program_order};
 ghost use Rattle.canvas_semantics.specs.States.{states};
 ghost use Rattle.canvas_by_turns.specs.Correct.{AreWorkers};

@@ -87,13 +87,13 @@ module _ (behaviour : Behaviour) where
   input_state call (list_input ns) = refl
   input_state call (id_input k) = refl
 
-input_fails : (k : ℕ) (x : Input) (f : Fault) → to_errbacks k (Some (input_flow x)) (Some (Failure f)) ≡ Some (eval.id k)
+pub input_fails : (k : ℕ) (x : Input) (f : Fault) → to_errbacks k (Some (input_flow x)) (Some (Failure f)) ≡ Some (eval.id k)
 input_fails k no_input f = refl
 input_fails k (number_input n) f = refl
 input_fails k (list_input ns) f = refl
 input_fails k (id_input j) f = refl
 
-input_passes : (k : ℕ) (x : Input) (n : ℤ) → to_errbacks k (Some (input_flow x)) (Some (Success n)) ≡ None
+pub input_passes : (k : ℕ) (x : Input) (n : ℤ) → to_errbacks k (Some (input_flow x)) (Some (Success n)) ≡ None
 input_passes k no_input n = refl
 input_passes k (number_input m) n = refl
 input_passes k (list_input ns) n = refl

@@ -5,16 +5,16 @@ ghost use Rattle.std.specs.Prelude.{◌≡◌};
 ghost use Rattle.canvas_history.specs.Callers.{told};
 ghost use Rattle.canvas_history.specs.Queue.{HasTaken};
 
-use crate::envelopes;
 use canvas_broker::{Broker, BrokerPass};
 use canvas_envelope::Envelope;
+use canvas_samples::frozen_texts::envelope;
 use canvas_task::Memory;
 use canvas_worker::steps_of_workers;
 use std::alloc::Global;
 use std::sync::Wait;
 
 fn envelope(alloc: Global) -> Result<Envelope, Memory> {
-    Ok(envelopes::envelope(alloc, "properties", "headers", "body")?)
+    Ok(envelope(alloc, "properties", "headers", "body")?)
 }
 
 pub(crate) fn copies(alloc: Global) -> Result<bool, Memory> {

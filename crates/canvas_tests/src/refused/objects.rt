@@ -7,12 +7,12 @@ ghost use Rattle.canvas_core.specs.Asks.{FoundInRange, FoundOf};
 ghost use Rattle.canvas_core.specs.Book.{book_on};
 ghost use Rattle.canvas_core.specs.CoreState.{next};
 
-use crate::envelopes;
 use crate::runs::states::first_envelopes;
 use canvas_backend::{Backend, BackendSeat, PlainBackend, Stored};
 use canvas_broker::{Broker, BrokerPass, PlainBroker};
 use canvas_envelope::{Envelope, Letter};
 use canvas_rewrite::Plan;
+use canvas_samples::frozen_texts::envelope;
 use canvas_task::{
     Add, AddFault, Arg, BuiltinTasks, Fault, Kind, Memory, Outcome, Registry, TaskNo,
 };
@@ -22,7 +22,7 @@ use std::collections::BTreeMap;
 use std::sync::Wait;
 
 fn envelope(alloc: Global) -> Result<Envelope, Memory> {
-    Ok(envelopes::envelope(alloc, "properties", "headers", "body")?)
+    Ok(envelope(alloc, "properties", "headers", "body")?)
 }
 
 fn letter(alloc: Global) -> Result<Letter, Memory> {

@@ -4,11 +4,11 @@
 ghost use Rattle.std.specs.Prelude.{IfSome, All};
 ghost use Rattle.canvas_task.specs.Apply.{IsInRange};
 
-use crate::samples::spelled;
 use canvas_codec::{decode, encode};
 use canvas_effects::{PartCall, Todo, after, body_after, first_messages, into_todo};
 use canvas_envelope::{Envelope, Message, MessageFault};
 use canvas_rewrite::{Plan, freeze, node_of, normalise};
+use canvas_samples::spelled;
 use canvas_sig::{
     Canvas, Node, SigFault, read_arg, read_canvas, write_arg, write_canvas, write_node,
 };

@@ -5,12 +5,12 @@ use crate::runs::by_hand::work;
 use crate::runs::gates::Counting;
 use crate::runs::own_tasks::Called;
 use crate::runs::states::{Canvas, FAILING, first_envelopes, spelled_plan, tallies};
-use crate::samples::spelled;
 use canvas_engine::{
     RunFault, Tally, TextFault, When, read_turns, run_text, run_text_threads, run_turns,
     run_turns_again,
 };
 use canvas_rewrite::Plan;
+use canvas_samples::spelled;
 use canvas_task::{ListOf, Memory, TaskNo};
 use canvas_worker::{Cause, OpenGate, Stop};
 use std::alloc::{AllocGlobal, Global};

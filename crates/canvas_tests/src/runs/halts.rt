@@ -2,8 +2,8 @@
 //! workers and worker 0's own work; and runs whose executor fails.
 
 use crate::runs::gates::{Stopping, Way};
-use crate::samples::worked::{a_failed_member, a_hundred_and_their_sum};
 use canvas_engine::{RunFault, TextFault, run_text_threads};
+use canvas_samples::{a_failed_member, a_hundred_and_their_sum};
 use canvas_task::BuiltinTasks;
 use canvas_worker::{Cause, OpenGate, Stop};
 use std::alloc::{Alloc, AllocGlobal, Global};

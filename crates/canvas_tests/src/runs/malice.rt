@@ -1,11 +1,11 @@
 //! Messages that nobody of ours wrote, put in a worker's queue.
 
-use crate::envelopes::envelope;
 use crate::runs::by_hand::{Left, work};
 use crate::runs::forgeries::{CALLBACK, Change, FORMS, MEMBER, NAMES, RESTS};
 use crate::runs::states::{FAILING, push_first, spelled_plan};
 use canvas_envelope::Letter;
 use canvas_rewrite::Plan;
+use canvas_samples::frozen_texts::envelope;
 use canvas_task::Memory;
 use canvas_worker::OpenGate;
 use std::alloc::{AllocError, AllocGlobal, Global};

@@ -4,9 +4,9 @@
 ghost use Rattle.std.specs.Prelude.{◌+ℤ◌, Ok};
 
 use crate::runs::states::{spelled_plan, tallies};
-use crate::samples::spelled;
 use canvas_engine::run_text_threads;
 use canvas_rewrite::Plan;
+use canvas_samples::spelled;
 use canvas_task::{
     Add, Arg, BuiltinTasks, Kind, Memory, OfTwo, Outcome, TaskOfTwo, Tasks, registry_of,
 };

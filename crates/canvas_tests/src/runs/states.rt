@@ -1,12 +1,11 @@
 //! Plans of canvases, and the messages that they begin with.
 
-use crate::samples::sample::plan_of;
-use crate::samples::spelled;
 use canvas_codec::seal;
 use canvas_effects::first_messages;
 use canvas_engine::{RunFault, Tally, run};
 use canvas_envelope::Letter;
 use canvas_rewrite::Plan;
+use canvas_samples::{plan_of, spelled};
 use canvas_task::{ListOf, Memory, Tasks};
 use canvas_worker::{Gate, Stop};
 use std::alloc::{AllocGlobal, Global};

@@ -4,7 +4,7 @@ use Rattle.canvas_rewrite.specs.FrozenView.{task_in, line_in, end_in}
 use Rattle.canvas_rewrite.specs.declared.frozen.FrozenLine.{out-FrozenLine}
 use Rattle.canvas_rewrite.proofs.PlanLines.{ok_same}
 use Rattle.canvas_rewrite.proofs.NameLines.{one_after}
-use Rattle.canvas_warning.specs.declared.position.Input.TheVariants.{Numbers}
+use Rattle.canvas_check.specs.declared.position.Input.TheVariants.{Numbers}
 use Rattle.canvas_answer.specs.Blamed.{blame_said, is_bad_call, line_blames}
 use Rattle.canvas_answer.specs.steps.BlamedLists.{chain_blames, input_after, lines_blames_of, tail_blames}
 use Rattle.canvas_answer.proofs.Blaming.{blames_tail, blames_group, blames_chord}

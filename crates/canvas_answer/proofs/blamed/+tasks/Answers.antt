@@ -3,7 +3,7 @@ use Rattle.canvas_task.proofs.Turns.{put_on, put_all}
 use Rattle.canvas_rewrite.specs.FrozenView.{task_in}
 use Rattle.canvas_rewrite.specs.declared.frozen.FrozenTask.{out-FrozenTask}
 use Rattle.canvas_rewrite.proofs.PlanLines.{ok_same}
-use Rattle.canvas_warning.specs.declared.position.Input.TheVariants.{Number, Identifier}
+use Rattle.canvas_check.specs.declared.position.Input.TheVariants.{Number, Identifier}
 use Rattle.canvas_answer.specs.Blamed.{blame_said, is_bad_call, own_blames}
 use Rattle.canvas_answer.specs.steps.BlamedLists.{call_in, callbacks_blames}
 use Rattle.canvas_answer.proofs.Blaming.{task_parts, three}

@@ -2,7 +2,7 @@ use Rattle.std.proofs.Common.{◌∙◌, ◌++◌, ap, map}
 use Rattle.canvas_rewrite.specs.FrozenView.{line_in}
 use Rattle.canvas_semantics.specs.PlacedLine.{strip}
 use Rattle.canvas_semantics.proofs.Numbered.{strip_bare}
-use Rattle.canvas_warning.specs.declared.position.Input.TheVariants.{Nothing}
+use Rattle.canvas_check.specs.declared.position.Input.TheVariants.{Nothing}
 use Rattle.canvas_answer.specs.Blamed.{blame_said, is_bad_call, line_blames}
 use Rattle.canvas_answer.proofs.blamed.blamed_in_run.Goals as goal
 

@@ -1,6 +1,6 @@
 use Rattle.std.proofs.Common.{◌∷◌, [], IsUtf8, subst}
 use Rattle.std.proofs.lemmas.Str.{IsUtf8-string_bytes}
-use Rattle.canvas_export.proofs.Pieces.{in_any}
+use Rattle.canvas_celery.proofs.Exported.Pieces.{in_any}
 use Rattle.canvas_answer.specs.Letters.{message_lines}
 use Rattle.canvas_answer.proofs.output.write_letter.Goals as goal
 

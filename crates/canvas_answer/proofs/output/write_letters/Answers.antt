@@ -1,7 +1,7 @@
 use Rattle.std.proofs.Common.{◌≡◌, ◌∙◌, ◌<◌, ◌++◌, [], ◌∷◌, drop, length, arith, refl, sym, ap, append-nil, subst}
 use Rattle.std.proofs.lemmas.List.{drop_all}
 use Rattle.std.specs.Io.KnownBytes.{Appends}
-use Rattle.canvas_export.proofs.Written.{nothing_yet, more}
+use Rattle.canvas_celery.proofs.Exported.Written.{nothing_yet, more}
 use Rattle.canvas_answer.specs.Letters.{message_lines}
 use Rattle.canvas_answer.specs.Printing.{printed}
 use Rattle.canvas_answer.proofs.Lines.{next_line}

@@ -1,7 +1,7 @@
 use Rattle.std.proofs.Common.{◌≡◌, false, Some, refl, sym, ◌∙◌, subst, take, suc, ◌+◌, arith}
 use Rattle.std.specs.Prelude.{slice_get}
 use Rattle.std.proofs.lemmas.Option.{slice_get_read}
-use Rattle.canvas_turns.specs.Redeliveries.{has}
+use Rattle.canvas_runs.specs.Redeliveries.{has}
 use Rattle.canvas_by_turns.proofs.EntryPlaces.{none_more, is_first}
 use Rattle.canvas_by_turns.proofs.entries.first_for.Goals as goal
 

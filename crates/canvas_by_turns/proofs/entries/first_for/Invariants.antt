@@ -1,5 +1,5 @@
 use Rattle.std.proofs.Common.{◌≡◌, false, take}
-use Rattle.canvas_turns.specs.Redeliveries.{has}
+use Rattle.canvas_runs.specs.Redeliveries.{has}
 use Rattle.canvas_by_turns.proofs.entries.first_for.Given as goal
 
 -- the entries so far are for other points

@@ -1,5 +1,5 @@
 use Rattle.std.proofs.Common.{ℕ, List}
-use Rattle.canvas_turns.specs.Turns.{Step}
+use Rattle.canvas_runs.specs.Turns.{Step}
 use Rattle.canvas_by_turns.specs.steps.TurnRuns.{Given, Reached, IsPartOfRound}
 use Rattle.canvas_by_turns.proofs.running.run_round.Given as goal
 

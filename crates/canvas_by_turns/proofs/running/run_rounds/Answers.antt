@@ -1,5 +1,5 @@
 use Rattle.std.proofs.Common.{suc, ◌++◌, subst}
-use Rattle.canvas_turns.specs.Turns.{rounds}
+use Rattle.canvas_runs.specs.Turns.{rounds}
 use Rattle.canvas_by_turns.specs.steps.TurnRuns.{IsPartOfRound}
 use Rattle.canvas_by_turns.proofs.RoundTurns.{another_round, halt_in_rounds, last_round}
 use Rattle.canvas_by_turns.proofs.running.run_rounds.Goals as goal

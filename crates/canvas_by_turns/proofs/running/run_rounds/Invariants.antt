@@ -1,5 +1,5 @@
 use Rattle.std.proofs.Common.{ℕ, ◌++◌}
-use Rattle.canvas_turns.specs.Turns.{rounds}
+use Rattle.canvas_runs.specs.Turns.{rounds}
 use Rattle.canvas_by_turns.specs.steps.TurnRuns.{Given, HasReached}
 use Rattle.canvas_by_turns.proofs.running.run_rounds.Given as goal
 

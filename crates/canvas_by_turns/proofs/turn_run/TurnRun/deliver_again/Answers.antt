@@ -1,6 +1,6 @@
 use Rattle.std.proofs.Common.{refl, sym, ap, ◌∙◌, ◌∷◌, ◌++◌, [], subst}
 use Rattle.std.specs.Prelude.{IsSome}
-use Rattle.canvas_turns.specs.Turns.{redelivery}
+use Rattle.canvas_runs.specs.Turns.{redelivery}
 use Rattle.canvas_by_turns.specs.steps.Noting.{Noted}
 use Rattle.canvas_by_turns.proofs.Delivering.{none_wanted, no_entry, holds_one, delivered_again}
 use Rattle.canvas_by_turns.proofs.turn_run.TurnRun.deliver_again.Goals as goal

@@ -3,7 +3,7 @@ use Rattle.std.proofs.lemmas.List.{take_at}
 use Rattle.canvas_semantics.specs.Line.{count_line}
 use Rattle.canvas_history.specs.Roster.{roster_of}
 use Rattle.canvas_runs.specs.Following.{Serves}
-use Rattle.canvas_callers.specs.Rows.{reads_from}
+use Rattle.canvas_runs.specs.CallerRows.{reads_from}
 use Rattle.canvas_engine.specs.steps.Gathering.{AreRead}
 use Rattle.canvas_engine.proofs.threads.ending.finish.Goals as goal
 

@@ -1,6 +1,6 @@
 use Rattle.std.proofs.Common.{◌≡◌, take}
 use Rattle.canvas_runs.specs.Following.{Serves}
-use Rattle.canvas_callers.specs.Rows.{reads_from}
+use Rattle.canvas_runs.specs.CallerRows.{reads_from}
 use Rattle.canvas_engine.proofs.threads.ending.read_rows.Given as goal
 
 abbrev pub invariant-loop-index : goal.invariant-loop-index

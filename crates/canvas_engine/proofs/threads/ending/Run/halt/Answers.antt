@@ -5,7 +5,7 @@ use Rattle.canvas_semantics.specs.States.{states}
 use Rattle.canvas_history.specs.Roster.{roster_of}
 use Rattle.canvas_runs.specs.Following.{Serves}
 use Rattle.canvas_semantics.specs.States.{EachMay}
-use Rattle.canvas_callers.specs.Rows.{reads_from}
+use Rattle.canvas_runs.specs.CallerRows.{reads_from}
 use Rattle.canvas_engine.specs.Evidence.{IsThreadFault}
 use Rattle.canvas_engine.specs.steps.Gathering.{IsHaltedFor}
 use Rattle.canvas_engine.proofs.OnThreads.ThreadRuns.{halted_may, unworked_may}

@@ -1,4 +1,0 @@
-pub mod CallerRuns
-pub mod PerCaller
-pub mod CallerLaws
-pub mod Rows

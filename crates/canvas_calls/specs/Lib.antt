@@ -1,7 +1,0 @@
-pub mod Fronts
-pub mod Calls
-pub mod CallLaws
-pub mod steps
-pub use Rattle.canvas_semantics.specs.Line
-pub use Rattle.canvas_semantics.specs.States
-pub use Rattle.canvas_task.specs.Apply

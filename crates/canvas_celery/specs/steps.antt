@@ -1,0 +1,12 @@
+pub mod Sizes
+pub mod Words
+pub mod Around
+pub mod Tokens
+pub mod Elements
+pub mod Filling
+pub mod Found
+pub mod Rows
+pub mod Lacking
+pub mod Parsed
+pub mod Digits
+pub mod Asked

@@ -1,0 +1,21 @@
+pub mod Adding
+pub mod FirstFault
+pub mod Levels
+pub mod Indices
+pub mod Leads
+pub mod Searches
+pub mod Found
+pub mod Counting
+pub mod Reckoning
+pub mod Measures
+pub mod Nested
+pub mod Placed
+pub mod Named
+pub mod OtherNames
+pub mod Searched
+pub mod Views
+pub mod Nodes
+mod Rules
+pub mod Inputs
+pub mod Blames
+pub mod Listed

@@ -1,8 +1,0 @@
-//! The state of each task of a plan, without messages, queues or workers.
-#![tactic(auto)]
-
-mod evaluating;
-mod flow;
-mod walk;
-
-pub use evaluating::evaluate;

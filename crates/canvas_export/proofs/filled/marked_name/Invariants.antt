@@ -1,7 +1,0 @@
-use Rattle.std.proofs.Common.{take}
-use Rattle.canvas_semantics.specs.Line.{names}
-use Rattle.canvas_export.proofs.MarkedNames.{Unmarked}
-use Rattle.canvas_export.proofs.filled.marked_name.Given as goal
-
-abbrev pub invariant-loop-index : goal.invariant-loop-index
-invariant-loop-index l = Unmarked (take l.index (names l.plan))

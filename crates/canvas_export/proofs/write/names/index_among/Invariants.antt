@@ -1,6 +1,0 @@
-use Rattle.std.proofs.Common.{◌≡◌, ◌+◌, drop}
-use Rattle.canvas_export.specs.Signatures.{index_of}
-use Rattle.canvas_export.proofs.write.names.index_among.Given as goal
-
-abbrev pub invariant-loop-index : goal.invariant-loop-index
-invariant-loop-index l = index_of l.task l.tasks ≡ l.index + index_of l.task (drop l.index l.tasks)

@@ -1,6 +1,0 @@
-use Rattle.std.proofs.Common.{drop}
-use Rattle.canvas_finding.specs.Pointer.{AreIndices}
-use Rattle.canvas_finding.proofs.step.read_indices.Given as goal
-
-abbrev pub invariant-loop-step : goal.invariant-loop-step
-invariant-loop-step l = AreIndices (drop l.step-index l.steps) → AreIndices l.steps

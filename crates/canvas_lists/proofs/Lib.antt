@@ -1,2 +1,0 @@
-mod CommaTexts
-mod EntryTexts

@@ -1,6 +1,0 @@
-pub mod CommaList
-pub mod EntryList
-pub mod TurnList
-pub use Rattle.canvas_runs.specs.declared.when.When
-pub use Rattle.canvas_turns.specs.Redeliveries
-pub use Rattle.canvas_turns.specs.Turns

@@ -1,0 +1,2 @@
+pub mod CommaTexts
+pub mod EntryTexts

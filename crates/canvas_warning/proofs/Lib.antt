@@ -1,6 +1,0 @@
-pub mod Views
-pub mod Nodes
-mod Rules
-pub mod Inputs
-pub mod Blames
-pub mod Listed
