@@ -76,9 +76,9 @@ same_named (e ∷ es) [] r s same = let none : Some e.1 ≡ None = sym (at_first
 same_named (e ∷ es) (f ∷ fs) r s same =
     let tied = both_first e f es fs r s same (string_cmp e.0 f.0) refl in
     let value : e.1 ≡ f.1 = ap (λ u. unwrap_or u e.1)
-        (sym (at_first e es) ∙ same e.0 ∙ lookup_head (is_at (string_cmp e.0)) f fs (ap is_eq tied)) in
+    (sym (at_first e es) ∙ same e.0 ∙ lookup_head (is_at (string_cmp e.0)) f fs (ap is_eq tied)) in
     let others = same_named es fs (sorted_tail string_cmp e.0 (keys_of es) r) (sorted_tail string_cmp f.0 (keys_of fs) s)
-        (later e f es fs r s tied same) in
+    (later e f es fs r s tied same) in
     λ i. (exact_bytes (string_bytes e.0) (string_bytes f.0) tied i, value i) ∷ others i
 
 pub made_in_order : (es : Entries) → Ascends (named es) → (m : BTreeMap (String Global) Arg)

@@ -39,10 +39,7 @@ pub fn copy_args(args: &ListOf<Arg>) -> Result<ListOf<Arg>, AllocError>
 
 /// Clones a map by inserting its entries one by one. `clone` of std's map may fail for another
 /// reason than an allocation.
-fn copy_few(
-    alloc: Global,
-    map: &BTreeMap<String, Arg>,
-) -> Result<BTreeMap<String, Arg>, AllocError>
+fn copy_few(alloc: Global, map: &BTreeMap<String, Arg>) -> Result<BTreeMap<String, Arg>, AllocError>
     ensures { IfOk result (λ copy. named copy.entries ≡ named map.now.entries) }
 {
     let mut copy = BTreeMap::new(alloc);
