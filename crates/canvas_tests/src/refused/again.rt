@@ -7,14 +7,14 @@ ghost use Rattle.canvas_history.specs.Queue.{HasTaken};
 
 use canvas_broker::{Broker, BrokerPass};
 use canvas_envelope::Envelope;
-use canvas_samples::frozen_texts::envelope;
+use canvas_samples::frozen_texts;
 use canvas_task::Memory;
 use canvas_worker::steps_of_workers;
 use std::alloc::Global;
 use std::sync::Wait;
 
 fn envelope(alloc: Global) -> Result<Envelope, Memory> {
-    Ok(envelope(alloc, "properties", "headers", "body")?)
+    Ok(frozen_texts::envelope(alloc, "properties", "headers", "body")?)
 }
 
 pub(crate) fn copies(alloc: Global) -> Result<bool, Memory> {

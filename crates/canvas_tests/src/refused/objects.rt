@@ -12,7 +12,7 @@ use canvas_backend::{Backend, BackendSeat, PlainBackend, Stored};
 use canvas_broker::{Broker, BrokerPass, PlainBroker};
 use canvas_envelope::{Envelope, Letter};
 use canvas_rewrite::Plan;
-use canvas_samples::frozen_texts::envelope;
+use canvas_samples::frozen_texts;
 use canvas_task::{
     Add, AddFault, Arg, BuiltinTasks, Fault, Kind, Memory, Outcome, Registry, TaskNo,
 };
@@ -22,7 +22,7 @@ use std::collections::BTreeMap;
 use std::sync::Wait;
 
 fn envelope(alloc: Global) -> Result<Envelope, Memory> {
-    Ok(envelope(alloc, "properties", "headers", "body")?)
+    Ok(frozen_texts::envelope(alloc, "properties", "headers", "body")?)
 }
 
 fn letter(alloc: Global) -> Result<Letter, Memory> {

@@ -5,7 +5,8 @@ use canvas_effects::first_messages;
 use canvas_engine::{RunFault, Tally, run};
 use canvas_envelope::Letter;
 use canvas_rewrite::Plan;
-use canvas_samples::{plan_of, spelled};
+use canvas_samples::spelled;
+use canvas_sig::read_canvas;
 use canvas_task::{ListOf, Memory, Tasks};
 use canvas_worker::{Gate, Stop};
 use std::alloc::{AllocGlobal, Global};
@@ -18,6 +19,15 @@ pub(crate) type Canvas = [&'static str; 2];
 
 /// A chord with a member that fails, and whose body has an error callback.
 pub(crate) const FAILING: Canvas = ["H[.,.,.|?.>]", "add:4,4 div:1,0 add:8,8 xsum: log_error:"];
+
+/// The plan of a canvas's text, if it is one: by `Plan::of`, so that its allocations are refused
+/// too.
+pub(crate) fn plan_of(alloc: Global, text: &str) -> Option<Plan> {
+    match read_canvas(alloc, text.as_bytes()) {
+        Ok(canvas) => Plan::of(alloc, canvas).ok(),
+        Err(_) => None,
+    }
+}
 
 /// The plan of a canvas in short words.
 pub(crate) fn spelled_plan(alloc: Global, canvas: &Canvas) -> Option<Plan> {
