@@ -1,18 +1,18 @@
 //! Writing the envelope of a message.
 
-ghost use Rattle.std.specs.Prelude.{◌≡◌, true, IfOk, IfSome, string_bytes};
+ghost use Rattle.std.specs.Prelude.{◌≡◌, ◌++◌, true, IfOk, IfSome, string_bytes};
 ghost use Rattle.canvas_task.specs.Identifiers.{task_text};
 ghost use Rattle.serde_json.specs.Written.{compact_text};
 ghost use Rattle.canvas_envelope.specs.Content.{number_of};
 ghost use Rattle.std.specs.Str.{IsUtf8};
 ghost use Rattle.canvas_envelope.specs.Fits.{fits};
 ghost use Rattle.canvas_envelope.specs.EnvelopeFaults.{Says};
-ghost use Rattle.canvas_envelope.specs.Pieces.{joined, body_text};
+ghost use Rattle.canvas_envelope.specs.Pieces.{joined, body_text, piece_text, shared_text};
 ghost use Rattle.canvas_envelope.specs.Wire.{properties_wire, headers_wire, body_wire};
 
-use canvas_envelope::{Envelope, Message, Pieces};
+use canvas_envelope::{Envelope, Followed, Message, Pieces};
 use canvas_task::{ListOf, Memory, TaskNo, task_text};
-use canvas_writing::{Body, ascii, body_of, put_headers, put_properties};
+use canvas_writing::{Body, ascii, body_of, body_of_followed, put_headers, put_properties};
 use std::alloc::{AllocError, Global};
 
 /// Returns the bytes of a text, which are UTF-8.
@@ -23,14 +23,16 @@ fn bytes_of(text: String) -> ListOf<u8>
     ListOf::of(text.into_bytes())
 }
 
-/// Writes the three texts of a message with this identifier.
-fn texts_of(alloc: Global, message: &Message, id: &str) -> Result<Pieces, AllocError>
-    requires { id.now ≡ task_text (number_of message.now.own) }
+/// Writes the three texts of a message with this identifier and this body.
+fn texts_of(alloc: Global, message: &Message, body: Body, id: &str) -> Result<Pieces, AllocError>
+    requires id { id.now ≡ task_text (number_of message.now.own) }
+    requires utf8 { IfSome body.shared (λ p. IsUtf8 (piece_text p)) }
     ensures properties { IfOk result
         (λ p. (joined p).properties ≡ compact_text (properties_wire message.now)) }
     ensures headers { IfOk result
         (λ p. (joined p).headers ≡ compact_text (headers_wire message.now)) }
-    ensures body { IfOk result (λ p. body_text p ≡ compact_text (body_wire message.now)) }
+    ensures body { IfOk result (λ p. body_text p
+        ≡ string_bytes body.front ++ (shared_text body.shared ++ string_bytes body.back)) }
     ensures utf8 { IfOk result
         (λ p. IsUtf8 (joined p).properties × IsUtf8 (joined p).headers × IsUtf8 (body_text p)) }
 {
@@ -38,7 +40,7 @@ fn texts_of(alloc: Global, message: &Message, id: &str) -> Result<Pieces, AllocE
         front,
         shared,
         back,
-    } = body_of(alloc, message)?;
+    } = body;
     let front_end = front.len();
     let mut own = front;
     put_properties(&mut own, id)?;
@@ -72,7 +74,41 @@ pub(crate) fn pieces_of(alloc: Global, message: &Message) -> Result<Pieces, Memo
         (λ p. Says (joined p).properties (joined p).headers (body_text p) message.now) }
 {
     let id = task_text(number(message));
-    Ok(texts_of(alloc, message, ascii(&id))?)
+    let body = body_of(alloc, message)?;
+    Ok(texts_of(alloc, message, body, ascii(&id))?)
+}
+
+/// Returns the number of the task of a message that is kept apart from the rest of its line.
+fn number_followed(followed: &Followed) -> TaskNo
+    ensures value { result ≡ number_of followed.now.own }
+    ensures checked { fits followed.now ≡ true }
+{
+    followed.message.task
+}
+
+/// Writes the three texts of a message that is kept apart from the rest of its line; None if
+/// nothing follows, or if the text of the rest isn't known.
+pub(crate) fn pieces_of_followed(
+    alloc: Global,
+    followed: &Followed,
+) -> Result<Option<Pieces>, Memory>
+    ensures properties { IfOk result (λ o. IfSome o
+        (λ p. (joined p).properties ≡ compact_text (properties_wire followed.now))) }
+    ensures headers { IfOk result (λ o. IfSome o
+        (λ p. (joined p).headers ≡ compact_text (headers_wire followed.now))) }
+    ensures body { IfOk result (λ o. IfSome o
+        (λ p. body_text p ≡ compact_text (body_wire followed.now))) }
+    ensures reads_back { IfOk result (λ o. IfSome o (λ p.
+        Says (joined p).properties (joined p).headers (body_text p) followed.now)) }
+{
+    match body_of_followed(alloc, followed)? {
+        Some(body) => {
+            let id = task_text(number_followed(followed));
+            let pieces = texts_of(alloc, &followed.message, body, ascii(&id))?;
+            Ok(Some(pieces))
+        }
+        None => Ok(None),
+    }
 }
 
 /// Writes the three texts of a message, which read back as the message.

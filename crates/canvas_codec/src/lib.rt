@@ -10,4 +10,4 @@ mod sealing;
 pub use by_parts::law_of_frozen_parts;
 pub use decoding::decode;
 pub use encoding::encode;
-pub use sealing::{open, seal};
+pub use sealing::{open, seal, seal_followed};

@@ -7,8 +7,8 @@ ghost use Rattle.canvas_envelope.specs.declared.fault.MessageFault.TheVariants a
 ghost use Rattle.canvas_envelope.specs.Wire.{properties_wire, headers_wire, body_wire};
 
 use crate::decode;
-use crate::encoding::pieces_of;
-use canvas_envelope::{Envelope, Letter, Message, MessageFault, Unplaced, following};
+use crate::encoding::{pieces_of, pieces_of_followed};
+use canvas_envelope::{Envelope, Followed, Letter, Message, MessageFault, Unplaced, following};
 use canvas_task::Memory;
 use canvas_writing::line_text;
 use std::alloc::{AllocError, Global};
@@ -43,6 +43,22 @@ pub fn seal(alloc: Global, message: Message) -> Result<Letter, Memory>
     let pieces = pieces_of(alloc, &message)?;
     let letter = Letter::sealed(alloc, pieces, message)?;
     Ok(letter)
+}
+
+/// Like `seal`, but the letter keeps the message apart from the rest of its line.
+pub fn seal_followed(alloc: Global, followed: Followed) -> Result<Letter, Memory>
+    ensures texts { IfOk result (λ e. (e.properties ≡ compact_text (properties_wire followed))
+        × (e.headers ≡ compact_text (headers_wire followed))
+        × (e.body ≡ compact_text (body_wire followed))) }
+    ensures reads_back { IfOk result (λ e. Says e.properties e.headers e.body followed) }
+{
+    match pieces_of_followed(alloc, &followed)? {
+        Some(pieces) => {
+            let letter = Letter::followed(alloc, pieces, followed)?;
+            Ok(letter)
+        }
+        None => seal(alloc, followed.into_message()),
+    }
 }
 
 /// Reads the message from an envelope.

@@ -4,10 +4,11 @@
 //! has the outcome of its call beside it. What a message starts is encoded before the first store,
 //! and then dropped.
 
-ghost use Rattle.std.specs.Prelude.{◌≡◌, ◌≢◌, ◌≤◌, ◌+◌, min, true, false, Some, None, Ok, OnOk, OnErr, IfOk, IfSome};
+ghost use Rattle.std.specs.Prelude.{◌≡◌, ◌≢◌, ◌≤◌, ◌+◌, min, true, false, Some, None, Ok, OnOk, OnErr, IfOk, IfSome, if◌then◌else◌};
 ghost use Rattle.std.specs.Option.{option_map};
 ghost use Rattle.canvas_task.specs.Apply.{Behaviour};
 ghost use Rattle.canvas_core.specs.Asks.{suits, StoresInRange, FoundInRange, FoundOf, Grows};
+ghost use Rattle.canvas_envelope.specs.EnvelopeFaults.{Says};
 ghost use Rattle.canvas_core.specs.Books.{no_book};
 ghost use Rattle.canvas_history.specs.Queue.{take};
 ghost use Rattle.canvas_runs.specs.Book.{Book as Known};
@@ -20,11 +21,11 @@ ghost use Rattle.canvas_core.specs.CoreState.{asked, next, begun, after_reply, f
 ghost use Rattle.canvas_core.specs.EnvelopeWorker.{enveloped_by, said, no_tasks};
 ghost use Rattle.canvas_runs.specs.Worker.{opened, read_envelope};
 
-use crate::known::message_known;
+use crate::known::{followed_known, message_known};
 use crate::phase::{Phase, acknowledged, rested, returned};
 use crate::stages::Owned;
 use crate::{Ask, Book, Reply};
-use canvas_envelope::{Letter, Message, MessageFault};
+use canvas_envelope::{Followed, Letter, Message, MessageFault};
 use canvas_runs::When;
 use canvas_task::{Memory, TaskNo, Tasks};
 use std::alloc::Global;
@@ -89,6 +90,16 @@ fn open<B: Book>(
             _ => Ok(None),
         },
     }
+}
+
+/// Returns whether the message of a letter is to be run.
+fn is_known<B: Book>(book: &B, letter: &Letter, followed: &Followed) -> bool
+    requires { Says letter.now.properties letter.now.headers letter.now.body followed.now }
+    ensures value { (if result then Some followed.now else None)
+        ≡ opened (B.book book.now) letter.now }
+    ensures message { said letter.now ≡ followed.now }
+{
+    followed_known(book, followed)
 }
 
 impl Core {
@@ -313,6 +324,9 @@ impl Core {
             (waiting self.old.dropped self.old.kept self.old.task) (Taken (Some letter))) }
         ensures err { OnErr result (self.new ≡ self.old) }
     {
+        if let Some(followed) = letter.take_followed() {
+            return self.take_followed(book, tasks, letter, followed);
+        }
         let alloc = self.alloc;
         match open(alloc, book, &mut letter)? {
             Some(message) => {
@@ -327,6 +341,31 @@ impl Core {
                 Ok(())
             }
         }
+    }
+
+    /// Takes up a letter whose message is kept apart from the rest of its line.
+    fn take_followed<B: Book, T: Tasks>(
+        &mut self,
+        book: &B,
+        tasks: &T,
+        letter: Letter,
+        followed: Box<Followed>,
+    ) -> Result<(), Memory>
+        requires { Says letter.properties letter.headers letter.body followed.value }
+        ensures ok { OnOk result (self.new
+            ≡ after_reply (T.behaviour tasks.now) (B.book book.now)
+            (waiting self.old.dropped self.old.kept self.old.task) (Taken (Some letter))) }
+        ensures err { OnErr result (self.new ≡ self.old) }
+    {
+        if is_known(book, &letter, &followed) {
+            let task = followed.message.task;
+            let owned = Owned::followed(self.alloc, tasks, letter, followed)?;
+            self.task = Some(task);
+            self.set(Phase::Owning(owned));
+        } else {
+            self.drop_one(letter);
+        }
+        Ok(())
     }
 
     fn drop_one(&mut self, envelope: Letter)

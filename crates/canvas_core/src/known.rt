@@ -10,13 +10,15 @@ ghost use Rattle.canvas_envelope.specs.Fits.{how_many};
 ghost use Rattle.canvas_envelope.specs.Unplaced.{AreUnplaced, EachFirst};
 ghost use Rattle.canvas_effects.specs.Placing.{last_task};
 ghost use Rattle.canvas_envelope.specs.MessageView.{place_seen, rest_seen};
+ghost use Rattle.canvas_envelope.specs.steps.Lines.{end_seen};
 ghost use Rattle.canvas_runs.specs.Book.{task_known, tasks_known, place_known, line_known, members_known, message_known, parent_known, has_size};
 ghost use Rattle.canvas_core.specs.steps.Lasts.{or_zero, last_number};
 
 use crate::Book;
-use canvas_envelope::{Message, Unplaced};
+use canvas_envelope::{Followed, Message, Unplaced};
 use canvas_rewrite::{FrozenEnd, FrozenLine, FrozenTask, Place};
 use canvas_task::{GroupNo, TaskNo};
+use std::collections::VecDeque;
 
 /// Returns the number of the last of some tasks.
 fn last_own(tasks: &[FrozenTask]) -> Option<TaskNo>
@@ -203,4 +205,37 @@ pub(crate) fn message_known<B: Book>(book: &B, message: &Message) -> bool
         && tasks_known(book, message.errbacks.get())
         && place_known(book, message.task, &message.place)
         && rest_known(book, &message.rest, &message.texts.unplaced)
+}
+
+/// Returns whether the tasks of a queue from an index on are known.
+fn queued_known<B: Book>(book: &B, tasks: &VecDeque<FrozenTask>, start: usize) -> bool
+    ensures { result ≡ tasks_known (B.book book.now)
+        (p_tasks_of (map p_task_view (drop start tasks.now.items))) }
+{
+    for index in start..tasks.len() {
+        if !task_known(book, &tasks[index]) {
+            return false;
+        }
+    }
+    true
+}
+
+fn tail_known<B: Book>(book: &B, tail: &Option<Box<FrozenEnd>>) -> bool
+    ensures { result ≡ line_known (B.book book.now) (end_seen tail.now) }
+{
+    match tail {
+        Some(end) => end_known(book, end),
+        None => true,
+    }
+}
+
+/// Like `message_known`, of a message that is kept apart from the rest of its line.
+pub(crate) fn followed_known<B: Book>(book: &B, followed: &Followed) -> bool
+    ensures { result ≡ message_known (B.book book.now) followed.now }
+{
+    if !message_known(book, &followed.message) {
+        return false;
+    }
+    let start = sure(book, &followed.texts.unplaced);
+    queued_known(book, &followed.tasks, start) && tail_known(book, &followed.tail)
 }

@@ -23,11 +23,11 @@ use crate::Reply;
 use crate::due::latest;
 use crate::script::Script;
 use crate::sealed::Sealed;
-use crate::sealing::script_of;
+use crate::sealing::{script_of, script_onward};
 use crate::stages::{Owned, Publishing, Reading, Storing};
 use canvas_backend::Stored;
-use canvas_effects::{ChordBody, PartCall, into_body, into_todo};
-use canvas_envelope::{Letter, Message};
+use canvas_effects::{ChordBody, PartCall, into_body, into_onward, into_todo};
+use canvas_envelope::{Followed, Letter, Message};
 use canvas_task::{GroupNo, Memory, Outcome, TaskNo, Tasks};
 use std::alloc::Global;
 
@@ -149,6 +149,30 @@ impl Owned {
         let outcome = outcome_of(tasks, &message);
         let todo = into_todo(alloc, Box::into_inner(message), &outcome)?;
         let script = script_of(alloc, todo, Stored::First)?;
+        Ok(Owned {
+            envelope,
+            task,
+            outcome,
+            script,
+        })
+    }
+
+    /// Like `of`, with a message that is kept apart from the rest of its line.
+    pub(crate) fn followed<T: Tasks>(
+        alloc: Global,
+        tasks: &T,
+        envelope: Letter,
+        followed: Box<Followed>,
+    ) -> Result<Owned, Memory>
+        requires { said envelope ≡ followed.value }
+        ensures envelope { IfOk result (λ o. o.envelope ≡ envelope) }
+        ensures value { IfOk result
+            (λ o. o.outcome ≡ outcome_of (T.behaviour tasks.now) (said envelope)) }
+    {
+        let task = followed.message.task;
+        let outcome = outcome_of(tasks, &followed.message);
+        let onward = into_onward(alloc, Box::into_inner(followed), &outcome)?;
+        let script = script_onward(alloc, onward, Stored::First)?;
         Ok(Owned {
             envelope,
             task,

@@ -6,7 +6,7 @@ ghost use Rattle.canvas_envelope.specs.codes.ContentCode.{content_code};
 ghost use Rattle.canvas_runs.specs.Worker.{read_envelope};
 ghost use Rattle.canvas_core.specs.EnvelopeWorker.{said, envelope_of};
 
-use canvas_envelope::{Letter, Message};
+use canvas_envelope::{Followed, Letter, Message};
 use canvas_task::Memory;
 use std::alloc::Global;
 
@@ -22,5 +22,13 @@ pub(crate) fn seal(alloc: Global, message: Message) -> Result<Sealed, Memory>
     ensures { IfOk result (λ s. s.envelope ≡ envelope_of message) }
 {
     let envelope = canvas_codec::seal(alloc, message)?;
+    Ok(Sealed { envelope })
+}
+
+/// Like `seal`, of a message that is kept apart from the rest of its line.
+pub(crate) fn seal_followed(alloc: Global, followed: Followed) -> Result<Sealed, Memory>
+    ensures { IfOk result (λ s. s.envelope ≡ envelope_of followed) }
+{
+    let envelope = canvas_codec::seal_followed(alloc, followed)?;
     Ok(Sealed { envelope })
 }

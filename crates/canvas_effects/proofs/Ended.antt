@@ -222,7 +222,7 @@ succeeded c l n ss one ms p ok same h hs h1 hm hp =
     (hp ∙ sym (run_part true l (number_input n) (end_place l) k (Some k) (whole_ok l (rest_stands c l ok same h))))
 
 -- where that is a task, it takes over what it carries
-next_begun : (u : Option ℕ) (t : PTask) (l : PLine) (x : Input) → message u t x l ∷ [] ≡ started (p_step t l) x (end_place (p_step t l)) u
+pub next_begun : (u : Option ℕ) (t : PTask) (l : PLine) (x : Input) → message u t x l ∷ [] ≡ started (p_step t l) x (end_place (p_step t l)) u
 next_begun u t l x =
     let there : p_step (last_at (end_place (p_step t l)) t l) (placed (end_place (p_step t l)) l) ≡ p_step t l = as_it_stands (p_step t l) in
     let own : last_at (end_place (p_step t l)) t l ≡ t = cc in

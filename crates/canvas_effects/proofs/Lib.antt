@@ -13,3 +13,4 @@ pub mod Raised
 pub mod Ended
 pub mod PlanStands
 pub mod FirstInOrder
+pub mod Continued

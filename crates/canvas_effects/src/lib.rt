@@ -12,5 +12,7 @@ mod moving;
 mod todo;
 
 pub use chord_body::ChordBody;
-pub use effects::{FirstMessages, after, body_after, first_messages, into_body, into_todo};
-pub use todo::{PartCall, Todo};
+pub use effects::{
+    FirstMessages, after, body_after, first_messages, into_body, into_onward, into_todo,
+};
+pub use todo::{Onward, PartCall, Todo};

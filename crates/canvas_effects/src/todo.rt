@@ -5,7 +5,7 @@ ghost use Rattle.canvas_effects.specs.Carrying.{carried_ok};
 ghost use Rattle.canvas_effects.specs.codes.KnownText.{SaysBody, known_prop};
 ghost use Rattle.canvas_envelope.specs.MessageView.{carried_view};
 
-use canvas_envelope::{CarriedText, Message};
+use canvas_envelope::{CarriedText, Followed, Message};
 use canvas_rewrite::Carried;
 use canvas_task::{GroupNo, ListOf, Outcome, TaskNo};
 use std::sync::Arc;
@@ -38,4 +38,13 @@ pub struct Todo {
     /// The part of the line's end, if nothing on the line is left to run and its place is in a
     /// chord.
     pub part: Option<PartCall>,
+}
+
+/// The jobs of a worker after the end of a task that others follow on its line.
+#[derive(Drop)]
+pub enum Onward {
+    /// To publish this message, and nothing else.
+    Next(Followed),
+    /// These.
+    Todo(Todo),
 }

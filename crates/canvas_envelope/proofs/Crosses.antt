@@ -1,7 +1,8 @@
 -- Letters may cross from one thread to another. The frozen tasks in them hold each other, so the search takes what was found of these types together.
 use Rattle.std.proofs.Crossing.{crosses}
 use denote.Param.Send.{IsSend, sendable}
-use Rattle.canvas_rewrite.proofs.frozen.Carried.TheLaws.TheKnot.{both_send-FrozenTask, both_send-FrozenLine, both_send-Place}
+use Rattle.canvas_rewrite.proofs.frozen.Carried.TheLaws.TheKnot.{both_send-FrozenTask, both_send-FrozenLine, both_send-FrozenEnd, both_send-Place}
+use Rattle.canvas_rewrite.specs.contracts.frozen.FrozenEnd as FrozenEnd
 use Rattle.canvas_rewrite.specs.contracts.frozen.FrozenLine as FrozenLine
 use Rattle.canvas_rewrite.specs.contracts.frozen.FrozenTask as FrozenTask
 use Rattle.canvas_rewrite.specs.contracts.frozen.Place as Place
@@ -11,6 +12,7 @@ use Rattle.canvas_task.proofs.map_of.MapOf.TheSendSync.{the_send as map_send, th
 use Rattle.canvas_task.proofs.number.GroupNo.TheSendSync.{the_send as group_send, the_sync as group_sync}
 use Rattle.canvas_task.proofs.number.TaskNo.TheSendSync.{the_send as task_send, the_sync as task_sync}
 use Rattle.canvas_task.proofs.text_of.TextOf.TheSendSync.{the_send as text_send, the_sync as text_sync}
+use Rattle.canvas_envelope.specs.contracts.followed.Followed as Followed
 use Rattle.canvas_envelope.specs.contracts.kept.Compact as Compact
 use Rattle.canvas_envelope.specs.contracts.letter.Letter as Letter
 use Rattle.canvas_envelope.specs.contracts.message.Message as Message
@@ -49,6 +51,9 @@ task = search (both_send-FrozenTask, plain) depth 20
 line : IsSend FrozenLine.the_row
 line = search (both_send-FrozenLine, plain) depth 20
 
+line_end : IsSend FrozenEnd.the_row
+line_end = search (both_send-FrozenEnd, plain) depth 20
+
 place : IsSend Place.the_row
 place = search (both_send-Place, plain) depth 20
 
@@ -76,5 +81,8 @@ message = search (task, line, place, written, plain) depth 40 fits 100000
 waiting : IsSend Compact.the_row
 waiting = search (task, line, place, written, plain) depth 40 fits 100000
 
+followed : IsSend Followed.the_row
+followed = search (message, task, line_end, written, plain) depth 40 fits 100000
+
 pub letter : IsSend Letter.the_row
-letter = search (message, waiting, written, plain) depth 40 fits 100000
+letter = search (message, waiting, followed, written, plain) depth 40 fits 100000

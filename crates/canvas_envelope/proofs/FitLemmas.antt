@@ -81,7 +81,7 @@ counted (l ∷ ls) = omega (arith, counted ls)
 pub stop_some : (l : FrozenLine) (b : Box FrozenEnd Global) → (out-FrozenLine l).tail ≡ Some b → false ≡ is_stop (p_line_view l)
 stop_some l b e = sym (ap is_stop (line_some l b e) ∙ never_stops (map p_task_view (out-FrozenLine l).tasks) (p_end_view b.value) (end_stands b.value))
 
-never_zero : (n : ℕ) → (suc n == 0) ≡ false
+pub never_zero : (n : ℕ) → (suc n == 0) ≡ false
 never_zero n = grind (arith, nat_tests)
 
 none_stop : (ts : List FrozenTask) → (length ts == 0) ≡ is_stop (p_steps (map p_task_view ts) p_stop)

@@ -4,7 +4,7 @@ ghost use Rattle.std.specs.Prelude.{◌≡◌, None, Some, IfOk, IfSome};
 ghost use Rattle.canvas_task.specs.Entries.{named, Ascends};
 ghost use Rattle.canvas_envelope.specs.steps.Kept.{kept};
 
-use crate::{Message, Texts};
+use crate::{Followed, Message, Texts};
 use canvas_rewrite::{FrozenLine, FrozenTask, Place};
 use canvas_task::{Arg, FEW, ListOf, MapOf, TaskNo, TextOf};
 use std::alloc::{AllocError, Global};
@@ -134,11 +134,24 @@ impl Compact {
     }
 }
 
+/// The number of tasks from which on the rest of a line is put into a queue.
+const LONG: usize = 16;
+
+/// Returns whether the rest of a line is to be put into a queue.
+fn is_long(rest: &Option<FrozenLine>) -> bool {
+    match rest {
+        Some(line) => line.tasks.get().len() >= LONG,
+        None => false,
+    }
+}
+
 /// The message that a letter keeps, if any.
 #[derive(Drop)]
 pub(crate) enum Kept {
     Nothing,
     Whole(Box<Message>),
+    /// A message that many others follow on its line.
+    Followed(Box<Followed>),
     /// A message with a few keyword arguments. A map with one entry takes room for fifteen, and all
     /// messages of a group wait at once, so they are kept in a list; the map is made when the
     /// message is taken. If that allocation fails, the envelope is read instead.
@@ -159,12 +172,21 @@ impl Kept {
         Ok(Kept::Whole(Box::new(alloc, message)?))
     }
 
+    fn before(alloc: Global, message: Message) -> Result<Kept, AllocError>
+        ensures { IfOk result (λ k. kept k ≡ Some message) }
+    {
+        let followed = Followed::of(alloc, message);
+        Ok(Kept::Followed(Box::new(alloc, followed)?))
+    }
+
     /// Keeps the message, if memory suffices.
     pub(crate) fn of(alloc: Global, message: Message) -> Kept
         ensures { IfSome (kept result) (λ m. m ≡ message) }
     {
         let count = message.kwargs.get().len();
-        let made = if count == 0 || count > FEW {
+        let made = if is_long(&message.rest) {
+            Kept::before(alloc, message)
+        } else if count == 0 || count > FEW {
             Kept::whole(alloc, message)
         } else {
             Kept::waiting(alloc, message)
@@ -172,6 +194,31 @@ impl Kept {
         match made {
             Ok(kept) => kept,
             Err(AllocError) => Kept::Nothing,
+        }
+    }
+
+    /// Keeps a message that others follow, if memory suffices.
+    pub(crate) fn followed(alloc: Global, message: Followed) -> Kept
+        ensures { IfSome (kept result) (λ m. m ≡ message) }
+    {
+        match Box::new(alloc, message) {
+            Ok(message) => Kept::Followed(message),
+            Err(_) => Kept::Nothing,
+        }
+    }
+
+    /// Takes the message out, if it is kept apart from the rest of its line. Afterwards none is
+    /// kept; otherwise nothing changes.
+    pub(crate) fn take_followed(&mut self) -> Option<Box<Followed>>
+        ensures message { IfSome result (λ m. kept self.old ≡ Some m.value) }
+        ensures left { IfSome (kept self.new) (λ m. kept self.old ≡ Some m) }
+    {
+        match mem::replace(self, Kept::Nothing) {
+            Kept::Followed(message) => Some(message),
+            other => {
+                *self = other;
+                None
+            }
         }
     }
 
@@ -183,6 +230,10 @@ impl Kept {
         match mem::replace(self, Kept::Nothing) {
             Kept::Nothing => None,
             Kept::Whole(message) => Some(message),
+            Kept::Followed(followed) => {
+                let message = Box::into_inner(followed).into_message();
+                Box::new(alloc, message).ok()
+            }
             Kept::Compact(waiting) => {
                 let message = Box::into_inner(waiting).into_message(alloc).ok()?;
                 Box::new(alloc, message).ok()

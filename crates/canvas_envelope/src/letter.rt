@@ -9,7 +9,7 @@ ghost use Rattle.canvas_envelope.specs.Pieces.{joined};
 
 use crate::kept::Kept;
 use crate::pieces::LetterTexts;
-use crate::{Envelope, Message, Pieces};
+use crate::{Envelope, Followed, Message, Pieces};
 use canvas_task::Memory;
 use std::alloc::Global;
 use std::fmt;
@@ -85,6 +85,21 @@ impl Letter {
         })
     }
 
+    /// Like `sealed`, but the message is kept apart from the rest of its line.
+    pub fn followed(alloc: Global, pieces: Pieces, message: Followed) -> Result<Letter, Memory>
+        requires says { Says (joined pieces).properties (joined pieces).headers
+            (joined pieces).body message }
+        ensures { IfOk result (λ l. l ≡ joined pieces) }
+    {
+        let held = Held {
+            texts: LetterTexts::Pieced(pieces),
+            message: Kept::followed(alloc, message),
+        };
+        Ok(Letter {
+            held: Box::new(alloc, held)?,
+        })
+    }
+
     /// Borrows the envelope of a letter that came from elsewhere.
     pub fn whole(&self) -> Option<&Envelope>
         ensures { IfSome result (λ e. e.now ≡ self.now) }
@@ -117,6 +132,16 @@ impl Letter {
         ensures letter { self.new ≡ self.old }
     {
         self.held.message.take(alloc)
+    }
+
+    /// Takes out the message that the letter holds, if it is kept apart from the rest of its line.
+    /// Otherwise nothing changes.
+    pub fn take_followed(&mut self) -> Option<Box<Followed>>
+        ensures message { IfSome result
+            (λ m. Says self.old.properties self.old.headers self.old.body m.value) }
+        ensures letter { self.new ≡ self.old }
+    {
+        self.held.message.take_followed()
     }
 
     /// Clones the letter, as a broker that redelivers it does. The clone holds no message, and

@@ -6,6 +6,7 @@ use Rattle.serde_json.specs.Data.{Data, null, array, object, Items, item, no_ite
 use Rattle.serde_json.specs.Written.{compact_text}
 use Rattle.canvas_task.specs.declared.arg.Arg.{Arg}
 use Rattle.canvas_wire.specs.Writing.{args_wire, kwargs_wire}
+use Rattle.canvas_semantics.specs.PlacedLine.{PLine}
 use Rattle.canvas_rewrite.specs.FrozenView.{p_tasks_of, p_task_view}
 use Rattle.canvas_rewrite.specs.declared.frozen.FrozenTask.{FrozenTask}
 use Rattle.canvas_rewrite.specs.declared.frozen.FrozenLine.{FrozenLine}
@@ -13,6 +14,7 @@ use Rattle.canvas_rewrite.specs.declared.frozen.Place.{Place}
 use Rattle.canvas_envelope.specs.MessageView.{content, place_seen, rest_seen}
 use Rattle.canvas_envelope.specs.Wire.{tasks_wire, carried_wire, list_or_null, body_wire}
 use Rattle.canvas_envelope.specs.SharedTexts.{IsListed, backwards}
+use Rattle.canvas_envelope.specs.steps.Lines.{followed_by}
 use Rattle.canvas_writing.specs.steps.Texts.{embed_of, opening_text, behind_text, closing_text}
 use Rattle.canvas_writing.proofs.KnownTexts.{body_written}
 
@@ -56,15 +58,23 @@ text_of args kwargs links errbacks chain chord =
     compact_text (array (item (array (args_wire args)) (item (object (kwargs_wire kwargs))
     (item (embed_of (callbacks links) chain chord (callbacks errbacks)) no_items))))
 
+pub followed_parts : (u : Option ℕ) (k : ℕ) (n : List ℕ) (x xs : List Arg) (w ws : List (List ℕ × Arg)) (l ls e es : List FrozenTask) (p : Option Place)
+    (r : Option FrozenLine) (rest : PLine) (chain chord : Data) (whole front opened : List ℕ)
+    → whole ≡ front ++ behind_text chain chord (callbacks e)
+    → front ≡ opened ++ opening_text (args_wire x) (kwargs_wire w) (callbacks l) → opened ≡ []
+    → x ≡ xs → w ≡ ws → l ≡ ls → e ≡ es → chain ≡ list_or_null (backwards rest) → chord ≡ carried_wire (place_seen p)
+    → whole ≡ compact_text (body_wire (followed_by (content u k n xs ws ls es p r) rest))
+followed_parts u k n x xs w ws l ls e es p r rest chain chord whole front opened is opening none xx ww ll ee following carried =
+    whole_is (args_wire x) (kwargs_wire w) (callbacks l) chain chord (callbacks e) whole front is
+    (opening ∙ ap (λ o. o ++ opening_text (args_wire x) (kwargs_wire w) (callbacks l)) none)
+    ∙ ap (λ y. text_of y w l e chain chord) xx ∙ ap (λ y. text_of xs y l e chain chord) ww ∙ ap (λ y. text_of xs ws y e chain chord) ll
+    ∙ ap (λ y. text_of xs ws ls y chain chord) ee ∙ ap (λ y. text_of xs ws ls es y chord) following
+    ∙ ap (λ y. text_of xs ws ls es (list_or_null (backwards rest)) y) carried
+
 pub by_parts : (u : Option ℕ) (k : ℕ) (n : List ℕ) (x xs : List Arg) (w ws : List (List ℕ × Arg)) (l ls e es : List FrozenTask) (p : Option Place)
     (r : Option FrozenLine) (chain chord : Data) (whole front opened : List ℕ)
     → whole ≡ front ++ behind_text chain chord (callbacks e)
     → front ≡ opened ++ opening_text (args_wire x) (kwargs_wire w) (callbacks l) → opened ≡ []
     → x ≡ xs → w ≡ ws → l ≡ ls → e ≡ es → chain ≡ list_or_null (backwards (rest_seen r)) → chord ≡ carried_wire (place_seen p)
     → whole ≡ compact_text (body_wire (content u k n xs ws ls es p r))
-by_parts u k n x xs w ws l ls e es p r chain chord whole front opened is opening none xx ww ll ee following carried =
-    whole_is (args_wire x) (kwargs_wire w) (callbacks l) chain chord (callbacks e) whole front is
-    (opening ∙ ap (λ o. o ++ opening_text (args_wire x) (kwargs_wire w) (callbacks l)) none)
-    ∙ ap (λ y. text_of y w l e chain chord) xx ∙ ap (λ y. text_of xs y l e chain chord) ww ∙ ap (λ y. text_of xs ws y e chain chord) ll
-    ∙ ap (λ y. text_of xs ws ls y chain chord) ee ∙ ap (λ y. text_of xs ws ls es y chord) following
-    ∙ ap (λ y. text_of xs ws ls es (list_or_null (backwards (rest_seen r))) y) carried
+by_parts u k n x xs w ws l ls e es p r = followed_parts u k n x xs w ws l ls e es p r (rest_seen r)

@@ -1,13 +1,17 @@
 //! The body of a message: its own text, and a piece that it shares with other messages.
 
-ghost use Rattle.std.specs.Prelude.{◌≡◌, ◌++◌, IfOk, IfSome, MatchOption, None, Some, map, string_bytes};
+ghost use Rattle.std.specs.Prelude.{◌≡◌, ◌++◌, true, false, IfOk, IfSome, MatchOption, None, Some, map, string_bytes};
 ghost use Rattle.std.specs.Str.{IsUtf8};
 ghost use Rattle.serde_json.specs.Data.{Items, Data, array, null};
 ghost use Rattle.serde_json.specs.Written.{compact_text};
 ghost use Rattle.canvas_task.specs.Entries.{named};
 ghost use Rattle.canvas_wire.specs.Writing.{args_wire, kwargs_wire};
 ghost use Rattle.canvas_rewrite.specs.FrozenView.{p_tasks_of, p_task_view, p_line_view};
+ghost use Rattle.canvas_semantics.specs.PlacedLine.{PLine};
 ghost use Rattle.canvas_envelope.specs.Content.{end_place};
+ghost use Rattle.canvas_envelope.specs.Fits.{fits};
+ghost use Rattle.canvas_envelope.specs.steps.Lines.{followed_by};
+ghost use Rattle.canvas_envelope.specs.steps.Parts.{is_stop};
 ghost use Rattle.canvas_envelope.specs.MessageView.{place_seen, place_view};
 ghost use Rattle.canvas_envelope.specs.Pieces.{piece_text, shared_text};
 ghost use Rattle.canvas_envelope.specs.SharedTexts.{IsLineText, IsListed, SaysCarried, backwards, carried_bytes};
@@ -20,7 +24,9 @@ use crate::light::put_arguments;
 use crate::line::line_text;
 use crate::room::{own_room, tasks_room};
 use crate::text::put;
-use canvas_envelope::{CarriedText, LinePiece, LineText, Message, Piece, Texts, following};
+use canvas_envelope::{
+    CarriedText, Followed, LinePiece, LineText, Message, Piece, Texts, following,
+};
 use canvas_rewrite::{FrozenLine, FrozenTask, Place};
 use canvas_task::Arg;
 use json::Writer;
@@ -108,6 +114,22 @@ fn rest_piece(alloc: Global, texts: &Texts, rest: &FrozenLine) -> Result<Piece, 
     let LineText { text, .. } = line_text(alloc, rest, &texts.carried)?;
     let end = text.own.len();
     Ok(Piece::Line(LinePiece { text, end }))
+}
+
+/// Returns the known text of the rest of a line, without its brackets.
+fn known_piece(known: &LineText) -> Result<Option<Piece>, AllocError>
+    ensures value { IfOk result (λ o. IfSome o (λ p. (l : PLine) → IsLineText known.now l
+        → IsListed (piece_text p) (backwards l))) }
+    ensures utf8 { IfOk result (λ o. IfSome o (λ p. (l : PLine) → IsLineText known.now l
+        → IsUtf8 (piece_text p))) }
+{
+    match known.ends.split_last() {
+        Some((end, _before)) => {
+            let text = Arc::try_clone(&known.text)?;
+            Ok(Some(Piece::Line(LinePiece { text, end: *end })))
+        }
+        None => Ok(None),
+    }
 }
 
 /// Returns the text of the body that a place carries, if it carries one.
@@ -249,5 +271,45 @@ pub fn body_of(alloc: Global, message: &Message) -> Result<Body, AllocError>
             Some(piece) => carrying(alloc, front, piece, errbacks),
             None => alone(alloc, front, errbacks),
         },
+    }
+}
+
+/// Makes the body of a message that others follow, before the text of the rest of its line.
+fn body_before(alloc: Global, message: &Message, piece: Piece) -> Result<Body, AllocError>
+    ensures value { IfOk result (λ b. (rest : PLine) → fits (followed_by message.now rest) ≡ true
+        → is_stop rest ≡ false → IsListed (piece_text piece) (backwards rest)
+        → string_bytes b.front ++ (shared_text b.shared ++ string_bytes b.back)
+        ≡ compact_text (body_wire (followed_by message.now rest))) }
+    ensures shared { IfOk result (λ b. b.shared ≡ Some piece) }
+{
+    let mut front = String::with_capacity(alloc, own_room(message))?;
+    put_opening(
+        alloc,
+        &mut front,
+        message.args.get(),
+        message.kwargs.get(),
+        message.links.get(),
+    )?;
+    followed(alloc, front, piece, message.errbacks.get())
+}
+
+/// Makes the body of a message that is kept apart from the rest of its line; None if nothing
+/// follows, or if the text of the rest isn't known.
+pub fn body_of_followed(alloc: Global, followed: &Followed) -> Result<Option<Body>, AllocError>
+    ensures value { IfOk result (λ o. IfSome o (λ b.
+        string_bytes b.front ++ (shared_text b.shared ++ string_bytes b.back)
+        ≡ compact_text (body_wire followed.now))) }
+    ensures utf8 { IfOk result
+        (λ o. IfSome o (λ b. IfSome b.shared (λ p. IsUtf8 (piece_text p)))) }
+{
+    if !followed.goes_on() {
+        return Ok(None);
+    }
+    match &followed.texts.line {
+        Some(known) => match known_piece(known)? {
+            Some(piece) => Ok(Some(body_before(alloc, &followed.message, piece)?)),
+            None => Ok(None),
+        },
+        None => Ok(None),
     }
 }

@@ -13,7 +13,7 @@ mod pieces;
 mod room;
 mod text;
 
-pub use body::{Body, body_of};
+pub use body::{Body, body_of, body_of_followed};
 pub use carried::carried_text;
 pub use light::{put_headers, put_properties};
 pub use line::line_text;

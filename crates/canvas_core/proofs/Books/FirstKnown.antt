@@ -58,7 +58,7 @@ skipped book zero ts e h = refl
 skipped book (suc n) [] e h = refl
 skipped book (suc n) (t ∷ ts) e h = skipped book n ts e h.1 ∙ sym (ap (λ b. b && tasks_known book (p_tasks_of ts)) h.0)
 
-behind : (book : Book) (n : ℕ) (ts : List FrozenTask) (e l : PLine) → l ≡ p_steps (map p_task_view ts) e
+pub behind : (book : Book) (n : ℕ) (ts : List FrozenTask) (e l : PLine) → l ≡ p_steps (map p_task_view ts) e
     → EachFirst (λ t. task_known book t ≡ true) n l
     → tasks_known book (p_tasks_of (map p_task_view (drop n ts))) ≡ tasks_known book (p_tasks_of (map p_task_view ts))
 behind book n ts e l is h =

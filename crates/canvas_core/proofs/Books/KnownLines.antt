@@ -26,7 +26,7 @@ and_and : (a b c : Bool) → ((a && b) && c) ≡ (a && (b && c))
 and_and true b c = refl
 and_and false b c = refl
 
-steps_known : (book : Book) (ts : List PTask) (l : PLine) → line_known book (p_steps ts l) ≡ (tasks_known book (p_tasks_of ts) && line_known book l)
+pub steps_known : (book : Book) (ts : List PTask) (l : PLine) → line_known book (p_steps ts l) ≡ (tasks_known book (p_tasks_of ts) && line_known book l)
 steps_known book [] l = refl
 steps_known book (t ∷ ts) l = ap (λ b. task_known book t && b) (steps_known book ts l)
     ∙ sym (and_and (task_known book t) (tasks_known book (p_tasks_of ts)) (line_known book l))

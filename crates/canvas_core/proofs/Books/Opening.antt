@@ -9,7 +9,7 @@ use Rattle.canvas_runs.proofs.Envelopes.Readings.{says_reading, refused_reading}
 use Rattle.canvas_runs.specs.Book.{Book, message_known}
 use Rattle.canvas_runs.specs.Worker.{read_envelope, known_one, opened}
 
-read_so : (book : Book) (e : Envelope) (c : Content) (k : Bool) → Says e.properties e.headers e.body c → message_known book c ≡ k
+pub read_so : (book : Book) (e : Envelope) (c : Content) (k : Bool) → Says e.properties e.headers e.body c → message_known book c ≡ k
     → opened book e ≡ (if k then Some c else None)
 read_so book e c k says known = ap (known_one book) (says_reading e.properties e.headers e.body c says) ∙ ap (λ b. if b then Some c else None) known
 

@@ -135,7 +135,7 @@ fn carried_by(texts: Texts) -> Option<Arc<CarriedText>>
 }
 
 /// Returns what is known of a line's texts after its next task is taken.
-fn texts_behind(texts: Texts) -> Texts
+pub(super) fn texts_behind(texts: Texts) -> Texts
     ensures { (own : PPlace) (t : PTask) (rest : PLine) → AreTexts texts own (p_step t rest)
         → AreTexts result (place_of t) rest }
 {

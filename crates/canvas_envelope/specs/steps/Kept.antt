@@ -7,4 +7,5 @@ use Rattle.canvas_envelope.specs.declared.kept.Kept.TheVariants as holds
 abbrev pub kept : Kept → Option Content
 kept holds.Nothing = None
 kept (holds.Whole m) = Some m.value
+kept (holds.Followed m) = Some m.value
 kept (holds.Compact m) = Some m.value

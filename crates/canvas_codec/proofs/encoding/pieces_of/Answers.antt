@@ -9,10 +9,11 @@ pub returns-clause-reads_back : goal.returns-clause-reads_back
 returns-clause-reads_back c =
     let texts = c.in_ok-texts_of.ensures in
     reading_says _ _ _ c.args.message.now
-    (envelope_back c.args.message.now _ _ _ c.number.ensures.checked texts.properties texts.headers texts.body texts.utf8.0 texts.utf8.1 texts.utf8.2)
+    (envelope_back c.args.message.now _ _ _ c.number.ensures.checked texts.properties texts.headers (texts.body ∙ c.in_ok-body.ensures.value)
+    texts.utf8.0 texts.utf8.1 texts.utf8.2)
 
 pub ascii-requires : goal.ascii-requires
 ascii-requires c = rw c.task_text-id.ensures.value (task_ascii c.number.result)
 
-pub texts_of-requires : goal.texts_of-requires
-texts_of-requires c = c.ascii.ensures ∙ c.task_text-id.ensures.value ∙ ap task_text c.number.ensures.value
+pub texts_of-requires-clause-id : goal.texts_of-requires-clause-id
+texts_of-requires-clause-id c = c.ascii.ensures ∙ c.task_text-id.ensures.value ∙ ap task_text c.number.ensures.value
