@@ -10,7 +10,7 @@ use Rattle.canvas_sig.proofs.CleanWire.{args_clean, above_behind, kwargs_clean, 
 use Rattle.canvas_values.proofs.ComposedLemmas.{both}
 use Rattle.canvas_semantics.specs.Line.{in_group}
 use Rattle.canvas_semantics.specs.PlacedLine.{PTask, p_task, PTasks, no_p_tasks, and_p_task, PPlace, p_nowhere, p_group, p_chord, PLine, p_stop, p_step, p_group_end, p_chord_end, PLines, no_p_lines, and_p_line, strip}
-use Rattle.canvas_envelope.specs.Fits.{is_task_number, size_ok, task_ok, tasks_ok, place_ok, line_ok, members_ok, task_reach, tasks_reach, place_reach, line_reach, greatest_reach, members_reach}
+use Rattle.canvas_envelope.specs.Fits.{is_task_number, size_ok, task_ok, tasks_ok, place_ok, line_ok, members_ok, task_reach, tasks_reach, place_reach, line_reach, greatest_reach, members_reach, most_members}
 use Rattle.canvas_envelope.specs.Wire.{task_id, place_id, member_unless_null, frozen_wire, task_options, call_wire, chain_wire, group_options, group_wire, chord_wire, task_wire, tasks_wire, carried_wire, line_wire, elements_wire, members_wire}
 use Rattle.canvas_codec.proofs.RoundTrip.{task_parts, chord_parts}
 
@@ -62,15 +62,15 @@ options_clean k l e g c cl ce cg cc =
 
 -- ---- signatures
 
-small : (n : ℕ) → size_ok n ≡ true → n ≤ 1024
-small n h = leb-true n 1024 (both (nat_lt 0 n) (nat_le n 1024) h).1
+small : (n : ℕ) → size_ok n ≡ true → n ≤ most_members
+small n h = leb-true n most_members (both (nat_lt 0 n) (nat_le n most_members) h).1
 
 -- the size that a body says
 abbrev pub SizeOk : Option ℕ → Type 0
 SizeOk None = Unit {0}
-SizeOk (Some n) = n ≤ 1024
+SizeOk (Some n) = n ≤ most_members
 
-wide : (n : ℕ) → n ≤ 1024 → n < 2 ^ 64
+wide : (n : ℕ) → n ≤ most_members → n < 2 ^ 64
 wide n h = omega (arith, h)
 
 frozen_clean : (size : Option ℕ) (args : Items) (immutable : Bool) (kwargs options : Members) (kind : Data) (name : List ℕ) → SizeOk size → AreClean args

@@ -23,7 +23,7 @@ use Rattle.canvas_sig.proofs.RoundTrip.{args_back, args_kinds, args_numbers, kwa
 use Rattle.canvas_semantics.specs.Line.{in_group}
 use Rattle.canvas_rewrite.specs.FrozenView.{p_tasks_of, p_lines_of}
 use Rattle.canvas_semantics.specs.PlacedLine.{PTask, p_task, PTasks, no_p_tasks, and_p_task, PPlace, p_nowhere, p_group, p_chord, PLine, p_stop, p_step, p_group_end, p_chord_end, PLines, no_p_lines, and_p_line, strip}
-use Rattle.canvas_envelope.specs.Fits.{is_task_number, size_ok, is_less, is_below, ascends, call_ok, task_ok, tasks_ok, place_ok, line_ok, members_ok, how_many, task_reach, tasks_reach, place_reach, line_reach, greatest_reach, members_reach}
+use Rattle.canvas_envelope.specs.Fits.{is_task_number, size_ok, is_less, is_below, ascends, call_ok, task_ok, tasks_ok, place_ok, line_ok, members_ok, how_many, task_reach, tasks_reach, place_reach, line_reach, greatest_reach, members_reach, most_members}
 use Rattle.canvas_codec.specs.steps.FrozenReading.{size_reading, call_reading, place_with, task_with, task_as, step_as, last_as, elements_with, link_reading, step_reading, last_reading, line_reading}
 use Rattle.canvas_envelope.specs.FrozenGrammar.{task_of, group_of, but_a_place}
 use Rattle.canvas_envelope.specs.Wire.{task_id, group_id, place_id, member_unless_null, task_options, call_wire, chain_wire, group_wire, chord_wire, task_wire, tasks_wire, carried_wire, line_wire, elements_wire, members_wire}
@@ -270,7 +270,7 @@ task_read linked size call k links errbacks place t f here fits ls es at =
 
 sized_back : (n : ℕ) → size_ok n ≡ true → size_reading (number_wire (pos n)) ≡ Ok n
 sized_back n h =
-    let most = leb-true n 1024 (both (nat_lt 0 n) (nat_le n 1024) h).1 in
+    let most = leb-true n most_members (both (nat_lt 0 n) (nat_le n most_members) h).1 in
     rw (lt-ltb n (2 ^ 63) (omega (arith, most)), h) refl
 
 line_is_some : (size : Option ℕ) (l : PLine) → is_null (line_wire size l) ≡ false
@@ -369,9 +369,9 @@ pub record Chord (last : Bool) (g : ℕ) (ms : PLines) (b : PLine) : Type 0 wher
 
 pub chord_parts : (last : Bool) (g : ℕ) (ms : PLines) (b : PLine) → line_ok last (p_chord_end g ms b) ≡ true → Chord last g ms b
 chord_parts last g ms b ok =
-    let p = both (is_task_number g && nat_le (how_many ms) 1024 && members_ok ms) (line_ok last b) ok in
-    let q = both (is_task_number g && nat_le (how_many ms) 1024) (members_ok ms) p.0 in
-    record { here = (both (is_task_number g) (nat_le (how_many ms) 1024) q.0).0; members = q.1; body = p.1 }
+    let p = both (is_task_number g && nat_le (how_many ms) most_members && members_ok ms) (line_ok last b) ok in
+    let q = both (is_task_number g && nat_le (how_many ms) most_members) (members_ok ms) p.0 in
+    record { here = (both (is_task_number g) (nat_le (how_many ms) most_members) q.0).0; members = q.1; body = p.1 }
 
 -- what is true of a task's parts
 pub record Parts (last : Bool) (k : ℕ) (call : Call) (links errbacks : PTasks) (place : PPlace) : Type 0 where

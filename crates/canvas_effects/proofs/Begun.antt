@@ -13,7 +13,7 @@ use Rattle.canvas_rewrite.specs.declared.frozen.FrozenEnd.{FrozenEnd, out-Frozen
 use Rattle.canvas_effects.specs.Carrying.{can_stand, AllStand, callbacks_ok, input_ok}
 use Rattle.canvas_envelope.specs.Content.{Content, place_of}
 use Rattle.canvas_effects.specs.Effects.{message, callbacks, messages_in, part_of}
-use Rattle.canvas_envelope.specs.Fits.{parent_ok, fits}
+use Rattle.canvas_envelope.specs.Fits.{parent_ok, fits, most_members}
 use Rattle.canvas_effects.specs.Flowing.{Input, list_input}
 use Rattle.canvas_envelope.specs.steps.Parts.{is_stop}
 use Rattle.canvas_effects.specs.Placing.{placed}
@@ -82,7 +82,7 @@ place_put_again u q p (p_task k call links errbacks place) c x same = ap (λ y. 
 -- ---- places of members
 
 pub fits_size : (t : FrozenEnd) (b : FrozenLine) (p : PPlace) (ms : List FrozenLine) → (out-FrozenEnd t).body ≡ Some b → ms ≡ (out-FrozenEnd t).members
-    → can_stand (p_end_view t) p ≡ true → length ms ≤ 1024
+    → can_stand (p_end_view t) p ≡ true → length ms ≤ most_members
 fits_size t b p ms some same h =
     let few = few_members (out-FrozenEnd t).group (p_lines_of (map p_line_view (out-FrozenEnd t).members)) (p_line_view b) p
     (sym (ap (λ l. can_stand l p) (end_some t b some)) ∙ h) in

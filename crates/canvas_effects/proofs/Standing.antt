@@ -451,8 +451,8 @@ header_stands g l ls b p h =
 pub body_stands : (g : ℕ) (ms : PLines) (b : PLine) (p : PPlace) → can_stand (p_chord_end g ms b) p ≡ true → can_stand b p ≡ true
 body_stands g ms b p h = body_whole g ms (placed p b) h
 
-pub few_members : (g : ℕ) (ms : PLines) (b : PLine) (p : PPlace) → can_stand (p_chord_end g ms b) p ≡ true → how_many ms ≤ 1024
-few_members g ms b p h = leb-true (how_many ms) 1024 (chord_parts g ms (placed p b) (whole_ok (p_chord_end g ms (placed p b)) h)).few
+pub few_members : (g : ℕ) (ms : PLines) (b : PLine) (p : PPlace) → can_stand (p_chord_end g ms b) p ≡ true → how_many ms ≤ most_members
+few_members g ms b p h = leb-true (how_many ms) most_members (chord_parts g ms (placed p b) (whole_ok (p_chord_end g ms (placed p b)) h)).few
 
 -- the end of a line goes to the place of its last task
 pub as_it_stands : (l : PLine) → placed (end_place l) l ≡ l

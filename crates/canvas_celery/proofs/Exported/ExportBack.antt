@@ -12,7 +12,7 @@ use Rattle.canvas_values.proofs.ComposedLemmas.{both}
 use Rattle.canvas_semantics.specs.Line.{in_group}
 use Rattle.canvas_semantics.specs.PlacedLine.{PLine, p_stop, p_step, p_group_end, p_chord_end, PLines, no_p_lines, and_p_line, strip}
 use Rattle.canvas_envelope.specs.Content.{Content}
-use Rattle.canvas_envelope.specs.Fits.{is_task_number, how_many, line_ok, members_ok}
+use Rattle.canvas_envelope.specs.Fits.{is_task_number, how_many, line_ok, members_ok, most_members}
 use Rattle.canvas_codec.proofs.RoundTrip.{chord_parts}
 use Rattle.canvas_celery.specs.Run.{piece, run_group}
 use Rattle.canvas_celery.specs.Keys.{size_key}
@@ -188,16 +188,16 @@ named_both : (xs ys : List (ℕ × ℕ)) → AreNamed xs → AreNamed ys → Are
 named_both [] ys h k = k
 named_both (x ∷ xs) ys h k = (h.0, h.1, named_both xs ys h.2 k)
 
-sizes_named : (g : ℕ) (ms : PLines) (h b : List (ℕ × ℕ)) → is_task_number g ≡ true → how_many ms ≤ 1024 → AreNamed h → AreNamed b
+sizes_named : (g : ℕ) (ms : PLines) (h b : List (ℕ × ℕ)) → is_task_number g ≡ true → how_many ms ≤ most_members → AreNamed h → AreNamed b
     → AreNamed (chord_sizes g ms h b)
 sizes_named g no_p_lines h b here few k l = l
 sizes_named g (and_p_line m ms) h b here few k l = (here, omega (arith, few), k)
 
-few_members : (g : ℕ) (ms : PLines) (b : PLine) (last : Bool) → line_ok last (p_chord_end g ms b) ≡ true → how_many ms ≤ 1024
+few_members : (g : ℕ) (ms : PLines) (b : PLine) (last : Bool) → line_ok last (p_chord_end g ms b) ≡ true → how_many ms ≤ most_members
 few_members g ms b last ok =
-    let p = both (is_task_number g && nat_le (how_many ms) 1024 && members_ok ms) (line_ok last b) ok in
-    let q = both (is_task_number g && nat_le (how_many ms) 1024) (members_ok ms) p.0 in
-    leb-true (how_many ms) 1024 (both (is_task_number g) (nat_le (how_many ms) 1024) q.0).1
+    let p = both (is_task_number g && nat_le (how_many ms) most_members && members_ok ms) (line_ok last b) ok in
+    let q = both (is_task_number g && nat_le (how_many ms) most_members) (members_ok ms) p.0 in
+    leb-true (how_many ms) most_members (both (is_task_number g) (nat_le (how_many ms) most_members) q.0).1
 
 mutual
   pub starting_named : (last : Bool) (l : PLine) → line_ok last l ≡ true → AreNamed (starting l)
