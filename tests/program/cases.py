@@ -123,6 +123,7 @@ class Case:
     status: int = 0
     prefixes: str = None
     room: int = None
+    seconds: float = 120
     threads: int = None
     forbidden: list = field(default_factory=list)
     is_folder: bool = False

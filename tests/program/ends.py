@@ -16,7 +16,7 @@ class End(NamedTuple):
 class Run(NamedTuple):
     """A run of a program on a canvas from some place, and its end by the rules. The output is
     compared as it is read. Where results are given, the canvas is in a file. Other files have
-    their names."""
+    their names. A run that takes longer than the seconds is ended."""
     place: str
     words: list
     given: str
@@ -24,6 +24,7 @@ class Run(NamedTuple):
     read: Callable = str
     results: str = None
     files: dict = {}
+    seconds: float = 60
 
 
 def run_on(place, words, canvas, given, out, err=""):

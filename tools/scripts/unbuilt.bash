@@ -23,6 +23,16 @@ read_words() {
   done
 }
 
+# Prints a word as part of a line. A word that has anything but printable ASCII is quoted as the shell does it, so that it ends no line and controls no
+# terminal.
+in_line() {
+  local LC_ALL=C
+  case "$1" in
+    *[!\ -~]*) printf '%q' "$1" ;;
+    *) printf '%s' "$1" ;;
+  esac
+}
+
 # Says what is wrong with the words, as the program does, and ends.
 refuse_words() {
   printf "error: %s\n\nUsage: canvas <COMMAND>\n\nFor more information, try '--help'.\n" "$1" >&2 || :
@@ -44,13 +54,13 @@ answer_unbuilt() {
       exit 0
       ;;
     ' '*) refuse_words "'canvas' requires a subcommand but one was not provided"$'\n'"  [subcommands: ${names// /, }]" ;;
-    -*) refuse_words "unexpected argument '$command' found" ;;
+    -*) refuse_words "unexpected argument '$(in_line "$command")' found" ;;
   esac
-  if [[ " $names " != *" $command "* ]]; then refuse_words "unrecognized subcommand '$command'"; fi
+  if [[ " $names " != *" $command "* ]]; then refuse_words "unrecognized subcommand '$(in_line "$command")'"; fi
   for file in "${files[@]}"; do
     if [ "$file" != - ] && { [ ! -r "$file" ] || [ -d "$file" ]; }; then unread+=("$file"); fi
   done
   if ((${#unread[@]} == 0 || ${#unread[@]} < ${#files[@]})) || [[ " ${options[*]-} " == *' --json '* ]]; then return 0; fi
-  printf 'canvas: cannot read %s\n' "${unread[@]}" >&2 || :
+  for file in "${unread[@]}"; do printf 'canvas: cannot read %s\n' "$(in_line "$file")" >&2 || :; done
   exit 1
 }
