@@ -30,6 +30,9 @@ WORDS = ("run", "-", "--each", "--null", "--with-tasks", "--adapt", "--json")
 #: The bytes at most of a canvas, and of the lines that say what its tasks answer.
 MOST_BYTES = 1_048_576
 
+#: The bytes that are read at once: as many as a pipe holds. Room for more takes time to get.
+MOST_READ = 65_536
+
 #: The seconds that a process has to end once it gets no more canvases.
 GRACE = 1
 
@@ -105,20 +108,23 @@ class _Process:
 
     def _lines(self, items: Sequence[bytes]) -> List[bytes]:
         """The lines that it prints of some items, each of which may take a number of seconds."""
-        left = memoryview(b"".join(it + b"\0" for it in items))
+        left = self._after_writing(memoryview(b"".join(it + b"\0" for it in items)))
         said, count = bytearray(), 0
         until = time.monotonic() + calling.SECONDS
         ready = select.poll()
         ready.register(self._stdout, select.POLLIN)
-        left = self._without_written(left, ready)
+        if left:
+            ready.register(self._stdin, select.POLLOUT)
         while count < len(items):
             wait = until - time.monotonic()
             if wait <= 0 or not ready.poll(wait * 1000):
                 self.end(0)
                 raise CanvasError(f"{self.path} took more than {calling.SECONDS} seconds")
             if left:
-                left = self._without_written(left, ready)
-            part = self._stdout.read(1 << 20)
+                left = self._after_writing(left)
+                if not left:
+                    ready.unregister(self._stdin)
+            part = self._stdout.read(MOST_READ)
             if part == b"":
                 raise calling.failure("run", *self.end())
             if part and b"\n" in part:
@@ -127,21 +133,13 @@ class _Process:
             said += part or b""
         return bytes(said).split(b"\n")[:-1] if said.endswith(b"\n") else []
 
-    def _without_written(self, left: memoryview, ready: select.poll) -> memoryview:
-        """What is still to be written once what can be is. Where the process reads no more, its
-        output says what there is to say."""
+    def _after_writing(self, left: memoryview) -> memoryview:
+        """What is left once all that can be written is. If the process reads no more, that is
+        nothing: its output says why."""
         try:
-            left = left[self._stdin.write(left) or 0:]
+            return left[self._stdin.write(left) or 0:]
         except BrokenPipeError:
-            left = left[:0]
-        if left:
-            ready.register(self._stdin, select.POLLOUT)
-        else:
-            try:
-                ready.unregister(self._stdin)
-            except KeyError:
-                pass
-        return left
+            return left[:0]
 
     def end(self, grace: float = GRACE) -> Tuple[int, str]:
         """Ends it, and gives its status and what standard error says."""
