@@ -7,7 +7,7 @@ from typing import Any, Callable, Dict
 
 __all__ = ["BEHAVIOURS", "OWN", "WORDS"]
 
-#: What each does, where Celery's code runs it.
+#: What each does if Celery's code runs it.
 BEHAVIOURS: Dict[str, Callable[..., Any]] = {
     "add": operator.add, "div": operator.floordiv, "ident": lambda value: value,
     "log_error": lambda uuid: 0, "mul": operator.mul, "xsum": sum}

@@ -134,8 +134,8 @@ class _Process:
         return bytes(said).split(b"\n")[:-1] if said.endswith(b"\n") else []
 
     def _after_writing(self, left: memoryview) -> memoryview:
-        """What is left once all that can be written is. If the process reads no more, that is
-        nothing: its output says why."""
+        """Writes what can be written, and gives what is left. If the process reads no more, nothing
+        is left: its output says why."""
         try:
             return left[self._stdin.write(left) or 0:]
         except BrokenPipeError:
