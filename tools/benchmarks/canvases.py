@@ -173,6 +173,13 @@ def numbered(text, count):
     return group(call("ident", f"{text} {i}") for i in range(count))
 
 
+def shuffled(count):
+    """So many named arguments, in random order."""
+    names = [f"{number:x}" for number in range(count)]
+    random.Random(1).shuffle(names)
+    return dict.fromkeys(names, 1)
+
+
 # Canvases of other shapes, most of them flat: their messages share next to no text. They have what
 # the kinds don't: signs, names, lists, escapes, long texts.
 OTHERS = {
@@ -203,6 +210,7 @@ OTHERS = {
     "a group of 400 with links": lambda: group(
         call("add", i, i, link=[call("ident")]) for i in range(400)
     ),
+    "a call with 90,000 named arguments": lambda: {**call("add"), "kwargs": shuffled(90_000)},
 }
 
 # Canvases of one kind with ever more tasks.
