@@ -174,7 +174,7 @@ def numbered(text, count):
 
 
 def shuffled(count):
-    """So many named arguments, in random order."""
+    """A number of named arguments, in random order."""
     names = [f"{number:x}" for number in range(count)]
     random.Random(1).shuffle(names)
     return dict.fromkeys(names, 1)
