@@ -1,4 +1,4 @@
-"""How runs on real workers compare with what each flow means: the table of docs/CELERY.md.
+"""How runs on real workers compare with what each flow means: the table of flows/README.md.
 
     python3 compared.py       prints it, from flows/started-VERSION.jsonl and
                               flows/by-start-VERSION.jsonl; it needs Celery
