@@ -13,7 +13,9 @@ __all__ = ["CeleryPart", "celery_part"]
 
 __tracebackhide__ = hidden
 
-#: The tasks that a canvas may have, so that Celery is asked about it: twice for each task.
+#: The tasks that a canvas may have, so that Celery is asked about it: twice for each task. The time
+#: grows with the square of their number, and 60 in a chain take some seconds. It is no limit of
+#: seconds, so that a page is the same each time.
 MOST_TASKS = 40
 
 #: What becomes of a task on Celery, by the places of page.js: it is called and succeeds, or fails;

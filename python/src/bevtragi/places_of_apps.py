@@ -35,7 +35,8 @@ class Place(NamedTuple):
 
     client     a client of the Redis with the results
     queue      the queue of tasks that no route names
-    before     what the broker puts before the key of a queue
+    before     what the broker puts before the key of a queue; not into the messages, as kombu puts
+               it there itself if it redelivers one
     prefix     what the result backend puts before its keys
     expires    how many seconds results are kept, or None
     databases  of the queue and of the results, or None if both are the client's own

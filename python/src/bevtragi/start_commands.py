@@ -2,7 +2,7 @@
 
 The program's script puts all messages on one list of Redis. A queue is a list, and so is each
 priority of a queue (kombu). So if the first tasks go to several, another script of the same shape
-puts each message on its own list: all of them or nothing.
+puts each message on its own list: all of them or nothing. Nothing of it is proved.
 """
 
 from __future__ import annotations
