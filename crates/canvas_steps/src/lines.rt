@@ -6,7 +6,7 @@ ghost use Rattle.canvas_report.specs.StoredRows.{row_of};
 ghost use Rattle.canvas_steps.specs.Lines.{ask_text, did_text, held_after, held_by, letter_text, none_held, part_text, steps_text, task_member, worker_text};
 
 use crate::line::{
-    identifier, more_member, put, put_ask, put_group, put_named, put_number, put_task,
+    more_member, put, put_ask, put_group, put_named, put_number, put_task,
     stored_member,
 };
 use canvas_by_turns::{Did, Step};
@@ -84,10 +84,10 @@ fn put_did(
 {
     match did {
         Did::Took(None) => put_letter(text, b"take", NONE)?,
-        Did::Took(Some(letter)) => put_letter(text, b"take", identifier(letter.properties()))?,
-        Did::Published(letter) => put_letter(text, b"publish", identifier(letter.properties()))?,
+        Did::Took(Some(letter)) => put_letter(text, b"take", letter.identifier())?,
+        Did::Published(letter) => put_letter(text, b"publish", letter.identifier())?,
         Did::Redelivered(letter) => {
-            put_letter(text, b"redeliver", identifier(letter.properties()))?
+            put_letter(text, b"redeliver", letter.identifier())?
         }
         Did::Stored(task, _outcome, stored) => {
             put_store(text, alloc, rows, *task, stored_member(*stored))?
@@ -143,7 +143,7 @@ fn hold<'a>(held: &mut [&'a [u8]], step: &'a Step)
 {
     match &step.did {
         Did::Took(Some(letter)) => {
-            put_held(held, step.worker as usize, identifier(letter.properties()))
+            put_held(held, step.worker as usize, letter.identifier())
         }
         _ => {}
     }
