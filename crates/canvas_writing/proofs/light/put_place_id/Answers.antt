@@ -9,4 +9,4 @@ use Rattle.canvas_writing.proofs.light.put_place_id.Goals as goal
 pub returns-in-Some : goal.returns-in-Some
 returns-in-Some c =
     alike_text c.put_group_id.result (string_bytes c.args.out.now) (string_bytes c.put_group_id.new.out) _ _
-    (ap compact_text (sym (placed c.in-Some.place.now) ∙ ap (λ o. place_id (place_seen o)) (sym c.in-Some.is))) c.put_group_id.ensures
+    (ap compact_text (sym (placed c.in-Some.place) ∙ ap (λ o. place_id (place_seen o)) (sym c.in-Some.is))) c.put_group_id.ensures
