@@ -21,7 +21,7 @@ use crate::carried::body_text;
 use crate::frozen::write_tasks;
 use crate::light::put_arguments;
 use crate::line::line_text;
-use crate::room::{front_room, tasks_room};
+use crate::room::{own_room, tasks_room};
 use canvas_envelope::{
     CarriedText, Embed, Followed, LinePiece, LineText, Message, Piece, Texts, following,
 };
@@ -163,11 +163,7 @@ fn following_piece(alloc: Global, message: &Message) -> Result<Option<Piece>, Al
 }
 
 /// Makes the body of a message, with the text of what follows it.
-fn body_with(
-    alloc: Global,
-    message: &Message,
-    following: Option<Piece>,
-) -> Result<Body, AllocError>
+fn body_with(alloc: Global, message: &Message, following: Option<Piece>) -> Result<Body, AllocError>
     requires { IsUtf8 (following_text following) }
     ensures value { IfOk result (λ b. (rest : PLine) → following_text following
         ≡ onward_text (list_or_null (backwards rest)) (carried_wire (place_of message.now.own))
@@ -175,13 +171,8 @@ fn body_with(
         ≡ compact_text (body_wire (followed_by message.now rest))) }
     ensures utf8 { IfOk result (λ b. IsUtf8 (embed_text b.embed)) }
 {
-    let mut front = String::with_capacity(alloc, front_room(message))?;
-    put_arguments(
-        alloc,
-        &mut front,
-        message.args.get(),
-        message.kwargs.get(),
-    )?;
+    let mut front = String::with_capacity(alloc, own_room(message))?;
+    put_arguments(alloc, &mut front, message.args.get(), message.kwargs.get())?;
     let links = list_of(alloc, message.links.get())?;
     let errbacks = list_of(alloc, message.errbacks.get())?;
     let embed = Embed {

@@ -102,11 +102,18 @@ fn rest_room(rest: &Option<FrozenLine>) -> usize {
     }
 }
 
+/// Returns the length of an identifier in its quotes, or of null.
+fn id_room(is_named: bool) -> usize {
+    if is_named { 38 } else { 4 }
+}
+
 /// Estimates the length of a letter's own text: the arguments, three identifiers and the name.
-pub(crate) fn front_room(message: &Message) -> usize {
+pub(crate) fn own_room(message: &Message) -> usize {
     arguments_room(message.args.get())
         .saturating_add(message.kwargs.get().len().saturating_mul(24))
         .saturating_add(message.name.get().len())
-        .saturating_add(128)
+        .saturating_add(id_room(message.place.is_some()))
+        .saturating_add(id_room(message.parent.is_some()))
+        .saturating_add(48)
         .min(MOST_ROOM)
 }

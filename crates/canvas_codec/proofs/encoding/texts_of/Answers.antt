@@ -70,11 +70,10 @@ pub returns-clause-body : goal.returns-clause-body
 returns-clause-body c = ap (λ f. f ++ embed_text c.args.body.embed) (front_part _ _ _ _ _ _ _ _ _ _ (parts c))
 
 pub returns-clause-utf8 : goal.returns-clause-utf8
-returns-clause-utf8 c =
-    (
-      subst IsUtf8 (sym (returns-clause-properties c)) (properties_utf8 c.args.message.now),
-      subst IsUtf8 (sym (returns-clause-headers c))
-          (headers_utf8 c.args.message.now (last_utf8 (((front c ++ group c) ++ id c) ++ parent c) _ 34 (omega arith)
-          (subst IsUtf8 (with_name c) (IsUtf8-string_bytes c.put_string.new.out)))),
-      subst IsUtf8 (sym (returns-clause-body c)) (IsUtf8-append _ _ (IsUtf8-string_bytes c.args.body.front) c.requires.utf8),
-    )
+returns-clause-utf8 c = (
+  subst IsUtf8 (sym (returns-clause-properties c)) (properties_utf8 c.args.message.now),
+  subst IsUtf8 (sym (returns-clause-headers c))
+      (headers_utf8 c.args.message.now (last_utf8 (((front c ++ group c) ++ id c) ++ parent c) _ 34 (omega arith)
+      (subst IsUtf8 (with_name c) (IsUtf8-string_bytes c.put_string.new.out)))),
+  subst IsUtf8 (sym (returns-clause-body c)) (IsUtf8-append _ _ (IsUtf8-string_bytes c.args.body.front) c.requires.utf8),
+)

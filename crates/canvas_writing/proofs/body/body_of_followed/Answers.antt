@@ -28,7 +28,7 @@ returns-in_ok-body-in-Some-piece-clause-value c =
     let known = rw c.in-Some.is at c.followed.invariant.1.line in
     let said = rw c.in-Some-piece.is at c.in_ok-piece-in-Some.ensures.value in
     let more : is_stop rest ≡ false = goes_on (is_stop rest)
-        (ap (λ z. not (is_stop z.rest)) c.followed.view_is ∙ sym c.goes_on.ensures ∙ c.if-not-goes_on.false) in
+    (ap (λ z. not (is_stop z.rest)) c.followed.view_is ∙ sym c.goes_on.ensures ∙ c.if-not-goes_on.false) in
     c.in_ok-body-in-Some-piece.ensures.value rest
     (line_onward _ (backwards rest) (said rest known) ∙ ap (λ d. onward_text d null) (some_following rest more)
     ∙ ap (onward_text (list_or_null (backwards rest))) (sym (carries_nothing m rest c.followed.invariant.0 more)))
