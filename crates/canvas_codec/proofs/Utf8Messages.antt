@@ -58,7 +58,7 @@ ascii text low = IsUtf8-are_ascii text low
 pub task_text_utf8 : (k : ℕ) → IsUtf8 (task_text k)
 task_text_utf8 k = IsUtf8-from_ascii _ (task_ascii k)
 
-group_text_utf8 : (g : ℕ) → IsUtf8 (group_text g)
+pub group_text_utf8 : (g : ℕ) → IsUtf8 (group_text g)
 group_text_utf8 g = IsUtf8-from_ascii _ (group_ascii g)
 
 parent_data : (u : Option ℕ) → IsUtf8Data (parent_id u)

@@ -1,18 +1,19 @@
 //! Writing the envelope of a message.
 
 ghost use Rattle.std.specs.Prelude.{◌≡◌, ◌++◌, true, IfOk, IfSome, string_bytes};
-ghost use Rattle.canvas_task.specs.Identifiers.{task_text};
 ghost use Rattle.serde_json.specs.Written.{compact_text};
 ghost use Rattle.canvas_envelope.specs.Content.{number_of};
 ghost use Rattle.std.specs.Str.{IsUtf8};
 ghost use Rattle.canvas_envelope.specs.Fits.{fits};
 ghost use Rattle.canvas_envelope.specs.EnvelopeFaults.{Says};
-ghost use Rattle.canvas_envelope.specs.Pieces.{joined, body_text, piece_text, shared_text};
+ghost use Rattle.canvas_envelope.specs.Pieces.{body_text, embed_text, joined};
 ghost use Rattle.canvas_envelope.specs.Wire.{properties_wire, headers_wire, body_wire};
 
 use canvas_envelope::{Envelope, Followed, Message, Pieces};
-use canvas_task::{ListOf, Memory, TaskNo, task_text};
-use canvas_writing::{Body, ascii, body_of, body_of_followed, put_headers, put_properties};
+use canvas_task::{ListOf, Memory, TaskNo};
+use canvas_writing::{
+    Body, body_of, body_of_followed, put_parent_id, put_place_id, put_string, put_task_id,
+};
 use std::alloc::{AllocError, Global};
 
 /// Returns the bytes of a text, which are UTF-8.
@@ -23,35 +24,41 @@ fn bytes_of(text: String) -> ListOf<u8>
     ListOf::of(text.into_bytes())
 }
 
-/// Writes the three texts of a message with this identifier and this body.
-fn texts_of(alloc: Global, message: &Message, body: Body, id: &str) -> Result<Pieces, AllocError>
-    requires id { id.now ≡ task_text (number_of message.now.own) }
-    requires utf8 { IfSome body.shared (λ p. IsUtf8 (piece_text p)) }
+/// Writes the texts of a message with this number and this body.
+fn texts_of(
+    alloc: Global,
+    message: &Message,
+    body: Body,
+    task: TaskNo,
+) -> Result<Pieces, AllocError>
+    requires task { task ≡ number_of message.now.own }
+    requires utf8 { IsUtf8 (embed_text body.embed) }
     ensures properties { IfOk result
         (λ p. (joined p).properties ≡ compact_text (properties_wire message.now)) }
     ensures headers { IfOk result
         (λ p. (joined p).headers ≡ compact_text (headers_wire message.now)) }
-    ensures body { IfOk result (λ p. body_text p
-        ≡ string_bytes body.front ++ (shared_text body.shared ++ string_bytes body.back)) }
+    ensures body { IfOk result
+        (λ p. body_text p ≡ string_bytes body.front ++ embed_text body.embed) }
     ensures utf8 { IfOk result
         (λ p. IsUtf8 (joined p).properties × IsUtf8 (joined p).headers × IsUtf8 (body_text p)) }
 {
-    let Body {
-        front,
-        shared,
-        back,
-    } = body;
+    let Body { front, embed } = body;
     let front_end = front.len();
     let mut own = front;
-    put_properties(&mut own, id)?;
-    let properties_end = own.len();
-    put_headers(alloc, &mut own, message, id)?;
+    put_place_id(&mut own, &message.place)?;
+    let group_end = own.len();
+    put_task_id(&mut own, task)?;
+    let id_end = own.len();
+    put_parent_id(&mut own, message.parent)?;
+    let parent_end = own.len();
+    put_string(alloc, &mut own, message.name.get())?;
     Ok(Pieces {
         own: bytes_of(own),
         front_end,
-        properties_end,
-        shared,
-        back: bytes_of(back),
+        group_end,
+        id_end,
+        parent_end,
+        embed,
     })
 }
 
@@ -63,7 +70,7 @@ fn number(message: &Message) -> TaskNo
     message.task
 }
 
-/// Writes the three texts of a message, with a shared piece if there is one.
+/// Writes the texts of a message.
 pub(crate) fn pieces_of(alloc: Global, message: &Message) -> Result<Pieces, Memory>
     ensures properties { IfOk result
         (λ p. (joined p).properties ≡ compact_text (properties_wire message.now)) }
@@ -73,9 +80,8 @@ pub(crate) fn pieces_of(alloc: Global, message: &Message) -> Result<Pieces, Memo
     ensures reads_back { IfOk result
         (λ p. Says (joined p).properties (joined p).headers (body_text p) message.now) }
 {
-    let id = task_text(number(message));
     let body = body_of(alloc, message)?;
-    Ok(texts_of(alloc, message, body, ascii(&id))?)
+    Ok(texts_of(alloc, message, body, number(message))?)
 }
 
 /// Returns the number of the task of a message that is kept apart from the rest of its line.
@@ -86,7 +92,7 @@ fn number_followed(followed: &Followed) -> TaskNo
     followed.message.task
 }
 
-/// Writes the three texts of a message that is kept apart from the rest of its line; None if
+/// Writes the texts of a message that is kept apart from the rest of its line; None if
 /// nothing follows, or if the text of the rest isn't known.
 pub(crate) fn pieces_of_followed(
     alloc: Global,
@@ -103,8 +109,8 @@ pub(crate) fn pieces_of_followed(
 {
     match body_of_followed(alloc, followed)? {
         Some(body) => {
-            let id = task_text(number_followed(followed));
-            let pieces = texts_of(alloc, &followed.message, body, ascii(&id))?;
+            let task = number_followed(followed);
+            let pieces = texts_of(alloc, &followed.message, body, task)?;
             Ok(Some(pieces))
         }
         None => Ok(None),

@@ -5,7 +5,7 @@
 
 ghost use Rattle.std.specs.Prelude.{◌≡◌, IfOk, IfSome};
 ghost use Rattle.canvas_envelope.specs.EnvelopeFaults.{Says};
-ghost use Rattle.canvas_envelope.specs.Pieces.{joined};
+ghost use Rattle.canvas_envelope.specs.Pieces.{identifier, joined};
 
 use crate::kept::Kept;
 use crate::pieces::LetterTexts;
@@ -110,11 +110,11 @@ impl Letter {
         }
     }
 
-    /// Borrows the envelope's properties.
-    pub fn properties(&self) -> &[u8]
-        ensures { result.now ≡ self.now.properties }
+    /// Borrows the identifier that the envelope's properties name, in its quotes.
+    pub fn identifier(&self) -> &[u8]
+        ensures { result.now ≡ identifier self.now.properties }
     {
-        self.held.texts.properties()
+        self.held.texts.identifier()
     }
 
     /// Writes the envelope as three texts.

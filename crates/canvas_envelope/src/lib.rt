@@ -5,6 +5,7 @@
 mod carried;
 mod carried_text;
 mod draft;
+mod embed;
 mod envelope;
 mod fault;
 mod fits;
@@ -19,6 +20,7 @@ mod unplaced;
 pub use carried::share_carried;
 pub use carried_text::{CarriedText, Ring};
 pub use draft::Draft;
+pub use embed::Embed;
 pub use envelope::Envelope;
 pub use fault::MessageFault;
 pub use fits::{MOST_MEMBERS, following};

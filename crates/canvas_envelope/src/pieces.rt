@@ -1,10 +1,10 @@
-//! The three texts of a message. The body may share a piece with others.
+//! The texts of a message in a queue of one process, and the envelope that they make.
 
-ghost use Rattle.std.specs.Prelude.{◌≡◌, ◌++◌, IfOk, OnOk, take, drop};
-ghost use Rattle.canvas_envelope.specs.Pieces.{body_text, envelope_seen, joined, line_piece_text, piece_text, shared_text};
+ghost use Rattle.std.specs.Prelude.{◌≡◌, ◌++◌, ◌-◌, Some, IfOk, OnOk, take, drop};
+ghost use Rattle.canvas_envelope.specs.Pieces.{body_text, envelope_seen, following_text, identifier, joined, line_piece_text, own_between};
 ghost use Rattle.canvas_envelope.specs.SharedTexts.{head_text};
 
-use crate::{CarriedText, ElementsText, Envelope, Head};
+use crate::{CarriedText, ElementsText, Embed, Envelope, Head};
 use canvas_task::{ListOf, Memory};
 use std::alloc::{AllocError, Global};
 use std::sync::Arc;
@@ -27,21 +27,23 @@ pub enum Piece {
     Line(LinePiece),
 }
 
-/// An envelope whose body is the front, then the shared piece, then the back. As much as possible
-/// of the rest is in one text, and so in one allocation.
+/// An envelope of this process. Its own text has what differs from message to message, in one
+/// allocation; what is the same in each message is written with the envelope.
 #[derive(Drop)]
 pub struct Pieces {
-    /// The front of the body, then the properties, then the headers. If nothing is shared, the
-    /// front is the whole body.
+    /// The arguments, which are the front of the body; then as JSON what properties and headers
+    /// name: the group or chord, the task's identifier, its parent's, and the task's name.
     pub own: ListOf<u8>,
-    /// The end of the front, in bytes.
+    /// The end of the arguments, in bytes.
     pub front_end: usize,
-    /// The end of the properties.
-    pub properties_end: usize,
-    /// A text that several bodies share.
-    pub shared: Option<Piece>,
+    /// The end of the group or chord.
+    pub group_end: usize,
+    /// The end of the task's identifier.
+    pub id_end: usize,
+    /// The end of the parent's identifier.
+    pub parent_end: usize,
     /// The rest of the body.
-    pub back: ListOf<u8>,
+    pub embed: Embed,
 }
 
 /// Returns the bytes before an index.
@@ -58,12 +60,28 @@ fn behind(bytes: &[u8], start: usize) -> &[u8]
     &bytes[start.min(bytes.len())..]
 }
 
-fn copy_bytes(alloc: Global, bytes: &[u8]) -> Result<ListOf<u8>, AllocError>
-    ensures { IfOk result (λ copy. copy ≡ bytes.now) }
+/// Returns the bytes between two indices.
+fn between(bytes: &[u8], start: usize, end: usize) -> &[u8]
+    ensures { result.now ≡ take (end - start) (drop start bytes.now) }
 {
-    let mut copy = Vec::with_capacity(alloc, bytes.len())?;
-    copy.extend_from_slice(bytes)?;
-    Ok(ListOf::of(copy))
+    up_to(behind(bytes, start), end.saturating_sub(start))
+}
+
+fn put(text: &mut Vec<u8>, piece: &[u8]) -> Result<(), AllocError>
+    ensures { OnOk result (text.new.items ≡ text.old.items ++ piece.now) }
+{
+    text.extend_from_slice(piece)
+}
+
+/// The length of the properties of a message before the identifier of its task.
+const BEFORE_IDENTIFIER: usize = 79;
+
+/// Returns the identifier that properties name, in its quotes.
+fn identifier_in(properties: &[u8]) -> &[u8]
+    ensures { result.now ≡ identifier properties.now }
+{
+    let rest = behind(properties, BEFORE_IDENTIFIER);
+    up_to(rest, rest.len().saturating_sub(1))
 }
 
 fn put_head(body: &mut Vec<u8>, head: &Option<Head>) -> Result<(), AllocError>
@@ -86,7 +104,7 @@ fn head_room(head: &Option<Head>) -> usize {
 }
 
 impl LinePiece {
-    fn put(&self, body: &mut Vec<u8>) -> Result<(), AllocError>
+    pub(crate) fn put(&self, body: &mut Vec<u8>) -> Result<(), AllocError>
         ensures { OnOk result (body.new.items ≡ body.old.items ++ line_piece_text self.now) }
     {
         put_head(body, &self.text.head)?;
@@ -108,25 +126,16 @@ impl LinePiece {
 }
 
 impl Piece {
-    fn put(&self, body: &mut Vec<u8>) -> Result<(), AllocError>
-        ensures { OnOk result (body.new.items ≡ body.old.items ++ piece_text self.now) }
-    {
-        match self {
-            Piece::Carried(text) => text.put(body),
-            Piece::Line(piece) => piece.put(body),
-        }
-    }
-
     /// Returns its length in bytes.
-    fn room(&self) -> usize {
+    pub(crate) fn room(&self) -> usize {
         match self {
             Piece::Carried(text) => text.room(),
             Piece::Line(piece) => piece.room(),
         }
     }
 
-    fn copy(&self) -> Result<Piece, AllocError>
-        ensures { IfOk result (λ p. piece_text p ≡ piece_text self.now) }
+    pub(crate) fn copy(&self) -> Result<Piece, AllocError>
+        ensures { IfOk result (λ p. following_text (Some p) ≡ following_text (Some self.now)) }
     {
         match self {
             Piece::Carried(text) => Ok(Piece::Carried(Arc::try_clone(text)?)),
@@ -135,64 +144,70 @@ impl Piece {
     }
 }
 
-fn copy_piece(piece: &Option<Piece>) -> Result<Option<Piece>, AllocError>
-    ensures { IfOk result (λ p. shared_text p ≡ shared_text piece.now) }
-{
-    match piece {
-        Some(piece) => Ok(Some(piece.copy()?)),
-        None => Ok(None),
-    }
-}
-
-/// Returns the length of a piece in bytes.
-fn room(piece: &Option<Piece>) -> usize {
-    match piece {
-        Some(piece) => piece.room(),
-        None => 0,
-    }
-}
-
-fn put_piece(body: &mut Vec<u8>, piece: &Option<Piece>) -> Result<(), AllocError>
-    ensures { OnOk result (body.new.items ≡ body.old.items ++ shared_text piece.now) }
-{
-    match piece {
-        Some(piece) => piece.put(body),
-        None => Ok(()),
-    }
-}
+/// The room for what is the same in the properties or headers of each message.
+const SAME_ROOM: usize = 112;
 
 impl Pieces {
-    /// Returns the body as one text.
+    /// Borrows the task's identifier, in its quotes.
+    fn id(&self) -> &[u8]
+        ensures value { result.now ≡ own_between self.now.group_end self.now.id_end self.now }
+        ensures named { result.now ≡ identifier (joined self.now).properties }
+    {
+        between(self.own.get(), self.group_end, self.id_end)
+    }
+
+    fn properties(&self, alloc: Global) -> Result<Vec<u8>, AllocError>
+        ensures { IfOk result (λ text. text.items ≡ (joined self.now).properties) }
+    {
+        let id = self.id();
+        let mut text = Vec::with_capacity(alloc, SAME_ROOM.saturating_add(id.len()))?;
+        put(
+            &mut text,
+            b"{\"content_encoding\":\"utf-8\",\"content_type\":\"application/json\",",
+        )?;
+        put(&mut text, b"\"correlation_id\":")?;
+        put(&mut text, id)?;
+        put(&mut text, b"}")?;
+        Ok(text)
+    }
+
+    fn headers(&self, alloc: Global) -> Result<Vec<u8>, AllocError>
+        ensures { IfOk result (λ text. text.items ≡ (joined self.now).headers) }
+    {
+        let own = self.own.get();
+        let mut text = Vec::with_capacity(alloc, SAME_ROOM.saturating_add(own.len()))?;
+        put(&mut text, b"{\"group\":")?;
+        put(&mut text, between(own, self.front_end, self.group_end))?;
+        put(&mut text, b",\"id\":")?;
+        put(&mut text, between(own, self.group_end, self.id_end))?;
+        put(&mut text, b",\"lang\":\"rs\",\"parent_id\":")?;
+        put(&mut text, between(own, self.id_end, self.parent_end))?;
+        put(
+            &mut text,
+            b",\"root_id\":\"00000000-0000-8000-8000-000000000001\",\"task\":",
+        )?;
+        put(&mut text, behind(own, self.parent_end))?;
+        put(&mut text, b"}")?;
+        Ok(text)
+    }
+
     fn body(&self, alloc: Global) -> Result<Vec<u8>, AllocError>
         ensures { IfOk result (λ text. text.items ≡ body_text self.now) }
     {
         let front = up_to(self.own.get(), self.front_end);
-        let back = self.back.get();
-        let room = front
-            .len()
-            .saturating_add(room(&self.shared))
-            .saturating_add(back.len());
-        let mut body = Vec::with_capacity(alloc, room)?;
-        body.extend_from_slice(front)?;
-        put_piece(&mut body, &self.shared)?;
-        body.extend_from_slice(back)?;
-        Ok(body)
-    }
-
-    /// Borrows the properties.
-    fn properties(&self) -> &[u8]
-        ensures { result.now ≡ (joined self.now).properties }
-    {
-        let length = self.properties_end.saturating_sub(self.front_end);
-        up_to(behind(self.own.get(), self.front_end), length)
+        let room = front.len().saturating_add(self.embed.room());
+        let mut text = Vec::with_capacity(alloc, room)?;
+        put(&mut text, front)?;
+        self.embed.put(&mut text)?;
+        Ok(text)
     }
 
     /// Writes the envelope as three texts.
     pub fn join(&self, alloc: Global) -> Result<Envelope, Memory>
         ensures { IfOk result (λ e. e ≡ joined self.now) }
     {
-        let properties = copy_bytes(alloc, self.properties())?;
-        let headers = copy_bytes(alloc, behind(self.own.get(), self.properties_end))?;
+        let properties = ListOf::of(self.properties(alloc)?);
+        let headers = ListOf::of(self.headers(alloc)?);
         let body = ListOf::of(self.body(alloc)?);
         Ok(Envelope {
             properties,
@@ -201,19 +216,19 @@ impl Pieces {
         })
     }
 
-    /// Clones the envelope. The clone shares the piece.
+    /// Clones the envelope. The clone shares the text of what follows.
     fn copy(&self) -> Result<Pieces, Memory>
         ensures { IfOk result (λ p. joined p ≡ joined self.now) }
     {
         let own = self.own.clone()?;
-        let shared = copy_piece(&self.shared)?;
-        let back = self.back.clone()?;
+        let embed = self.embed.copy()?;
         Ok(Pieces {
             own,
             front_end: self.front_end,
-            properties_end: self.properties_end,
-            shared,
-            back,
+            group_end: self.group_end,
+            id_end: self.id_end,
+            parent_end: self.parent_end,
+            embed,
         })
     }
 }
@@ -223,7 +238,7 @@ impl Pieces {
 pub(crate) enum LetterTexts {
     /// An envelope from elsewhere: three texts.
     Whole(Envelope),
-    /// Texts of which one is shared.
+    /// Texts of which one may be shared.
     Pieced(Pieces),
 }
 
@@ -237,12 +252,12 @@ impl LetterTexts {
         }
     }
 
-    pub(crate) fn properties(&self) -> &[u8]
-        ensures { result.now ≡ (envelope_seen self.now).properties }
+    pub(crate) fn identifier(&self) -> &[u8]
+        ensures { result.now ≡ identifier (envelope_seen self.now).properties }
     {
         match self {
-            LetterTexts::Whole(envelope) => envelope.properties.get(),
-            LetterTexts::Pieced(pieces) => pieces.properties(),
+            LetterTexts::Whole(envelope) => identifier_in(envelope.properties.get()),
+            LetterTexts::Pieced(pieces) => pieces.id(),
         }
     }
 

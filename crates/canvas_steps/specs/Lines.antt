@@ -6,6 +6,7 @@ use Rattle.std.specs.Prelude.{ℕ, ◌-◌, if◌then◌else◌, Bool, List, [],
 use Rattle.canvas_task.specs.Identifiers.{task_text, group_text}
 use Rattle.canvas_task.specs.Text.{Text}
 use Rattle.canvas_semantics.specs.Line.{Line, size}
+use Rattle.canvas_envelope.specs.Pieces.{identifier}
 use Rattle.canvas_history.specs.declared.stored.Stored.{Stored}
 use Rattle.canvas_history.specs.declared.stored.Stored.TheVariants.{First, Again}
 use Rattle.canvas_report.specs.RowTexts.{shown_text}
@@ -16,10 +17,6 @@ use Rattle.canvas_by_turns.specs.declared.notes.Did.TheVariants as did
 use Rattle.canvas_by_turns.specs.declared.notes.Step.{Step}
 
 -- ---- parts of a line
-
--- The identifier that the properties of a message name, in its quotes: it is the last of them.
-abbrev pub identifier : Text → Text
-identifier properties = take (length (drop 79 properties) - 1) (drop 79 properties)
 
 abbrev pub ask_text : Text → Text
 ask_text ask = codes "{\"ask\":\"" ++ ask ++ codes "\""

@@ -1,41 +1,16 @@
 //! The parts of a step's line.
 
-ghost use Rattle.std.specs.Prelude.{◌≡◌, ◌++◌, OnOk, take, drop, decimal};
-ghost use Rattle.canvas_steps.specs.Lines.{ask_text, group_member, identifier, more_text, named_text, stored_text, task_member};
+ghost use Rattle.std.specs.Prelude.{◌≡◌, ◌++◌, OnOk, decimal};
+ghost use Rattle.canvas_steps.specs.Lines.{ask_text, group_member, more_text, named_text, stored_text, task_member};
 
 use canvas_backend::Stored;
 use canvas_task::{GroupNo, TaskNo, group_text, task_text};
 use std::alloc::{AllocError, Global};
 
-/// The length of a message's properties before the identifier of its task.
-const BEFORE_IDENTIFIER: usize = 79;
-
 pub(crate) fn put(text: &mut Vec<u8>, piece: &[u8]) -> Result<(), AllocError>
     ensures { OnOk result (text.new.items ≡ text.old.items ++ piece.now) }
 {
     text.extend_from_slice(piece)
-}
-
-/// Returns the bytes before an index.
-fn up_to(bytes: &[u8], end: usize) -> &[u8]
-    ensures { result.now ≡ take end bytes.now }
-{
-    &bytes[..end.min(bytes.len())]
-}
-
-/// Returns the bytes from an index on.
-fn from(bytes: &[u8], start: usize) -> &[u8]
-    ensures { result.now ≡ drop start bytes.now }
-{
-    &bytes[start.min(bytes.len())..]
-}
-
-/// Returns the identifier that the properties of a message name, in its quotes.
-pub(crate) fn identifier(properties: &[u8]) -> &[u8]
-    ensures { result.now ≡ identifier properties.now }
-{
-    let rest = from(properties, BEFORE_IDENTIFIER);
-    up_to(rest, rest.len().saturating_sub(1))
 }
 
 /// Appends the beginning of a line, up to the ask.

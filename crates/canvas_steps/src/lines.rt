@@ -6,8 +6,7 @@ ghost use Rattle.canvas_report.specs.StoredRows.{row_of};
 ghost use Rattle.canvas_steps.specs.Lines.{ask_text, did_text, held_after, held_by, letter_text, none_held, part_text, steps_text, task_member, worker_text};
 
 use crate::line::{
-    identifier, more_member, put, put_ask, put_group, put_named, put_number, put_task,
-    stored_member,
+    more_member, put, put_ask, put_group, put_named, put_number, put_task, stored_member,
 };
 use canvas_by_turns::{Did, Step};
 use canvas_report::{Row, shown_members};
@@ -84,11 +83,9 @@ fn put_did(
 {
     match did {
         Did::Took(None) => put_letter(text, b"take", NONE)?,
-        Did::Took(Some(letter)) => put_letter(text, b"take", identifier(letter.properties()))?,
-        Did::Published(letter) => put_letter(text, b"publish", identifier(letter.properties()))?,
-        Did::Redelivered(letter) => {
-            put_letter(text, b"redeliver", identifier(letter.properties()))?
-        }
+        Did::Took(Some(letter)) => put_letter(text, b"take", letter.identifier())?,
+        Did::Published(letter) => put_letter(text, b"publish", letter.identifier())?,
+        Did::Redelivered(letter) => { put_letter(text, b"redeliver", letter.identifier())? }
         Did::Stored(task, _outcome, stored) => {
             put_store(text, alloc, rows, *task, stored_member(*stored))?
         }
@@ -142,9 +139,7 @@ fn hold<'a>(held: &mut [&'a [u8]], step: &'a Step)
         ≡ held_after (map (λ h. h.now) held.old) step.now.worker step.now.did }
 {
     match &step.did {
-        Did::Took(Some(letter)) => {
-            put_held(held, step.worker as usize, identifier(letter.properties()))
-        }
+        Did::Took(Some(letter)) => { put_held(held, step.worker as usize, letter.identifier()) }
         _ => {}
     }
 }

@@ -12,12 +12,14 @@ use Rattle.serde_json.specs.Written.{compact_text, items_text, number_text}
 use Rattle.uuid.specs.Text.{by_index, hex_digit, nibble, digit_place, is_hyphen_place, hyphen, lower, hyphenated_text}
 use Rattle.uuid.proofs.TextLemmas.{nibble_small}
 use Rattle.canvas_task.specs.Identifiers.{identifier, task_mark, group_mark, task_text, group_text}
-use Rattle.canvas_envelope.specs.Wire.{frozen_wire, task_id, group_id, place_id}
-use Rattle.canvas_envelope.specs.MessageView.{place_view, place_seen}
+use Rattle.canvas_envelope.specs.declared.embed.Embed.{Embed}
+use Rattle.canvas_envelope.specs.Pieces.{embed_text, following_text, list_text}
+use Rattle.canvas_envelope.specs.Wire.{frozen_wire, group_id, place_id}
+use Rattle.canvas_envelope.specs.MessageView.{place_view}
 use Rattle.canvas_envelope.proofs.Seen.{group_place, chord_place}
 use Rattle.canvas_rewrite.specs.declared.frozen.Place.{Place, out-Place}
 use Rattle.canvas_rewrite.specs.declared.frozen.Carried.{Carried}
-use Rattle.canvas_writing.specs.steps.Texts.{Adds, properties_naming, headers_naming, front_text, origin_text, name_text, size_text, flag_text, call_text, own_text, embed_of, opening_text, behind_text}
+use Rattle.canvas_writing.specs.steps.Texts.{Adds, name_text, size_text, flag_text, call_text, own_text, args_text, embed_of, onward_text}
 
 -- ---- one piece after the other
 
@@ -85,61 +87,14 @@ abbrev quote : List ℕ
 quote = 34 ∷ []
 
 -- the group or chord of a place
-placed : (p : Place) (o : Option Carried) → (out-Place p).chord ≡ o → place_id (place_view p) ≡ group_id (out-Place p).group
-placed p None e = ap place_id (group_place p e)
-placed p (Some c) e = ap place_id (chord_place p c e)
-
-pub front_written : (p : Place) (o : Option Place) → o ≡ Some p → (codes "{\"group\":\"" ++ group_text (out-Place p).group) ++ codes "\",\"id\":\"" ≡ front_text (place_id (place_seen o))
-unfolding serde_json_on_literals
-front_written p o is =
-    between (codes "{\"group\":") (group_text (out-Place p).group) (codes ",\"id\":\"")
-    ∙ ap (λ x. codes "{\"group\":" ++ ((quote ++ (x ++ quote)) ++ codes ",\"id\":\"")) (sym (group_plain (out-Place p).group))
-    ∙ ap front_text (sym (placed p (out-Place p).chord refl)) ∙ ap (λ q. front_text (place_id (place_seen q))) (sym is)
+pub placed : (p : Place) → place_id (place_view p) ≡ group_id (out-Place p).group
+placed p = by_chord p (out-Place p).chord refl
   where
-    between : (o i s : List ℕ) → ((o ++ quote) ++ i) ++ (quote ++ s) ≡ o ++ ((quote ++ (i ++ quote)) ++ s)
-    between o i s = simp append_assoc
-
-pub origin_written : (k : ℕ)
-    → (codes "\",\"lang\":\"rs\",\"parent_id\":\"" ++ task_text k) ++ codes "\",\"root_id\":\"00000000-0000-8000-8000-000000000001\",\"task\":" ≡ origin_text (task_id k)
-unfolding serde_json_on_literals
-origin_written k =
-    between (codes "\",\"lang\":\"rs\",\"parent_id\":") (task_text k) (codes ",\"root_id\":\"00000000-0000-8000-8000-000000000001\",\"task\":")
-    ∙ ap (λ x. codes "\",\"lang\":\"rs\",\"parent_id\":" ++ ((quote ++ (x ++ quote)) ++ codes ",\"root_id\":\"00000000-0000-8000-8000-000000000001\",\"task\":")) (sym (task_plain k))
-  where
-    between : (o i s : List ℕ) → ((o ++ quote) ++ i) ++ (quote ++ s) ≡ o ++ ((quote ++ (i ++ quote)) ++ s)
-    between o i s = simp append_assoc
+    by_chord : (p : Place) (o : Option Carried) → (out-Place p).chord ≡ o → place_id (place_view p) ≡ group_id (out-Place p).group
+    by_chord p None e = ap place_id (group_place p e)
+    by_chord p (Some c) e = ap place_id (chord_place p c e)
 
 -- ---- whole texts
-
-pub properties_written : (i : List ℕ) → escape i ≡ i
-    → (codes "{\"content_encoding\":\"utf-8\",\"content_type\":\"application/json\",\"correlation_id\":\"" ++ i) ++ codes "\"}" ≡ compact_text (properties_naming (string i))
-unfolding serde_json_on_literals
-properties_written i plain =
-    between (codes "{\"content_encoding\":\"utf-8\",\"content_type\":\"application/json\",\"correlation_id\":") i (codes "}")
-    ∙ ap (λ x. codes "{\"content_encoding\":\"utf-8\",\"content_type\":\"application/json\",\"correlation_id\":" ++ ((quote ++ (x ++ quote)) ++ codes "}")) (sym plain)
-  where
-    between : (o i s : List ℕ) → ((o ++ quote) ++ i) ++ (quote ++ s) ≡ o ++ ((quote ++ (i ++ quote)) ++ s)
-    between o i s = simp append_assoc
-
-root_known : compact_text (task_id 1) ≡ codes "\"00000000-0000-8000-8000-000000000001\""
-unfolding serde_json_on_literals by_index
-root_known = refl
-
-head : (o g s q i l p r t u n e : List ℕ)
-    → (((o ++ (g ++ (s ++ q))) ++ i) ++ ((q ++ l) ++ (p ++ (r ++ (t ++ u))))) ++ (n ++ e) ≡ o
-    ++ (g ++ (s ++ ((q ++ (i ++ q)) ++ (l ++ (p ++ (r ++ (t ++ (u ++ (n ++ e)))))))))
-head o g s q i l p r t u n e = simp append_assoc
-
-pub headers_written : (group parent : Data) (i name : List ℕ) → escape i ≡ i
-    → ((front_text group ++ i) ++ origin_text parent) ++ name_text name ≡ compact_text (headers_naming group (string i) parent name)
-unfolding serde_json_on_literals
-headers_written group parent i name plain =
-    let text : List ℕ → List ℕ → List ℕ = λ x t.
-    codes "{\"group\":" ++ (compact_text group ++ (codes ",\"id\":" ++ ((quote ++ (x ++ quote)) ++ (codes ",\"lang\":\"rs\",\"parent_id\":" ++ (compact_text parent ++ (codes ",\"root_id\":"
-    ++ (t ++ (codes ",\"task\":" ++ (compact_text (string name) ++ codes "}"))))))))) in
-    head (codes "{\"group\":") (compact_text group) (codes ",\"id\":") quote i (codes ",\"lang\":\"rs\",\"parent_id\":") (compact_text parent) (codes ",\"root_id\":")
-    (codes "\"00000000-0000-8000-8000-000000000001\"") (codes ",\"task\":") (compact_text (string name)) (codes "}")
-    ∙ ap (λ x. text x (codes "\"00000000-0000-8000-8000-000000000001\"")) (sym plain) ∙ ap (text (escape i)) (sym root_known)
 
 call : (o a s d f k p q i b t n e : List ℕ)
     → (((o ++ (a ++ (s ++ d))) ++ (f ++ k)) ++ ((p ++ q) ++ (i ++ (q ++ (b ++ t))))) ++ (n ++ e) ≡ o
@@ -164,15 +119,21 @@ unfolding serde_json_on_literals
 task_written size args true kwargs i name plain = call_written size args (flag_text true) kwargs i name plain
 task_written size args false kwargs i name plain = call_written size args (flag_text false) kwargs i name plain
 
-body : (o a s k p b h n d c e r y z : List ℕ)
-    → ((o ++ (a ++ (s ++ k))) ++ (p ++ b)) ++ (h ++ (n ++ (d ++ (c ++ (e ++ (r ++ (y ++ z)))))))
-    ≡ o ++ (a ++ (s ++ (k ++ ((p ++ (b ++ (h ++ (n ++ (d ++ (c ++ (e ++ (r ++ y)))))))) ++ z))))
-body o a s k p b h n d c e r y z = simp append_assoc
+end : (o a s k p b m h n d c e r y z : List ℕ)
+    → (o ++ (a ++ (s ++ k))) ++ (p ++ (b ++ (m ++ ((h ++ (n ++ (d ++ c))) ++ (e ++ (r ++ (y ++ z)))))))
+    ≡ o ++ (a ++ (s ++ (k ++ ((p ++ (b ++ ((m ++ h) ++ (n ++ (d ++ (c ++ (e ++ (r ++ y)))))))) ++ z))))
+end o a s k p b m h n d c e r y z = simp append_assoc
 
-pub body_written : (args : Items) (kwargs : Members) (callbacks chain chord errbacks : Data)
-    → opening_text args kwargs callbacks ++ behind_text chain chord errbacks
+-- a body by its arguments and its end
+pub embed_written : (args : Items) (kwargs : Members) (callbacks chain chord errbacks : Data) (e : Embed) → list_text e.links ≡ compact_text callbacks
+    → following_text e.following ≡ onward_text chain chord → list_text e.errbacks ≡ compact_text errbacks
+    → args_text args kwargs ++ embed_text e
     ≡ compact_text (array (item (array args) (item (object kwargs) (item (embed_of callbacks chain chord errbacks) no_items))))
 unfolding serde_json_on_literals
-body_written args kwargs callbacks chain chord errbacks =
-    body (codes "[[") (items_text false args) (codes ",") (compact_text (object kwargs)) (codes ",{\"callbacks\":") (compact_text callbacks)
-    (codes ",\"chain\":") (compact_text chain) (codes ",\"chord\":") (compact_text chord) (codes ",\"errbacks\":") (compact_text errbacks) (codes "}") (codes "]")
+embed_written args kwargs callbacks chain chord errbacks e links following errs =
+    let text : List ℕ → List ℕ → List ℕ → List ℕ = λ l f r.
+    args_text args kwargs ++ (codes ",{\"callbacks\":" ++ (l ++ (codes "," ++ (f ++ (codes ",\"errbacks\":" ++ (r ++ codes "}]")))))) in
+    ap (λ l. text l (following_text e.following) (list_text e.errbacks)) links ∙ ap (λ f. text (compact_text callbacks) f (list_text e.errbacks)) following
+    ∙ ap (text (compact_text callbacks) (onward_text chain chord)) errs
+    ∙ end (codes "[[") (items_text false args) (codes ",") (compact_text (object kwargs)) (codes ",{\"callbacks\":") (compact_text callbacks) (codes ",")
+    (codes "\"chain\":") (compact_text chain) (codes ",\"chord\":") (compact_text chord) (codes ",\"errbacks\":") (compact_text errbacks) (codes "}") (codes "]")

@@ -1,48 +1,41 @@
-//! The body of a message: its own text, and a piece that it shares with other messages.
+//! The body of a message: its own text, and its end, which shares texts with other messages.
 
-ghost use Rattle.std.specs.Prelude.{◌≡◌, ◌++◌, true, false, IfOk, IfSome, MatchOption, None, Some, map, string_bytes};
+ghost use Rattle.std.specs.Prelude.{◌≡◌, ◌++◌, false, true, IfOk, IfSome, MatchOption, map, string_bytes};
 ghost use Rattle.std.specs.Str.{IsUtf8};
-ghost use Rattle.serde_json.specs.Data.{Items, Data, array, null};
+ghost use Rattle.serde_json.specs.Data.{null};
+ghost use Rattle.serde_json.specs.Data.{array};
 ghost use Rattle.serde_json.specs.Written.{compact_text};
-ghost use Rattle.canvas_task.specs.Entries.{named};
-ghost use Rattle.canvas_wire.specs.Writing.{args_wire, kwargs_wire};
 ghost use Rattle.canvas_rewrite.specs.FrozenView.{p_tasks_of, p_task_view, p_line_view};
 ghost use Rattle.canvas_semantics.specs.PlacedLine.{PLine};
-ghost use Rattle.canvas_envelope.specs.Content.{end_place};
+ghost use Rattle.canvas_envelope.specs.Content.{end_place, place_of};
 ghost use Rattle.canvas_envelope.specs.Fits.{fits};
 ghost use Rattle.canvas_envelope.specs.steps.Lines.{followed_by};
 ghost use Rattle.canvas_envelope.specs.steps.Parts.{is_stop};
 ghost use Rattle.canvas_envelope.specs.MessageView.{place_seen, place_view};
-ghost use Rattle.canvas_envelope.specs.Pieces.{piece_text, shared_text};
+ghost use Rattle.canvas_envelope.specs.Pieces.{embed_text, following_text, line_piece_text, list_text};
 ghost use Rattle.canvas_envelope.specs.SharedTexts.{IsLineText, IsListed, SaysCarried, backwards, carried_bytes};
 ghost use Rattle.canvas_envelope.specs.Wire.{carried_wire, tasks_wire, list_or_null, body_wire};
-ghost use Rattle.canvas_writing.specs.steps.Texts.{Adds, opening_text, behind_text, closing_text};
+ghost use Rattle.canvas_writing.specs.steps.Texts.{onward_text};
 
 use crate::carried::body_text;
 use crate::frozen::write_tasks;
 use crate::light::put_arguments;
 use crate::line::line_text;
 use crate::room::{own_room, tasks_room};
-use crate::text::put;
 use canvas_envelope::{
-    CarriedText, Followed, LinePiece, LineText, Message, Piece, Texts, following,
+    CarriedText, Embed, Followed, LinePiece, LineText, Message, Piece, Texts, following,
 };
 use canvas_rewrite::{FrozenLine, FrozenTask, Place};
-use canvas_task::Arg;
+use canvas_task::ListOf;
 use json::Writer;
 use std::alloc::{AllocError, Global};
-use std::collections::BTreeMap;
 use std::sync::Arc;
 
-/// The room for the part after a shared piece, without error callbacks.
-const BACK_ROOM: usize = 40;
-
-/// A body: the front, then the shared piece, then the back.
+/// A body: the arguments, and its end.
 #[derive(Drop)]
 pub struct Body {
     pub front: String,
-    pub shared: Option<Piece>,
-    pub back: String,
+    pub embed: Embed,
 }
 
 /// Returns the text of a list of tasks.
@@ -56,77 +49,51 @@ fn tasks_text(alloc: Global, tasks: &[FrozenTask]) -> Result<String, AllocError>
     Ok(String::from_utf8(out.into_inner()).unwrap())
 }
 
-/// Appends links or error callbacks, or null if there are none.
-fn put_tasks(alloc: Global, out: &mut String, tasks: &[FrozenTask]) -> Result<(), AllocError>
-    ensures { Adds result (string_bytes out.old) (string_bytes out.new)
-        (compact_text (list_or_null (tasks_wire (p_tasks_of (map p_task_view tasks.now))))) }
+/// Returns the list of links or of error callbacks, if there are any.
+fn list_of(alloc: Global, tasks: &[FrozenTask]) -> Result<Option<ListOf<u8>>, AllocError>
+    ensures value { IfOk result (λ o. list_text o
+        ≡ compact_text (list_or_null (tasks_wire (p_tasks_of (map p_task_view tasks.now))))) }
+    ensures utf8 { IfOk result (λ o. IsUtf8 (list_text o)) }
 {
     if tasks.is_empty() {
-        put(out, "null")
-    } else {
-        put(out, &tasks_text(alloc, tasks)?)
+        return Ok(None);
     }
-}
-
-/// Appends the arguments and the links.
-fn put_opening(
-    alloc: Global,
-    out: &mut String,
-    args: &[Arg],
-    kwargs: &BTreeMap<String, Arg>,
-    links: &[FrozenTask],
-) -> Result<(), AllocError>
-    ensures { Adds result (string_bytes out.old) (string_bytes out.new)
-        (opening_text (args_wire args.now) (kwargs_wire (named kwargs.now.entries))
-        (list_or_null (tasks_wire (p_tasks_of (map p_task_view links.now))))) }
-{
-    put_arguments(alloc, out, args, kwargs)?;
-    put(out, ",{\"callbacks\":")?;
-    put_tasks(alloc, out, links)
-}
-
-/// Appends the error callbacks, which come last.
-fn put_closing(alloc: Global, out: &mut String, errbacks: &[FrozenTask]) -> Result<(), AllocError>
-    ensures { Adds result (string_bytes out.old) (string_bytes out.new)
-        (closing_text (list_or_null (tasks_wire (p_tasks_of (map p_task_view errbacks.now))))) }
-{
-    put(out, ",\"errbacks\":")?;
-    put_tasks(alloc, out, errbacks)?;
-    put(out, "}]")
+    let text = tasks_text(alloc, tasks)?;
+    Ok(Some(ListOf::of(text.into_bytes())))
 }
 
 /// Returns the text of the rest of a line, without its brackets. A text that the message holds is
 /// shared without a comparison: the invariant of `Message` says that it is the right one.
-fn rest_piece(alloc: Global, texts: &Texts, rest: &FrozenLine) -> Result<Piece, AllocError>
+fn rest_piece(alloc: Global, texts: &Texts, rest: &FrozenLine) -> Result<LinePiece, AllocError>
     requires line { IfSome texts.now.line (λ t. IsLineText t (p_line_view rest.now)) }
     requires carried { IfSome texts.now.carried
         (λ t. SaysCarried t.value (end_place (p_line_view rest.now))) }
     ensures value { IfOk result
-        (λ p. IsListed (piece_text p) (backwards (p_line_view rest.now))) }
-    ensures utf8 { IfOk result (λ p. IsUtf8 (piece_text p)) }
+        (λ p. IsListed (line_piece_text p) (backwards (p_line_view rest.now))) }
+    ensures utf8 { IfOk result (λ p. IsUtf8 (line_piece_text p)) }
 {
     if let Some(known) = &texts.line {
         if let Some((end, _before)) = known.ends.split_last() {
             let text = Arc::try_clone(&known.text)?;
-            return Ok(Piece::Line(LinePiece { text, end: *end }));
+            return Ok(LinePiece { text, end: *end });
         }
     }
     let LineText { text, .. } = line_text(alloc, rest, &texts.carried)?;
     let end = text.own.len();
-    Ok(Piece::Line(LinePiece { text, end }))
+    Ok(LinePiece { text, end })
 }
 
 /// Returns the known text of the rest of a line, without its brackets.
-fn known_piece(known: &LineText) -> Result<Option<Piece>, AllocError>
+fn known_piece(known: &LineText) -> Result<Option<LinePiece>, AllocError>
     ensures value { IfOk result (λ o. IfSome o (λ p. (l : PLine) → IsLineText known.now l
-        → IsListed (piece_text p) (backwards l))) }
+        → IsListed (line_piece_text p) (backwards l))) }
     ensures utf8 { IfOk result (λ o. IfSome o (λ p. (l : PLine) → IsLineText known.now l
-        → IsUtf8 (piece_text p))) }
+        → IsUtf8 (line_piece_text p))) }
 {
     match known.ends.split_last() {
         Some((end, _before)) => {
             let text = Arc::try_clone(&known.text)?;
-            Ok(Some(Piece::Line(LinePiece { text, end: *end })))
+            Ok(Some(LinePiece { text, end: *end }))
         }
         None => Ok(None),
     }
@@ -157,7 +124,7 @@ fn text_of(
     }
 }
 
-/// Returns the text of the body that a place carries as a piece of a message's body.
+/// Returns the text of the body that a place carries, as what follows.
 #[tactic(auto, using(crate::proofs::PieceTexts::carried_utf8))]
 fn carried_piece(
     alloc: Global,
@@ -165,9 +132,9 @@ fn carried_piece(
     known: &Option<Arc<CarriedText>>,
 ) -> Result<Option<Piece>, AllocError>
     requires { IfSome known.now (λ t. SaysCarried t.value (place_seen place.now)) }
-    ensures value { IfOk result (λ o. MatchOption o (carried_wire (place_seen place.now) ≡ null)
-        (λ p. piece_text p ≡ compact_text (carried_wire (place_seen place.now)))) }
-    ensures utf8 { IfOk result (λ o. IfSome o (λ p. IsUtf8 (piece_text p))) }
+    ensures value { IfOk result
+        (λ o. following_text o ≡ onward_text null (carried_wire (place_seen place.now))) }
+    ensures utf8 { IfOk result (λ o. IsUtf8 (following_text o)) }
 {
     match place {
         Some(place) => match text_of(alloc, place, known)? {
@@ -178,138 +145,74 @@ fn carried_piece(
     }
 }
 
-/// Makes the body of a message that others follow on its line.
-fn followed(
-    alloc: Global,
-    front: String,
-    piece: Piece,
-    errbacks: &[FrozenTask],
-) -> Result<Body, AllocError>
-    ensures value { IfOk result (λ b. (ds : Items) → IsListed (piece_text piece) ds
-        → string_bytes b.front ++ (shared_text b.shared ++ string_bytes b.back)
-        ≡ string_bytes front ++ behind_text (array ds) null
-        (list_or_null (tasks_wire (p_tasks_of (map p_task_view errbacks.now))))) }
-    ensures shared { IfOk result (λ b. b.shared ≡ Some piece) }
+/// Returns the text of what follows a message: of the rest of its line, or else of the body that
+/// its place carries.
+fn following_piece(alloc: Global, message: &Message) -> Result<Option<Piece>, AllocError>
+    ensures value { IfOk result (λ o. following_text o
+        ≡ onward_text (list_or_null (backwards message.now.rest))
+        (carried_wire (place_of message.now.own))) }
+    ensures utf8 { IfOk result (λ o. IsUtf8 (following_text o)) }
 {
-    let mut front = front;
-    put(&mut front, ",\"chain\":[")?;
-    let mut back = String::with_capacity(alloc, BACK_ROOM)?;
-    put(&mut back, "],\"chord\":null")?;
-    put_closing(alloc, &mut back, errbacks)?;
-    Ok(Body {
-        front,
-        shared: Some(piece),
-        back,
-    })
+    match following(&message.rest) {
+        Some(rest) => {
+            let piece = rest_piece(alloc, &message.texts, rest)?;
+            Ok(Some(Piece::Line(piece)))
+        }
+        None => carried_piece(alloc, &message.place, &message.texts.carried),
+    }
 }
 
-/// Makes the body of a message whose place carries a body.
-fn carrying(
-    alloc: Global,
-    front: String,
-    piece: Piece,
-    errbacks: &[FrozenTask],
-) -> Result<Body, AllocError>
-    ensures value { IfOk result (λ b. (d : Data) → piece_text piece ≡ compact_text d
-        → string_bytes b.front ++ (shared_text b.shared ++ string_bytes b.back)
-        ≡ string_bytes front ++ behind_text null d
-        (list_or_null (tasks_wire (p_tasks_of (map p_task_view errbacks.now))))) }
-    ensures shared { IfOk result (λ b. b.shared ≡ Some piece) }
+/// Makes the body of a message, with the text of what follows it.
+fn body_with(alloc: Global, message: &Message, following: Option<Piece>) -> Result<Body, AllocError>
+    requires { IsUtf8 (following_text following) }
+    ensures value { IfOk result (λ b. (rest : PLine) → following_text following
+        ≡ onward_text (list_or_null (backwards rest)) (carried_wire (place_of message.now.own))
+        → string_bytes b.front ++ embed_text b.embed
+        ≡ compact_text (body_wire (followed_by message.now rest))) }
+    ensures utf8 { IfOk result (λ b. IsUtf8 (embed_text b.embed)) }
 {
-    let mut front = front;
-    put(&mut front, ",\"chain\":null,\"chord\":")?;
-    let mut back = String::with_capacity(alloc, BACK_ROOM)?;
-    put_closing(alloc, &mut back, errbacks)?;
-    Ok(Body {
-        front,
-        shared: Some(piece),
-        back,
-    })
-}
-
-/// Makes the body of a message that nothing follows.
-fn alone(alloc: Global, front: String, errbacks: &[FrozenTask]) -> Result<Body, AllocError>
-    ensures value { IfOk result (λ b.
-        string_bytes b.front ++ (shared_text b.shared ++ string_bytes b.back)
-        ≡ string_bytes front ++ behind_text null null
-        (list_or_null (tasks_wire (p_tasks_of (map p_task_view errbacks.now))))) }
-    ensures shared { IfOk result (λ b. b.shared ≡ None) }
-{
-    let mut front = front;
-    put(&mut front, ",\"chain\":null,\"chord\":null")?;
-    put_closing(alloc, &mut front, errbacks)?;
-    Ok(Body {
-        front,
-        shared: None,
-        back: String::new(alloc),
-    })
+    let mut front = String::with_capacity(alloc, own_room(message))?;
+    put_arguments(alloc, &mut front, message.args.get(), message.kwargs.get())?;
+    let links = list_of(alloc, message.links.get())?;
+    let errbacks = list_of(alloc, message.errbacks.get())?;
+    let embed = Embed {
+        links,
+        following,
+        errbacks,
+    };
+    Ok(Body { front, embed })
 }
 
 /// Makes the body of a message. It shares the texts of the rest of the line and of the carried body
 /// that the message holds.
 pub fn body_of(alloc: Global, message: &Message) -> Result<Body, AllocError>
-    ensures value { IfOk result (λ b.
-        string_bytes b.front ++ (shared_text b.shared ++ string_bytes b.back)
+    ensures value { IfOk result (λ b. string_bytes b.front ++ embed_text b.embed
         ≡ compact_text (body_wire message.now)) }
-    ensures utf8 { IfOk result (λ b. IfSome b.shared (λ p. IsUtf8 (piece_text p))) }
+    ensures utf8 { IfOk result (λ b. IsUtf8 (embed_text b.embed)) }
 {
-    let errbacks = message.errbacks.get();
-    let mut front = String::with_capacity(alloc, own_room(message))?;
-    put_opening(
-        alloc,
-        &mut front,
-        message.args.get(),
-        message.kwargs.get(),
-        message.links.get(),
-    )?;
-    match following(&message.rest) {
-        Some(rest) => {
-            let piece = rest_piece(alloc, &message.texts, rest)?;
-            followed(alloc, front, piece, errbacks)
-        }
-        None => match carried_piece(alloc, &message.place, &message.texts.carried)? {
-            Some(piece) => carrying(alloc, front, piece, errbacks),
-            None => alone(alloc, front, errbacks),
-        },
-    }
-}
-
-/// Makes the body of a message that others follow, before the text of the rest of its line.
-fn body_before(alloc: Global, message: &Message, piece: Piece) -> Result<Body, AllocError>
-    ensures value { IfOk result (λ b. (rest : PLine) → fits (followed_by message.now rest) ≡ true
-        → is_stop rest ≡ false → IsListed (piece_text piece) (backwards rest)
-        → string_bytes b.front ++ (shared_text b.shared ++ string_bytes b.back)
-        ≡ compact_text (body_wire (followed_by message.now rest))) }
-    ensures shared { IfOk result (λ b. b.shared ≡ Some piece) }
-{
-    let mut front = String::with_capacity(alloc, own_room(message))?;
-    put_opening(
-        alloc,
-        &mut front,
-        message.args.get(),
-        message.kwargs.get(),
-        message.links.get(),
-    )?;
-    followed(alloc, front, piece, message.errbacks.get())
+    let following = following_piece(alloc, message)?;
+    body_with(alloc, message, following)
 }
 
 /// Makes the body of a message that is kept apart from the rest of its line; None if nothing
 /// follows, or if the text of the rest isn't known.
 pub fn body_of_followed(alloc: Global, followed: &Followed) -> Result<Option<Body>, AllocError>
-    ensures value { IfOk result (λ o. IfSome o (λ b.
-        string_bytes b.front ++ (shared_text b.shared ++ string_bytes b.back)
+    ensures value { IfOk result (λ o. IfSome o (λ b. string_bytes b.front ++ embed_text b.embed
         ≡ compact_text (body_wire followed.now))) }
-    ensures utf8 { IfOk result
-        (λ o. IfSome o (λ b. IfSome b.shared (λ p. IsUtf8 (piece_text p)))) }
+    ensures utf8 { IfOk result (λ o. IfSome o (λ b. IsUtf8 (embed_text b.embed))) }
 {
     if !followed.goes_on() {
         return Ok(None);
     }
-    match &followed.texts.line {
-        Some(known) => match known_piece(known)? {
-            Some(piece) => Ok(Some(body_before(alloc, &followed.message, piece)?)),
-            None => Ok(None),
-        },
+    let piece = match &followed.texts.line {
+        Some(known) => known_piece(known)?,
+        None => return Ok(None),
+    };
+    match piece {
+        Some(piece) => {
+            let body = body_with(alloc, &followed.message, Some(Piece::Line(piece)))?;
+            Ok(Some(body))
+        }
         None => Ok(None),
     }
 }

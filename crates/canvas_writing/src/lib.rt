@@ -15,7 +15,7 @@ mod text;
 
 pub use body::{Body, body_of, body_of_followed};
 pub use carried::carried_text;
-pub use light::{put_headers, put_properties};
+pub use light::{put_parent_id, put_place_id, put_task_id};
 pub use line::line_text;
 pub use numbered::numbered_text;
-pub use text::ascii;
+pub use text::{ascii, put_string};

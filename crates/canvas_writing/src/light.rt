@@ -1,11 +1,9 @@
-//! Properties, headers, arguments, and carried tasks without callbacks and place, written by known
-//! pieces: constant bytes with identifiers, arguments and a name between them. This takes fewer
-//! steps than tokens, which are each checked for characters to escape. A name or text with such
-//! characters is written by the writer of tokens.
+//! Identifiers, arguments, and carried tasks without callbacks and place, written by known pieces:
+//! constant bytes with identifiers, arguments and a name between them. This takes fewer steps than
+//! tokens, which are each checked for characters to escape. A name or text with such characters is
+//! written by the writer of tokens.
 
 ghost use Rattle.std.specs.Prelude.{◌≡◌, true, Some, IfSome, string_bytes};
-ghost use Rattle.json.specs.Print.{escape};
-ghost use Rattle.serde_json.specs.Data.{string};
 ghost use Rattle.serde_json.specs.Written.{compact_text};
 ghost use Rattle.canvas_task.specs.Identifiers.{task_text};
 ghost use Rattle.canvas_wire.specs.Writing.{args_wire, kwargs_wire};
@@ -13,75 +11,52 @@ ghost use Rattle.canvas_task.specs.Entries.{named};
 ghost use Rattle.canvas_semantics.specs.PlacedLine.{p_step, p_stop};
 ghost use Rattle.canvas_rewrite.specs.declared.frozen.FrozenTask.{out-FrozenTask};
 ghost use Rattle.canvas_rewrite.specs.FrozenView.{p_task_view, p_line_view};
-ghost use Rattle.canvas_envelope.specs.Content.{number_of};
 ghost use Rattle.canvas_envelope.specs.MessageView.{place_seen};
-ghost use Rattle.canvas_envelope.specs.Wire.{task_id, place_id, parent_id, task_wire, headers_wire};
-ghost use Rattle.canvas_writing.specs.steps.Texts.{Adds, properties_naming, front_text, origin_text, name_text, bare, size_text, flag_text, call_text, own_text, args_text};
+ghost use Rattle.canvas_envelope.specs.Wire.{task_id, group_id, place_id, parent_id, task_wire};
+ghost use Rattle.canvas_writing.specs.steps.Texts.{Adds, name_text, bare, size_text, flag_text, call_text, own_text, args_text};
 
-use crate::text::{put, put_args, put_group_text, put_kwargs, put_size, put_string, put_task_text};
-use canvas_envelope::Message;
+use crate::text::{
+    ascii, put, put_args, put_kwargs, put_quoted, put_size, put_string, put_task_text,
+};
 use canvas_rewrite::{FrozenLine, FrozenTask, Place};
-use canvas_task::{Arg, TaskNo};
+use canvas_task::{Arg, GroupNo, TaskNo, group_text, task_text};
 use std::alloc::{AllocError, Global};
 use std::collections::BTreeMap;
 
-/// Appends the properties of a message with this identifier.
-pub fn put_properties(out: &mut String, id: &str) -> Result<(), AllocError>
-    requires { escape id.now ≡ id.now }
+fn put_group_id(out: &mut String, group: GroupNo) -> Result<(), AllocError>
     ensures { Adds result (string_bytes out.old) (string_bytes out.new)
-        (compact_text (properties_naming (string id.now))) }
+        (compact_text (group_id group)) }
 {
-    put(
-        out,
-        "{\"content_encoding\":\"utf-8\",\"content_type\":\"application/json\",\"correlation_id\":\"",
-    )?;
-    put(out, id)?;
-    put(out, "\"}")
+    put_quoted(out, ascii(&group_text(group)))
 }
 
-fn put_place(out: &mut String, place: &Place) -> Result<(), AllocError>
+/// Appends the identifier of the group or chord of a place, or null if there is no place.
+pub fn put_place_id(out: &mut String, place: &Option<Place>) -> Result<(), AllocError>
     ensures { Adds result (string_bytes out.old) (string_bytes out.new)
-        (front_text (place_id (place_seen (Some place.now)))) }
-{
-    put(out, "{\"group\":\"")?;
-    put_group_text(out, place.group)?;
-    put(out, "\",\"id\":\"")
-}
-
-/// Appends the headers up to the identifier: the group or chord of a place.
-fn put_front(out: &mut String, place: &Option<Place>) -> Result<(), AllocError>
-    ensures { Adds result (string_bytes out.old) (string_bytes out.new)
-        (front_text (place_id (place_seen place.now))) }
+        (compact_text (place_id (place_seen place.now))) }
 {
     match place {
-        Some(place) => put_place(out, place),
-        None => put(out, "{\"group\":null,\"id\":\""),
+        Some(place) => put_group_id(out, place.group),
+        None => put(out, "null"),
     }
 }
 
-fn put_parent(out: &mut String, task: TaskNo) -> Result<(), AllocError>
+/// Appends the identifier of a task.
+pub fn put_task_id(out: &mut String, task: TaskNo) -> Result<(), AllocError>
     ensures { Adds result (string_bytes out.old) (string_bytes out.new)
-        (origin_text (task_id task)) }
+        (compact_text (task_id task)) }
 {
-    put(out, "\",\"lang\":\"rs\",\"parent_id\":\"")?;
-    put_task_text(out, task)?;
-    put(
-        out,
-        "\",\"root_id\":\"00000000-0000-8000-8000-000000000001\",\"task\":",
-    )
+    put_quoted(out, ascii(&task_text(task)))
 }
 
-/// Appends the headers between the identifier and the name.
-fn put_origin(out: &mut String, parent: Option<TaskNo>) -> Result<(), AllocError>
+/// Appends the identifier of a parent, or null if there is none.
+pub fn put_parent_id(out: &mut String, parent: Option<TaskNo>) -> Result<(), AllocError>
     ensures { Adds result (string_bytes out.old) (string_bytes out.new)
-        (origin_text (parent_id parent)) }
+        (compact_text (parent_id parent)) }
 {
     match parent {
-        Some(task) => put_parent(out, task),
-        None => put(
-            out,
-            "\",\"lang\":\"rs\",\"parent_id\":null,\"root_id\":\"00000000-0000-8000-8000-000000000001\",\"task\":",
-        ),
+        Some(task) => put_task_id(out, task),
+        None => put(out, "null"),
     }
 }
 
@@ -91,23 +66,6 @@ fn put_name(alloc: Global, out: &mut String, name: &str) -> Result<(), AllocErro
 {
     put_string(alloc, out, name)?;
     put(out, "}")
-}
-
-/// Appends the headers of a message with this identifier.
-pub fn put_headers(
-    alloc: Global,
-    out: &mut String,
-    message: &Message,
-    id: &str,
-) -> Result<(), AllocError>
-    requires { id.now ≡ task_text (number_of message.now.own) }
-    ensures { Adds result (string_bytes out.old) (string_bytes out.new)
-        (compact_text (headers_wire message.now)) }
-{
-    put_front(out, &message.place)?;
-    put(out, id)?;
-    put_origin(out, message.parent)?;
-    put_name(alloc, out, message.name.get())
 }
 
 /// Returns whether a task has neither callbacks nor a place.

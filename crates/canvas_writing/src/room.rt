@@ -102,21 +102,18 @@ fn rest_room(rest: &Option<FrozenLine>) -> usize {
     }
 }
 
-/// Estimates the length of properties, and of headers that name a group and a parent. Only the
-/// task's name has a variable length.
-fn head_room(message: &Message) -> usize {
-    message.name.get().len().saturating_add(353)
+/// Returns the length of an identifier in its quotes, or of null.
+fn id_room(is_named: bool) -> usize {
+    if is_named { 38 } else { 4 }
 }
 
-/// Estimates the length of a letter's own text: its properties, its headers and its body, without
-/// the shared piece and the part after it. The part around the arguments has 69 bytes, if there are
-/// no callbacks.
+/// Estimates the length of a letter's own text: the arguments, three identifiers and the name.
 pub(crate) fn own_room(message: &Message) -> usize {
-    tasks_room(message.links.get())
-        .saturating_add(tasks_room(message.errbacks.get()))
-        .saturating_add(arguments_room(message.args.get()))
+    arguments_room(message.args.get())
         .saturating_add(message.kwargs.get().len().saturating_mul(24))
-        .saturating_add(72)
-        .saturating_add(head_room(message))
+        .saturating_add(message.name.get().len())
+        .saturating_add(id_room(message.place.is_some()))
+        .saturating_add(id_room(message.parent.is_some()))
+        .saturating_add(48)
         .min(MOST_ROOM)
 }

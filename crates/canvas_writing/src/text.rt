@@ -8,10 +8,10 @@ ghost use Rattle.serde_json.specs.Data.{string, array, object};
 ghost use Rattle.serde_json.specs.Written.{compact_text, items_text, members_text, comma_if};
 ghost use Rattle.canvas_wire.specs.Writing.{number_wire, numbers_wire, arg_wire, args_wire, kwargs_wire};
 ghost use Rattle.canvas_task.specs.Entries.{named};
-ghost use Rattle.canvas_task.specs.Identifiers.{task_text, group_text};
+ghost use Rattle.canvas_task.specs.Identifiers.{task_text};
 ghost use Rattle.canvas_writing.specs.steps.Texts.{Adds};
 
-use canvas_task::{Arg, GroupNo, TaskNo, group_text, task_text};
+use canvas_task::{Arg, TaskNo, task_text};
 use json::Writer;
 use std::alloc::{AllocError, Global};
 use std::collections::BTreeMap;
@@ -88,7 +88,7 @@ fn is_plain(text: &[u8]) -> bool
     plain
 }
 
-fn put_quoted(out: &mut String, text: &str) -> Result<(), AllocError>
+pub(crate) fn put_quoted(out: &mut String, text: &str) -> Result<(), AllocError>
     requires { escape text.now ≡ text.now }
     ensures { Adds result (string_bytes out.old) (string_bytes out.new) (quoted text.now) }
 {
@@ -109,7 +109,8 @@ fn escaped(alloc: Global, text: &str) -> Result<String, AllocError>
     Ok(String::from_utf8(out.into_inner()).unwrap())
 }
 
-pub(crate) fn put_string(alloc: Global, out: &mut String, text: &str) -> Result<(), AllocError>
+/// Appends a text, with escapes where it needs them.
+pub fn put_string(alloc: Global, out: &mut String, text: &str) -> Result<(), AllocError>
     ensures { Adds result (string_bytes out.old) (string_bytes out.new)
         (compact_text (string text.now)) }
 {
@@ -191,11 +192,4 @@ pub(crate) fn put_task_text(out: &mut String, task: TaskNo) -> Result<(), AllocE
     ensures { Adds result (string_bytes out.old) (string_bytes out.new) (task_text task) }
 {
     put(out, ascii(&task_text(task)))
-}
-
-/// Appends the identifier of a group or chord, without quotes.
-pub(crate) fn put_group_text(out: &mut String, group: GroupNo) -> Result<(), AllocError>
-    ensures { Adds result (string_bytes out.old) (string_bytes out.new) (group_text group) }
-{
-    put(out, ascii(&group_text(group)))
 }

@@ -4,39 +4,12 @@ use Rattle.serde_json.specs.Data.{Data, null, string, object, Items, Members, me
 use Rattle.serde_json.specs.Written.{compact_text, items_text}
 use Rattle.canvas_semantics.specs.PlacedLine.{PTask, p_task, no_p_tasks, p_nowhere}
 use Rattle.canvas_rewrite.specs.declared.frozen.FrozenTask.{FrozenTask, out-FrozenTask}
-use Rattle.canvas_envelope.specs.Wire.{task_id}
 
 -- the text was appended
 abbrev pub Adds : {E : Type 0} → Result (Unit {0}) E → (old new : List ℕ) → List ℕ → Type 0
 Adds r old new text = OnOk r (new ≡ old ++ text)
 
--- ---- properties and headers
-
-abbrev pub properties_naming : (id : Data) → Data
-properties_naming id =
-    object (member (codes "content_encoding") (string (codes "utf-8"))
-    (member (codes "content_type") (string (codes "application/json"))
-    (member (codes "correlation_id") id no_members)))
-
-abbrev pub headers_naming : (group id parent : Data) (name : List ℕ) → Data
-headers_naming group id parent name =
-    object (member (codes "group") group
-    (member (codes "id") id
-    (member (codes "lang") (string (codes "rs"))
-    (member (codes "parent_id") parent
-    (member (codes "root_id") (task_id 1)
-    (member (codes "task") (string name) no_members))))))
-
--- the headers up to the identifier, with its opening quote
-abbrev pub front_text : (group : Data) → List ℕ
-front_text group = codes "{\"group\":" ++ (compact_text group ++ codes ",\"id\":\"")
-
--- the headers from the identifier's closing quote up to the name
-abbrev pub origin_text : (parent : Data) → List ℕ
-origin_text parent =
-    codes "\",\"lang\":\"rs\",\"parent_id\":" ++ (compact_text parent
-    ++ codes ",\"root_id\":\"00000000-0000-8000-8000-000000000001\",\"task\":")
-
+-- the name, which comes last
 abbrev pub name_text : (name : List ℕ) → List ℕ
 name_text name = compact_text (string name) ++ codes "}"
 
@@ -85,17 +58,7 @@ abbrev pub args_text : (args : Items) (kwargs : Members) → List ℕ
 args_text args kwargs =
     codes "[[" ++ (items_text false args ++ (codes "," ++ compact_text (object kwargs)))
 
--- a body up to the rest of the line
-abbrev pub opening_text : (args : Items) (kwargs : Members) (callbacks : Data) → List ℕ
-opening_text args kwargs callbacks =
-    args_text args kwargs ++ (codes ",{\"callbacks\":" ++ compact_text callbacks)
-
--- a body from the error callbacks to the end
-abbrev pub closing_text : (errbacks : Data) → List ℕ
-closing_text errbacks = codes ",\"errbacks\":" ++ (compact_text errbacks ++ codes "}]")
-
--- a body from the rest of the line to the end
-abbrev pub behind_text : (chain chord errbacks : Data) → List ℕ
-behind_text chain chord errbacks =
-    codes ",\"chain\":" ++ (compact_text chain
-    ++ (codes ",\"chord\":" ++ (compact_text chord ++ closing_text errbacks)))
+-- the members `chain` and `chord` of the embed
+abbrev pub onward_text : (chain chord : Data) → List ℕ
+onward_text chain chord =
+    codes "\"chain\":" ++ (compact_text chain ++ (codes ",\"chord\":" ++ compact_text chord))

@@ -1,8 +1,6 @@
-use Rattle.std.proofs.Common.{◌∙◌, ap}
-use Rattle.canvas_task.specs.Identifiers.{task_text}
+use Rattle.std.proofs.Common.{◌∙◌}
 use Rattle.canvas_codec.proofs.EnvelopeBack.{envelope_back}
 use Rattle.canvas_codec.proofs.EnvelopeLaw.{reading_says}
-use Rattle.canvas_writing.proofs.IdentifierTexts.{task_ascii}
 use Rattle.canvas_codec.proofs.encoding.pieces_of.Goals as goal
 
 pub returns-clause-reads_back : goal.returns-clause-reads_back
@@ -11,9 +9,3 @@ returns-clause-reads_back c =
     reading_says _ _ _ c.args.message.now
     (envelope_back c.args.message.now _ _ _ c.number.ensures.checked texts.properties texts.headers (texts.body ∙ c.in_ok-body.ensures.value)
     texts.utf8.0 texts.utf8.1 texts.utf8.2)
-
-pub ascii-requires : goal.ascii-requires
-ascii-requires c = rw c.task_text-id.ensures.value (task_ascii c.number.result)
-
-pub texts_of-requires-clause-id : goal.texts_of-requires-clause-id
-texts_of-requires-clause-id c = c.ascii.ensures ∙ c.task_text-id.ensures.value ∙ ap task_text c.number.ensures.value

@@ -1,19 +1,13 @@
 use Rattle.std.proofs.Common.{◌∙◌, sym, ap}
 use Rattle.serde_json.specs.Written.{compact_text}
-use Rattle.canvas_task.specs.Identifiers.{task_text}
 use Rattle.canvas_envelope.specs.Content.{number_of}
 use Rattle.canvas_envelope.specs.Wire.{properties_wire, headers_wire}
 use Rattle.canvas_codec.proofs.EnvelopeBack.{envelope_back}
 use Rattle.canvas_codec.proofs.EnvelopeLaw.{reading_says}
-use Rattle.canvas_writing.proofs.IdentifierTexts.{task_ascii}
 use Rattle.canvas_codec.proofs.encoding.pieces_of_followed.Goals as goal
 
-pub ascii-requires : goal.ascii-requires
-ascii-requires c = rw c.task_text-id.ensures.value (task_ascii c.number_followed.result)
-
-pub texts_of-requires-clause-id : goal.texts_of-requires-clause-id
-texts_of-requires-clause-id c =
-    c.ascii.ensures ∙ c.task_text-id.ensures.value ∙ ap task_text (c.number_followed.ensures.value ∙ ap (λ z. number_of z.own) (sym c.followed.view_is))
+pub texts_of-requires-clause-task : goal.texts_of-requires-clause-task
+texts_of-requires-clause-task c = c.number_followed-task.ensures.value ∙ ap (λ z. number_of z.own) (sym c.followed.view_is)
 
 pub returns-in_ok-pieces-in-Some-clause-properties : goal.returns-in_ok-pieces-in-Some-clause-properties
 returns-in_ok-pieces-in-Some-clause-properties c =
@@ -28,6 +22,6 @@ returns-in_ok-pieces-in-Some-clause-reads_back c =
     let texts = c.in_ok-pieces-in-Some.ensures in
     let body = rw c.in-Some.is at c.in_ok-body.ensures.value in
     reading_says _ _ _ c.args.followed.now
-    (envelope_back c.args.followed.now _ _ _ c.number_followed.ensures.checked
+    (envelope_back c.args.followed.now _ _ _ c.number_followed-task.ensures.checked
     (texts.properties ∙ ap (λ z. compact_text (properties_wire z)) c.followed.view_is)
     (texts.headers ∙ ap (λ z. compact_text (headers_wire z)) c.followed.view_is) (texts.body ∙ body) texts.utf8.0 texts.utf8.1 texts.utf8.2)

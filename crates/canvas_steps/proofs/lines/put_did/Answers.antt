@@ -1,19 +1,19 @@
 use Rattle.std.proofs.Common.{◌∙◌, ◌++◌, ap, sym, codes, unwrap_or}
-use Rattle.canvas_steps.specs.Lines.{did_text, identifier, letter_text, part_text}
+use Rattle.canvas_steps.specs.Lines.{did_text, letter_text, part_text}
 use Rattle.canvas_steps.proofs.lines.put_did.Goals as goal
 
 pub returns-in_ok-put_letter-in-Published : goal.returns-in_ok-put_letter-in-Published
 returns-in_ok-put_letter-in-Published c =
     let text = c.args.text.now.items in
     c.in_ok-put_letter-in-Published.ensures
-    ∙ ap (λ id. text ++ letter_text (codes "publish") id) (c.identifier-in-Published.ensures ∙ ap identifier c.properties-in-Published.ensures)
+    ∙ ap (λ id. text ++ letter_text (codes "publish") id) c.identifier-in-Published.ensures
     ∙ ap (λ d. text ++ did_text c.args.plan.now c.args.rows.now c.args.held.now d) (sym c.in-Published.is)
 
 pub returns-in_ok-put_letter-in-Redelivered : goal.returns-in_ok-put_letter-in-Redelivered
 returns-in_ok-put_letter-in-Redelivered c =
     let text = c.args.text.now.items in
     c.in_ok-put_letter-in-Redelivered.ensures
-    ∙ ap (λ id. text ++ letter_text (codes "redeliver") id) (c.identifier-in-Redelivered.ensures ∙ ap identifier c.properties-in-Redelivered.ensures)
+    ∙ ap (λ id. text ++ letter_text (codes "redeliver") id) c.identifier-in-Redelivered.ensures
     ∙ ap (λ d. text ++ did_text c.args.plan.now c.args.rows.now c.args.held.now d) (sym c.in-Redelivered.is)
 
 pub returns-in_ok-put_part-in-Returned : goal.returns-in_ok-put_part-in-Returned
