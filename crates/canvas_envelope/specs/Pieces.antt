@@ -1,6 +1,6 @@
--- An envelope in a queue of one process: a letter has only what differs from message to message, and
--- these definitions add what is the same in each. Properties, headers and body are those of Celery's
--- task message protocol, version 2.
+-- An envelope in a queue of one process: a letter has only what differs from message to message,
+-- and these definitions add what is the same in each. Properties, headers and body are those of
+-- Celery's task message protocol, version 2.
 --     joined p         the envelope
 --     embed_text e     the end of its body
 use Rattle.std.specs.Prelude.{ℕ, ◌-◌, List, ◌++◌, take, drop, Option, Some, None, codes, string_bytes}
