@@ -120,7 +120,8 @@ around_id id h =
     IsUtf8-append _ _ (literal (codes "{\"content_encoding\":\"utf-8\",\"content_type\":\"application/json\",") refl)
     (IsUtf8-append _ _ (literal (codes "\"correlation_id\":") refl) (IsUtf8-append _ _ h (literal (codes "}") refl)))
 
-around_names : (group id parent name : List ℕ) → IsUtf8 group → IsUtf8 id → IsUtf8 parent → IsUtf8 name → IsUtf8 (headers_around group id parent name)
+around_names : (group id parent name : List ℕ) → IsUtf8 group → IsUtf8 id → IsUtf8 parent → IsUtf8 name
+    → IsUtf8 (headers_around group id parent name)
 around_names group id parent name g i p n =
     IsUtf8-append _ _ (literal (codes "{\"group\":") refl) (IsUtf8-append _ _ g (IsUtf8-append _ _ (literal (codes ",\"id\":") refl)
     (IsUtf8-append _ _ i (IsUtf8-append _ _ (literal (codes ",\"lang\":\"rs\",\"parent_id\":") refl) (IsUtf8-append _ _ p

@@ -1,9 +1,9 @@
--- An envelope in a queue of one process: the parts that differ from message to message, of which
--- one may be shared. Properties, headers and body are as in Celery's task message protocol, version
--- 2; what is the same in each message is here alone.
+-- An envelope in a queue of one process: a letter has only what differs from message to message,
+-- and these definitions add what is the same in each. Properties, headers and body are those of
+-- Celery's task message protocol, version 2.
 --     joined p         the envelope
 --     embed_text e     the end of its body
-use Rattle.std.specs.Prelude.{ℕ, ◌-◌, List, [], ◌∷◌, ◌++◌, length, take, drop, Option, Some, None, codes, string_bytes}
+use Rattle.std.specs.Prelude.{ℕ, ◌-◌, List, ◌++◌, take, drop, Option, Some, None, codes, string_bytes}
 use Rattle.canvas_envelope.specs.SharedTexts.{carried_bytes, head_text}
 use Rattle.canvas_envelope.specs.declared.embed.Embed.{Embed}
 use Rattle.canvas_envelope.specs.declared.envelope.Envelope.{Envelope}
@@ -49,10 +49,6 @@ headers_around group id parent name =
     ++ (codes ",\"lang\":\"rs\",\"parent_id\":" ++ (parent
     ++ (codes ",\"root_id\":\"00000000-0000-8000-8000-000000000001\",\"task\":" ++ (name
     ++ codes "}")))))))
-
--- the identifier that properties name, in its quotes: it is the last of them
-abbrev pub identifier : (properties : List ℕ) → List ℕ
-identifier properties = take (length (drop 79 properties) - 1) (drop 79 properties)
 
 -- ---- envelopes
 

@@ -1,6 +1,6 @@
 -- The three JSON texts of a message, as data: Celery's task message protocol, version 2. Members
 -- are in the byte order of their names.
-use Rattle.std.specs.Prelude.{ℕ, Bool, false, List, Option, Some, None, codes, pos}
+use Rattle.std.specs.Prelude.{ℕ, ◌-◌, Bool, false, List, length, take, drop, Option, Some, None, codes, pos}
 use Rattle.serde_json.specs.Data.{Data, null, boolean, string, array, object, Items, no_items, item, Members, no_members, member}
 use Rattle.canvas_task.specs.Identifiers.{task_text, group_text}
 use Rattle.canvas_semantics.specs.Tree.{Call}
@@ -156,3 +156,7 @@ properties_wire c =
     object (member (codes "content_encoding") (string (codes "utf-8"))
     (member (codes "content_type") (string (codes "application/json"))
     (member (codes "correlation_id") (task_id (number_of c.own)) no_members)))
+
+-- The identifier that the properties of a message name, in its quotes: it is the last of them.
+abbrev pub identifier : (properties : List ℕ) → List ℕ
+identifier properties = take (length (drop 79 properties) - 1) (drop 79 properties)

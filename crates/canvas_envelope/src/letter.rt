@@ -5,7 +5,8 @@
 
 ghost use Rattle.std.specs.Prelude.{◌≡◌, IfOk, IfSome};
 ghost use Rattle.canvas_envelope.specs.EnvelopeFaults.{Says};
-ghost use Rattle.canvas_envelope.specs.Pieces.{identifier, joined};
+ghost use Rattle.canvas_envelope.specs.Pieces.{joined};
+ghost use Rattle.canvas_envelope.specs.Wire.{identifier};
 
 use crate::kept::Kept;
 use crate::pieces::LetterTexts;

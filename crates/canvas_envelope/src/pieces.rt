@@ -1,7 +1,8 @@
 //! The texts of a message in a queue of one process, and the envelope that they make.
 
 ghost use Rattle.std.specs.Prelude.{◌≡◌, ◌++◌, ◌-◌, Some, IfOk, OnOk, take, drop};
-ghost use Rattle.canvas_envelope.specs.Pieces.{body_text, envelope_seen, following_text, identifier, joined, line_piece_text, own_between};
+ghost use Rattle.canvas_envelope.specs.Pieces.{body_text, envelope_seen, following_text, joined, line_piece_text, own_between};
+ghost use Rattle.canvas_envelope.specs.Wire.{identifier};
 ghost use Rattle.canvas_envelope.specs.SharedTexts.{head_text};
 
 use crate::{CarriedText, ElementsText, Embed, Envelope, Head};

@@ -6,7 +6,7 @@ use Rattle.std.specs.Prelude.{ℕ, ◌-◌, if◌then◌else◌, Bool, List, [],
 use Rattle.canvas_task.specs.Identifiers.{task_text, group_text}
 use Rattle.canvas_task.specs.Text.{Text}
 use Rattle.canvas_semantics.specs.Line.{Line, size}
-use Rattle.canvas_envelope.specs.Pieces.{identifier}
+use Rattle.canvas_envelope.specs.Wire.{identifier}
 use Rattle.canvas_history.specs.declared.stored.Stored.{Stored}
 use Rattle.canvas_history.specs.declared.stored.Stored.TheVariants.{First, Again}
 use Rattle.canvas_report.specs.RowTexts.{shown_text}
