@@ -11,6 +11,7 @@ pub mod WholeText
 pub mod CleanWire
 pub mod ReadsAgain
 pub mod InOrder
+pub mod MadeAtOnce
 pub mod Fitting
 pub mod JsonTexts
 pub mod ArgumentLaw

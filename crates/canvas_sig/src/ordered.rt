@@ -103,11 +103,7 @@ fn by_name<'a>(
 ) -> Result<Map<&'a str, Datum<'a>>, AllocError>
     ensures { IfOk result (λ m. members_view m.entries ≡ put_all found.now no_members) }
 {
-    let mut ordered = Map::new(alloc);
-    for member in found {
-        drop(ordered.insert(member.0, member.1)?);
-    }
-    Ok(ordered)
+    found.iter().copied().collect(alloc)
 }
 
 /// Returns the members of a map, in order.
