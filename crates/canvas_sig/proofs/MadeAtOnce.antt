@@ -19,7 +19,7 @@ use Rattle.canvas_sig.specs.declared.datum.Datum.{Datum}
 use Rattle.canvas_sig.proofs.InOrder.{IsBefore, before_all, before_put, after_flip}
 use Rattle.canvas_sig.proofs.Parsed.{Named}
 
-abbrev is_same : List ℕ → List ℕ → Bool
+abbrev pub is_same : List ℕ → List ℕ → Bool
 is_same = eq_by_cmp (slice_cmp nat_cmp)
 
 laws : IsEquivalence is_same
@@ -62,13 +62,13 @@ at_placed Greater k j l d e ms is more =
     ∙ either_first (is_same l k) (is_same j k) (Some e) (Some d) (get_member k ms) (not_both k j l is)
     ∙ ap (λ r. cond (is_same j k) (Some d) r) (sym (at_first k l e ms))
 
-at_put : (k j : List ℕ) (d : Data) (ms : Members) → get_member k (put j d ms) ≡ cond (is_same j k) (Some d) (get_member k ms)
+pub at_put : (k j : List ℕ) (d : Data) (ms : Members) → get_member k (put j d ms) ≡ cond (is_same j k) (Some d) (get_member k ms)
 at_put k j d no_members = at_first k j d no_members
 at_put k j d (member l e ms) = at_placed (slice_cmp nat_cmp j l) k j l d e ms refl (at_put k j d ms)
 
 -- ---- members in the order of their names
 
-abbrev Rises : Members → Type 0
+abbrev pub Rises : Members → Type 0
 Rises no_members = Unit {0}
 Rises (member k d ms) = IsBefore k ms × Rises ms
 
@@ -82,7 +82,7 @@ rises_put : (k : List ℕ) (d : Data) (ms : Members) → Rises ms → Rises (put
 rises_put k d no_members h = (tt, tt)
 rises_put k d (member l e ms) h = rises_placed (slice_cmp nat_cmp k l) k l d e ms refl h (rises_put k d ms h.1)
 
-rises_all : (es : List Named) (ms : Members) → Rises ms → Rises (put_all es ms)
+pub rises_all : (es : List Named) (ms : Members) → Rises ms → Rises (put_all es ms)
 rises_all [] ms h = h
 rises_all (e ∷ es) ms h = rises_all es (put e.0.now (view e.1) ms) (rises_put e.0.now (view e.1) ms h)
 
@@ -92,7 +92,7 @@ none_before : (k : List ℕ) (ms : Members) → IsBefore k ms → get_member k m
 none_before k no_members h = refl
 none_before k (member l e ms) h = rw h.0 (none_before k ms h.1)
 
-is_first : (k : List ℕ) (d : Data) (ms : Members) → get_member k (member k d ms) ≡ Some d
+pub is_first : (k : List ℕ) (d : Data) (ms : Members) → get_member k (member k d ms) ≡ Some d
 is_first k d ms = let tied = tied_itself nat_list_cmp_total k in rw tied refl
 
 not_less : (k l : List ℕ) (d e : Data) (ms ns : Members) → IsBefore l ns → get_member k (member k d ms) ≡ get_member k (member l e ns)
@@ -106,7 +106,7 @@ tied_first Less k l d e ms ns r s same is = absurd (not_less k l d e ms ns s.0 (
 tied_first Equal k l d e ms ns r s same is = is
 tied_first Greater k l d e ms ns r s same is = absurd (not_less l k e d ns ms r.0 (sym (same l)) (after_flip k l is))
 
-is_equal : (o : Ordering) → is_eq o ≡ true → o ≡ Equal
+pub is_equal : (o : Ordering) → is_eq o ≡ true → o ≡ Equal
 is_equal Less h = absurd (true≢false (sym h))
 is_equal Equal h = refl
 is_equal Greater h = absurd (true≢false (sym h))
@@ -116,7 +116,7 @@ gone j k ms h is =
     let before : List ℕ → Type 0 = λ x. IsBefore x ms in
     none_before j ms (subst before (exact_bytes k j (is_equal (slice_cmp nat_cmp k j) is)) h)
 
-passed : (j k : List ℕ) (d : Data) (ms : Members) → is_same k j ≡ false → get_member j (member k d ms) ≡ get_member j ms
+pub passed : (j k : List ℕ) (d : Data) (ms : Members) → is_same k j ≡ false → get_member j (member k d ms) ≡ get_member j ms
 passed j k d ms isnt = at_first j k d ms ∙ ap (λ b. cond b (Some d) (get_member j ms)) isnt
 
 later : (k l : List ℕ) (d e : Data) (ms ns : Members) → Rises (member k d ms) → Rises (member l e ns) → k ≡ l
@@ -128,7 +128,7 @@ later k l d e ms ns r s name same j =
     (λ isnt. sym (passed j k d ms isnt) ∙ same j ∙ passed j l e ns (alike ∙ isnt))
     (cases_Bool (is_same k j))
 
-same_members : (ms ns : Members) → Rises ms → Rises ns → ((j : List ℕ) → get_member j ms ≡ get_member j ns) → ms ≡ ns
+pub same_members : (ms ns : Members) → Rises ms → Rises ns → ((j : List ℕ) → get_member j ms ≡ get_member j ns) → ms ≡ ns
 same_members no_members no_members r s same = refl
 same_members no_members (member l e ns) r s same = let none : None ≡ Some e = same l ∙ is_first l e ns in absurd cc
 same_members (member k d ms) no_members r s same = let none : Some d ≡ None = sym (is_first k d ms) ∙ same k in absurd cc
