@@ -81,6 +81,7 @@ fn put_in_order<'a>(
 
 /// Sorts members by name. For a duplicate name the last value counts. If there is none, sorted
 /// members are in order; if there is one, a map decides.
+#[tactic(auto, using(crate::proofs::Permuted::permuted))]
 pub(crate) fn in_order<'a>(
     alloc: Global,
     arena: &'a Bump,
