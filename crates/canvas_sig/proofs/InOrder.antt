@@ -35,11 +35,11 @@ abbrev mutual
 
 -- ---- a member that is put in its place
 
-before_all : (k l : List ℕ) (ms : Members) → slice_cmp nat_cmp k l ≡ Less → IsBefore l ms → IsBefore k ms
+pub before_all : (k l : List ℕ) (ms : Members) → slice_cmp nat_cmp k l ≡ Less → IsBefore l ms → IsBefore k ms
 before_all k l no_members low h = tt
 before_all k l (member j d ms) low h = (nat_list_cmp_total.trans k l j low h.0, before_all k l ms low h.1)
 
-after_flip : (k l : List ℕ) → slice_cmp nat_cmp k l ≡ Greater → slice_cmp nat_cmp l k ≡ Less
+pub after_flip : (k l : List ℕ) → slice_cmp nat_cmp k l ≡ Greater → slice_cmp nat_cmp l k ≡ Less
 after_flip k l h = nat_list_cmp_total.antisymm l k ∙ ap ordering_reverse h
 
 before_placed : (j : List ℕ) (o : Ordering) (k l : List ℕ) (d e : Data) (ms : Members) → slice_cmp nat_cmp j k ≡ Less → IsBefore j (member l e ms)
@@ -49,7 +49,7 @@ before_placed j Less k l d e ms low h more = (low, h)
 before_placed j Equal k l d e ms low h more = h
 before_placed j Greater k l d e ms low h more = (h.0, more)
 
-before_put : (j k : List ℕ) (d : Data) (ms : Members) → slice_cmp nat_cmp j k ≡ Less → IsBefore j ms → IsBefore j (put k d ms)
+pub before_put : (j k : List ℕ) (d : Data) (ms : Members) → slice_cmp nat_cmp j k ≡ Less → IsBefore j ms → IsBefore j (put k d ms)
 before_put j k d no_members low h = (low, tt)
 before_put j k d (member l e ms) low h = before_placed j (slice_cmp nat_cmp k l) k l d e ms low h (before_put j k d ms low h.1)
 

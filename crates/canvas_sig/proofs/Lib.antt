@@ -11,6 +11,9 @@ pub mod WholeText
 pub mod CleanWire
 pub mod ReadsAgain
 pub mod InOrder
+pub mod MadeAtOnce
+pub mod Permuted
+pub mod WithFronts
 pub mod Fitting
 pub mod JsonTexts
 pub mod ArgumentLaw

@@ -7,6 +7,7 @@ mod canvas_text;
 mod datum;
 mod escaped;
 mod fields;
+mod fronts;
 mod json_argument;
 mod members;
 mod names;

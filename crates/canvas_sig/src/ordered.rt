@@ -6,6 +6,7 @@ ghost use Rattle.canvas_sig.specs.Datum.{view, members_view};
 ghost use Rattle.canvas_sig.specs.steps.Names.{put_all, StandsAt, BelongsAt};
 
 use crate::datum::{Datum, follows};
+use crate::fronts::sorted;
 use crate::names::order_of;
 use bumpalo::Bump;
 use bumpalo::collections::into_bump_slice;
@@ -13,8 +14,8 @@ use serde_json::value::Map;
 use std::alloc::{AllocError, Global};
 use std::cmp::Ordering;
 
-/// The greatest number of members that are inserted one by one, which takes quadratic time. For
-/// more, a map is built.
+/// The greatest number of members that are inserted one by one, which takes quadratic time. More
+/// are sorted at once.
 const MOST_PUT: usize = 16;
 
 /// Returns whether the names ascend, so that no name occurs twice. Those of a sorted `json.dumps`,
@@ -78,7 +79,9 @@ fn put_in_order<'a>(
     Ok(into_bump_slice(members))
 }
 
-/// Sorts members by name. For a duplicate name the last value counts.
+/// Sorts members by name. For a duplicate name the last value counts. If there is none, sorted
+/// members are in order; if there is one, a map decides.
+#[tactic(auto, using(crate::proofs::Permuted::permuted))]
 pub(crate) fn in_order<'a>(
     alloc: Global,
     arena: &'a Bump,
@@ -92,6 +95,10 @@ pub(crate) fn in_order<'a>(
     if found.len() <= MOST_PUT {
         return put_in_order(arena, found);
     }
+    let sorted = sorted(alloc, arena, found)?;
+    if ascends(sorted) {
+        return Ok(sorted);
+    }
     let ordered = by_name(alloc, found)?;
     members_of(arena, &ordered)
 }
@@ -103,11 +110,7 @@ fn by_name<'a>(
 ) -> Result<Map<&'a str, Datum<'a>>, AllocError>
     ensures { IfOk result (λ m. members_view m.entries ≡ put_all found.now no_members) }
 {
-    let mut ordered = Map::new(alloc);
-    for member in found {
-        drop(ordered.insert(member.0, member.1)?);
-    }
-    Ok(ordered)
+    found.iter().copied().collect(alloc)
 }
 
 /// Returns the members of a map, in order.

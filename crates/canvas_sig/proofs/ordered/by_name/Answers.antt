@@ -1,15 +1,11 @@
-use Rattle.std.proofs.Common.{take, sym, ap, ◌∙◌, arith}
-use Rattle.serde_json.specs.Data.{no_members, put}
-use Rattle.canvas_sig.specs.Datum.{view, members_view}
-use Rattle.canvas_sig.specs.steps.Names.{put_all}
-use Rattle.canvas_sig.proofs.Parsed.{Named, one_more, put_pushed, inserted}
+use Rattle.std.proofs.Common.{rules, nat_cmp}
+use Rattle.std.specs.BTreeMap.{IsFromIterResult}
+use Rattle.std.specs.Cmp.Lexicographic.{slice_cmp}
+use Rattle.std.proofs.lemmas.Result.{IfOk-weaker}
+use Rattle.canvas_sig.proofs.MadeAtOnce.{made_at_once}
 use Rattle.canvas_sig.proofs.ordered.by_name.Goals as goal
 
-pub loop-member-preserved : goal.loop-member-preserved
-loop-member-preserved c =
-    let l = c.loop-member in
+pub returns : goal.returns
+returns c =
     let xs = c.args.found.now in
-    let e : Named = c.member-item.result in
-    let next = one_more xs l.member-index e _ (omega (arith, c.loop-member-test.true)) (sym c.member-item.is) in
-    ap (λ es. members_view es) c.in_ok-insert.ensures.entries ∙ inserted l.ordered.entries e.0 e.1 ∙ ap (put e.0.now (view e.1)) l.invariant
-    ∙ sym (put_pushed (take l.member-index xs) e no_members) ∙ ap (λ es. put_all es no_members) (sym next)
+    IfOk-weaker c.collect.result (IsFromIterResult (λ x y. slice_cmp nat_cmp x.now y.now) xs) _ (made_at_once xs) (search rules)
