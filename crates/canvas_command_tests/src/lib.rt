@@ -1,5 +1,6 @@
 //! Tests of the program by calls: readers and refusals that no run of it meets, and tasks that the
-//! caller passes. What it prints is tested in `tests/program`.
+//! caller passes; and the public calls that run a canvas. What the program prints is tested in
+//! `tests/program`.
 #![tactic(auto)]
 
 #[cfg(test)]
@@ -14,3 +15,5 @@ mod own_tasks;
 mod program;
 #[cfg(test)]
 mod refusals;
+#[cfg(test)]
+mod surface;
