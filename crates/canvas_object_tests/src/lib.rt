@@ -1,5 +1,5 @@
-//! Tests of calls that need no worker: tasks, signatures, plans, messages, rows, the queue and the
-//! table of results. They don't wait for the engine.
+//! Tests of calls that run no canvas: tasks, signatures, plans, messages, rows, the queue and the
+//! table of results; and of each public call of these. They don't wait for the engine.
 //!
 //! What a queue or a table answers on one thread is in its contract. So for these the tests are
 //! about what threads share.
@@ -29,6 +29,8 @@ mod plans;
 mod queues;
 #[cfg(test)]
 mod registries;
+#[cfg(test)]
+mod surface;
 #[cfg(test)]
 mod tables;
 #[cfg(test)]

@@ -1,4 +1,4 @@
-use Rattle.canvas_surface.proofs.queue.again_by_one_pass.Goals as goal
+use Rattle.canvas_object_tests.proofs.surface.queue.again_by_one_pass.Goals as goal
 
 -- what a pass has just taken it may deliver again
 pub comes_again-requires-clause-taken : goal.comes_again-requires-clause-taken

@@ -1,5 +1,5 @@
-use Rattle.canvas_surface.proofs.Kept.{has_outcome, store_keeps, part_keeps}
-use Rattle.canvas_surface.proofs.table.completes_plain.Goals as goal
+use Rattle.canvas_object_tests.proofs.Kept.{has_outcome, store_keeps, part_keeps}
+use Rattle.canvas_object_tests.proofs.surface.table.completes_plain.Goals as goal
 
 pub part-requires-clause-stored : goal.part-requires-clause-stored
 part-requires-clause-stored c = has_outcome _ _ _ _ _ c.store-stored.ensures

@@ -1,6 +1,6 @@
 use Rattle.std.proofs.Common.{◌≡◌, ◌≢◌, ℕ, ap, arith}
 use Rattle.canvas_history.specs.Table.{Results}
-use Rattle.canvas_surface.proofs.table.counts_plain.Goals as goal
+use Rattle.canvas_object_tests.proofs.surface.table.counts_plain.Goals as goal
 
 pub completes_plain-first-requires : goal.completes_plain-first-requires
 completes_plain-first-requires c = ap (λ (s : Results). s.returned c.task-two.result) c.requires

@@ -1,7 +1,7 @@
 use Rattle.std.proofs.Common.{ap}
 use Rattle.canvas_history.specs.Table.{was}
 use Rattle.canvas_backend.proofs.Stands.{first_stood}
-use Rattle.canvas_surface.proofs.table.completes.Goals as goal
+use Rattle.canvas_object_tests.proofs.surface.table.completes.Goals as goal
 
 pub part-requires-clause-stored : goal.part-requires-clause-stored
 part-requires-clause-stored c = (first_stood c.args.backend.now.plan _ _ _ _ _ (ap was c.in-First.is) c.store.ensures.call).own
