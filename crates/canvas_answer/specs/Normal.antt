@@ -9,7 +9,7 @@ use Rattle.canvas_semantics.specs.Line.{Line, elements_of}
 use Rattle.canvas_semantics.specs.NormalLine.{normal}
 use Rattle.canvas_semantics.specs.PlacedLine.{bare}
 use Rattle.canvas_semantics.specs.Tree.{Tree, chain}
-use Rattle.canvas_wire.specs.Writing.{tree_wire}
+use Rattle.canvas_values.specs.Writing.{tree_wire}
 use Rattle.canvas_envelope.specs.Wire.{line_wire}
 use Rattle.canvas_answer.specs.Answers.{AnswersAll}
 use Rattle.canvas_answer.specs.Plans.{IsPlanOf}

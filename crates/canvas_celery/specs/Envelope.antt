@@ -6,7 +6,7 @@ use Rattle.base64.specs.Engines.{standard}
 use Rattle.canvas_task.specs.Text.{Text}
 use Rattle.serde_json.specs.Data.{Data, null, string, array, object, no_items, item, Members, no_members, member}
 use Rattle.serde_json.specs.Written.{compact_text}
-use Rattle.canvas_wire.specs.Writing.{number_wire, args_wire, kwargs_wire}
+use Rattle.canvas_values.specs.Writing.{number_wire, args_wire, kwargs_wire}
 use Rattle.canvas_semantics.specs.PlacedLine.{PPlace, p_nowhere, p_group, p_chord}
 use Rattle.canvas_envelope.specs.Content.{Content, number_of, call_of, links_of, errbacks_of, place_of}
 use Rattle.canvas_envelope.specs.Wire.{list_or_null}

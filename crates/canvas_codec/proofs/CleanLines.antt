@@ -5,7 +5,7 @@ use Rattle.std.proofs.lemmas.Bool.{leb-true}
 use Rattle.serde_json.specs.Data.{Data, null, boolean, number, string, array, object, Items, no_items, item, Members, no_members, member, depth, items_depth, members_depth}
 use Rattle.canvas_sig.specs.steps.Clean.{IsAbove, behind_members, IsClean, AreClean, MembersClean}
 use Rattle.canvas_semantics.specs.Tree.{Call}
-use Rattle.canvas_wire.specs.Writing.{args_wire, kwargs_wire, member_unless_empty, tasks_member, chord_members}
+use Rattle.canvas_values.specs.Writing.{args_wire, kwargs_wire, member_unless_empty, tasks_member, chord_members}
 use Rattle.canvas_sig.proofs.CleanWire.{args_clean, above_behind, kwargs_clean, all_above, args_depth, kwargs_depth}
 use Rattle.canvas_values.proofs.ComposedLemmas.{both}
 use Rattle.canvas_semantics.specs.Line.{in_group}

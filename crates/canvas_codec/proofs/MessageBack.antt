@@ -6,7 +6,7 @@ use Rattle.canvas_values.specs.Fields.{items, listed, is_list_or_null}
 use Rattle.canvas_values.specs.Answers.{in_turn}
 use Rattle.canvas_semantics.specs.Tree.{Call}
 use Rattle.canvas_values.proofs.FittingCalls.{CallFits}
-use Rattle.canvas_wire.specs.Writing.{args_wire, kwargs_wire}
+use Rattle.canvas_values.specs.Writing.{args_wire, kwargs_wire}
 use Rattle.canvas_values.proofs.ComposedLemmas.{both}
 use Rattle.canvas_sig.proofs.RoundTrip.{args_back, kwargs_back}
 use Rattle.canvas_semantics.proofs.RowNumbers.{same_number}

@@ -15,7 +15,7 @@ use Rattle.canvas_values.specs.Grammar.{primitive_of, own_fault}
 use Rattle.canvas_semantics.specs.Tree.{Call}
 use Rattle.canvas_task.specs.Entries.{IsBelow, Ascends}
 use Rattle.canvas_values.proofs.FittingCalls.{CallFits}
-use Rattle.canvas_wire.specs.Writing.{number_wire, member_unless_empty}
+use Rattle.canvas_values.specs.Writing.{number_wire, member_unless_empty}
 use Rattle.canvas_values.specs.declared.fault.SigFault.{SigFault}
 use Rattle.canvas_values.specs.declared.fault.SigFault.TheVariants.{Frozen}
 use Rattle.canvas_values.proofs.ComposedLemmas.{both, args_fit, kwargs_fit}

@@ -11,7 +11,7 @@ use Rattle.canvas_task.specs.declared.arg.Arg.{Arg}
 use Rattle.canvas_task.specs.declared.arg.Arg.TheVariants as arg
 use Rattle.canvas_semantics.specs.Tree.{Call}
 use Rattle.canvas_semantics.specs.PlacedLine.{PTask, p_task, PTasks, no_p_tasks, and_p_task, PPlace, p_nowhere, p_group, p_chord, PLine, p_stop, p_step, p_group_end, p_chord_end, PLines, no_p_lines, and_p_line}
-use Rattle.canvas_wire.specs.Writing.{numbers_wire, arg_wire, args_wire, kwargs_wire, member_unless_empty, tasks_member, chord_members}
+use Rattle.canvas_values.specs.Writing.{numbers_wire, arg_wire, args_wire, kwargs_wire, member_unless_empty, tasks_member, chord_members}
 use Rattle.canvas_rewrite.specs.Utf8.{IsUtf8Arg, AreUtf8Args, AreUtf8Entries, IsUtf8Call}
 use Rattle.canvas_envelope.specs.Content.{Content, number_of}
 use Rattle.canvas_envelope.specs.Fits.{fits}

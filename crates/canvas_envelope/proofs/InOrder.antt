@@ -6,7 +6,7 @@ use Rattle.std.proofs.lemmas.List.{map_push}
 use Rattle.canvas_task.specs.Entries.{named, IsBelow, Ascends}
 use Rattle.canvas_task.specs.Text.{Text}
 use Rattle.canvas_task.specs.declared.arg.Arg.{Arg}
-use Rattle.canvas_wire.proofs.Named.{names, AllBelow, goes_last}
+use Rattle.canvas_values.proofs.Written.Named.{names, AllBelow, goes_last}
 
 abbrev pub Entry : Type 0
 Entry = String Global × Arg

@@ -4,7 +4,7 @@ use Rattle.std.specs.Prelude.{ℕ, ◌-◌, Bool, false, List, length, take, dro
 use Rattle.serde_json.specs.Data.{Data, null, boolean, string, array, object, Items, no_items, item, Members, no_members, member}
 use Rattle.canvas_task.specs.Identifiers.{task_text, group_text}
 use Rattle.canvas_semantics.specs.Tree.{Call}
-use Rattle.canvas_wire.specs.Writing.{number_wire, args_wire, kwargs_wire, member_unless_empty, tasks_member, chord_members}
+use Rattle.canvas_values.specs.Writing.{number_wire, args_wire, kwargs_wire, member_unless_empty, tasks_member, chord_members}
 use Rattle.canvas_semantics.specs.PlacedLine.{PTask, p_task, PTasks, no_p_tasks, and_p_task, PPlace, p_nowhere, p_group, p_chord, PLine, p_stop, p_step, p_group_end, p_chord_end, PLines, no_p_lines, and_p_line}
 use Rattle.canvas_envelope.specs.Content.{Content, number_of, call_of, links_of, errbacks_of, place_of}
 

@@ -10,7 +10,7 @@ use Rattle.canvas_envelope.specs.Wire.{parent_id, task_id}
 use Rattle.canvas_envelope.specs.declared.envelope.Envelope.{Envelope}
 use Rattle.canvas_report.specs.JsonRows.{identifiers_wire}
 use Rattle.canvas_semantics.specs.Line.{Line, name_of, names}
-use Rattle.canvas_wire.specs.Writing.{args_wire, kwargs_wire}
+use Rattle.canvas_values.specs.Writing.{args_wire, kwargs_wire}
 use Rattle.canvas_ran.specs.Fronts.{front_of}
 use Rattle.canvas_ran.specs.declared.calls.front.Front.{Front}
 

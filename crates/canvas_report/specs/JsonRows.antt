@@ -13,7 +13,7 @@ use Rattle.canvas_task.specs.Printed.{kind_name, why_name}
 use Rattle.canvas_task.specs.declared.outcome.Fault.{Fault}
 use Rattle.canvas_task.specs.declared.outcome.Fault.TheVariants as fault
 use Rattle.canvas_task.specs.declared.outcome.Outcome.TheVariants as outcome
-use Rattle.canvas_wire.specs.Writing.{number_wire}
+use Rattle.canvas_values.specs.Writing.{number_wire}
 use Rattle.canvas_semantics.specs.Tree.{Tree, ends_in_group}
 use Rattle.canvas_semantics.specs.Evaluation.{State, Rows, state_of, ends}
 use Rattle.canvas_semantics.specs.Report.{names_by_number}

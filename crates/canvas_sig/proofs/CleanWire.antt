@@ -13,7 +13,7 @@ use Rattle.canvas_task.specs.declared.arg.Arg.TheVariants as arg
 use Rattle.canvas_sig.specs.steps.Clean.{IsWholeNumber, IsAbove, behind_members, IsClean, AreClean, MembersClean}
 use Rattle.canvas_semantics.specs.Tree.{Call, Task, task, Tasks, no_tasks, and_task, Tree, one, chain, group, chord, Trees, no_trees, and_tree}
 use Rattle.canvas_semantics.specs.Nesting.{task_nesting, tasks_nesting, nesting, all_nesting}
-use Rattle.canvas_wire.specs.Writing.{numbers_wire, arg_wire, args_wire, kwargs_wire, options_wire, call_wire, task_wire, tasks_wire, primitive_wire, tasks_member, chord_members, tree_wire, trees_wire}
+use Rattle.canvas_values.specs.Writing.{numbers_wire, arg_wire, args_wire, kwargs_wire, options_wire, call_wire, task_wire, tasks_wire, primitive_wire, tasks_member, chord_members, tree_wire, trees_wire}
 use Rattle.canvas_task.specs.Entries.{IsBelow, Ascends}
 use Rattle.canvas_values.proofs.FittingCalls.{NumbersFit, ArgFits, ArgsFit, KwargsFit, CallFits}
 use Rattle.canvas_values.proofs.Fits.{TaskFits, TasksFit, TreeFits, TreesFit}

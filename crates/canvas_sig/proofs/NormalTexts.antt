@@ -7,7 +7,7 @@ use Rattle.serde_json.proofs.OnLiterals.{serde_json_on_literals}
 use Rattle.canvas_task.specs.declared.arg.Arg.{Arg}
 use Rattle.canvas_task.specs.declared.arg.Arg.TheVariants as arg
 use Rattle.canvas_semantics.specs.Tree.{task, no_tasks, Tree, one, chain, chord, Trees, no_trees, and_tree}
-use Rattle.canvas_wire.specs.Writing.{tree_wire}
+use Rattle.canvas_values.specs.Writing.{tree_wire}
 
 abbrev calls : List ℕ → List Arg → Tree
 calls name args = one (task 0 (record { name = name; args = args; kwargs = []; immutable = false }) no_tasks no_tasks)

@@ -23,7 +23,7 @@ use Rattle.canvas_values.specs.Answers.{judged}
 use Rattle.canvas_values.specs.steps.Reading.{tree_reading}
 use Rattle.canvas_semantics.specs.Tree.{Tree}
 use Rattle.canvas_values.specs.Writable.{IsCanvas}
-use Rattle.canvas_wire.specs.Writing.{tree_wire}
+use Rattle.canvas_values.specs.Writing.{tree_wire}
 use Rattle.canvas_sig.proofs.CleanWire.{tree_clean, tree_depth}
 use Rattle.canvas_values.proofs.Depth.{fault_enough, tree_enough}
 use Rattle.canvas_values.proofs.Law.{tree_judged}

@@ -15,7 +15,7 @@ use Rattle.canvas_values.specs.SignatureView.{tasks_of, trees_of}
 use Rattle.canvas_values.specs.Answers.{in_turn}
 use Rattle.canvas_values.specs.Grammar.{whole_number, arg_reading, named_reading, kind_ok, numbers_ok, number_ok, own_fault}
 use Rattle.canvas_values.specs.steps.Reading.{task_with, task_reading, tree_reading}
-use Rattle.canvas_wire.specs.Writing.{numbers_wire, arg_wire, args_wire, kwargs_wire, options_wire, call_wire, task_wire, tasks_wire, primitive_wire, chord_members, tree_wire, trees_wire}
+use Rattle.canvas_values.specs.Writing.{numbers_wire, arg_wire, args_wire, kwargs_wire, options_wire, call_wire, task_wire, tasks_wire, primitive_wire, chord_members, tree_wire, trees_wire}
 use Rattle.canvas_values.proofs.FittingCalls.{NumbersFit, ArgFits, ArgsFit, KwargsFit, CallFits}
 use Rattle.canvas_values.proofs.Fits.{TaskFits, TasksFit, TreeFits, TreesFit}
 

@@ -3,14 +3,13 @@
 ghost use Rattle.std.specs.Prelude.{◌≡◌, ◌≤◌, Ok, IfOk, length, string_bytes};
 ghost use Rattle.serde_json.specs.Written.{compact_text};
 ghost use Rattle.canvas_values.specs.CanvasText.{most_bytes, text_reading};
-ghost use Rattle.canvas_wire.specs.Writing.{tree_wire};
+ghost use Rattle.canvas_values.specs.Writing.{tree_wire};
 ghost use Rattle.canvas_values.specs.SignatureView.{view};
 
 mod value;
 
 use canvas_task::Memory;
-use canvas_values::{Canvas, Node};
-use canvas_wire::write_tree;
+use canvas_values::{Canvas, Node, write_tree};
 use json::Writer;
 use std::alloc::Global;
 pub use value::write_arg;

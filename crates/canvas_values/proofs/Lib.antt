@@ -10,3 +10,4 @@ pub mod Fits
 pub mod Shallow
 pub mod FittingCalls
 pub mod LimitRows
+pub mod Written

@@ -4,6 +4,7 @@ pub mod Answers
 pub mod Grammar
 pub mod CanvasText
 pub mod Writable
+pub mod Writing
 pub mod steps
 pub mod Refusals
 pub mod ByParts

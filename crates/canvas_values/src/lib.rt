@@ -1,8 +1,8 @@
-//! Signatures of canvases as values, the limits of a canvas, and the definitions of what a text
-//! spells and why it is refused.
+//! Signatures of canvases as values, the tokens of their JSON, the limits of a canvas, and the
+//! definitions of what a text spells and why it is refused.
 //!
-//! Normal lines, plans and messages need only this crate; `canvas_sig` reads and writes signatures
-//! as JSON, and re-exports these values. Contracts see a map as the list of its entries in the
+//! Normal lines, plans and messages need only this crate; `canvas_sig` reads signatures, writes
+//! whole texts, and re-exports these values. Contracts see a map as the list of its entries in the
 //! order of their names, and a bare `Node` or `TaskSig` by its view.
 #![tactic(auto)]
 
@@ -20,6 +20,7 @@ mod node;
 mod primitive;
 mod reach;
 mod task_sig;
+mod writing;
 
 pub use by_parts::law_of_parts;
 pub use canvas::Canvas;
@@ -30,3 +31,7 @@ pub use fault::SigFault;
 pub use node::Node;
 pub use primitive::Primitive;
 pub use task_sig::TaskSig;
+pub use writing::{
+    write_args, write_closing, write_end, write_flag, write_front, write_kind, write_kwargs,
+    write_named, write_tree,
+};

@@ -5,7 +5,7 @@ use Rattle.json.specs.Token.{Token, begin_array, end_array, end_object, key}
 use Rattle.json.specs.Print.{print}
 use Rattle.serde_json.specs.Data.{Data, string}
 use Rattle.serde_json.specs.Written.{compact_text}
-use Rattle.canvas_wire.specs.steps.Tokens.{data_tokens, rest_tokens, closing_tokens}
+use Rattle.canvas_values.specs.steps.Tokens.{data_tokens, rest_tokens, closing_tokens}
 use Rattle.canvas_semantics.specs.PlacedLine.{PTask, p_task, PPlace, p_nowhere, p_group, p_chord, PLine, p_stop, p_step, p_group_end, p_chord_end, PLines}
 use Rattle.canvas_envelope.specs.Content.{end_place, place_of}
 use Rattle.canvas_envelope.specs.SharedTexts.{SaysText, SaysRinged, ringed}

@@ -8,7 +8,7 @@ use Rattle.serde_json.proofs.OnLiterals.{serde_json_on_literals}
 use Rattle.serde_json.specs.Data.{Data, null, array, object, Items, item, no_items}
 use Rattle.serde_json.specs.Written.{compact_text}
 use Rattle.canvas_task.specs.declared.arg.Arg.{Arg}
-use Rattle.canvas_wire.specs.Writing.{args_wire, kwargs_wire}
+use Rattle.canvas_values.specs.Writing.{args_wire, kwargs_wire}
 use Rattle.canvas_semantics.specs.PlacedLine.{PLine}
 use Rattle.canvas_rewrite.specs.FrozenView.{p_tasks_of, p_task_view}
 use Rattle.canvas_rewrite.specs.declared.frozen.FrozenTask.{FrozenTask}

@@ -5,7 +5,7 @@ use Rattle.json.specs.Print.{begins, ends, print, print_from, separator, token_t
 use Rattle.serde_json.specs.Data.{Data, null, boolean, number, string, array, object, Items, no_items, item, Members, no_members, member}
 use Rattle.serde_json.specs.Written.{compact_text}
 use Rattle.serde_json.proofs.Texts.{print-outline}
-use Rattle.canvas_wire.specs.steps.Tokens.{data_tokens, rest_tokens, rest_members}
+use Rattle.canvas_values.specs.steps.Tokens.{data_tokens, rest_tokens, rest_members}
 
 -- whether these tokens leave a value just ended
 abbrev pub after : Bool → List Token → Bool

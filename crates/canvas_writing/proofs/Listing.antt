@@ -8,8 +8,8 @@ use Rattle.json.specs.Print.{print, print_from}
 use Rattle.serde_json.specs.Data.{Data, Items, no_items, item}
 use Rattle.serde_json.specs.Written.{compact_text, items_text, comma_if}
 use Rattle.json.specs.Written.{Written}
-use Rattle.canvas_wire.specs.steps.Tokens.{data_tokens}
-use Rattle.canvas_wire.proofs.Writers.{Stands}
+use Rattle.canvas_values.specs.steps.Tokens.{data_tokens}
+use Rattle.canvas_values.proofs.Written.Writers.{Stands}
 use Rattle.serde_json.proofs.Texts.{print-outline}
 use Rattle.canvas_semantics.specs.PlacedLine.{PTask, PLine, p_stop, p_step, p_group_end, p_chord_end}
 use Rattle.canvas_rewrite.specs.FrozenView.{p_steps, p_task_view, p_line_view, p_end_view}

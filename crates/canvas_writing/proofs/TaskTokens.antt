@@ -6,8 +6,8 @@ use Rattle.json.specs.Written.{Written}
 use Rattle.json.specs.Token.{Token, key, begin_object, end_object}
 use Rattle.serde_json.specs.Data.{Data, null, boolean, number, string, array, object, Items, no_items, item, Members, no_members, member}
 use Rattle.canvas_task.specs.declared.arg.Arg.{Arg}
-use Rattle.canvas_wire.specs.Writing.{args_wire, kwargs_wire, member_unless_empty, tasks_member, chord_members}
-use Rattle.canvas_wire.specs.steps.Tokens.{data_tokens, rest_members, front_tokens, flag_tokens, kwargs_tokens, Appends, link_tokens, member_tokens, kind_tokens, name_tokens, closing_tokens}
+use Rattle.canvas_values.specs.Writing.{args_wire, kwargs_wire, member_unless_empty, tasks_member, chord_members}
+use Rattle.canvas_values.specs.steps.Tokens.{data_tokens, rest_members, front_tokens, flag_tokens, kwargs_tokens, Appends, link_tokens, member_tokens, kind_tokens, name_tokens, closing_tokens}
 use Rattle.canvas_semantics.specs.PlacedLine.{PTask, p_task, PPlace, PLine, PLines, p_stop, p_step, p_group_end, p_chord_end}
 use Rattle.canvas_rewrite.specs.FrozenView.{p_tasks_of, p_lines_of, p_task_view, p_line_view, p_end_view}
 use Rattle.canvas_rewrite.specs.declared.frozen.FrozenTask.{FrozenTask, out-FrozenTask}

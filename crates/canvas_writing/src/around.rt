@@ -6,7 +6,7 @@
 //! only by whether a value just ended.
 
 ghost use Rattle.std.specs.Prelude.{◌≡◌, None, map};
-ghost use Rattle.canvas_wire.specs.steps.Tokens.{Appends};
+ghost use Rattle.canvas_values.specs.steps.Tokens.{Appends};
 ghost use Rattle.canvas_semantics.specs.PlacedLine.{p_stop};
 ghost use Rattle.canvas_rewrite.specs.FrozenView.{p_steps, p_task_view, p_line_view, p_end_view};
 ghost use Rattle.canvas_envelope.specs.MessageView.{place_seen};

@@ -1,7 +1,7 @@
 //! Frozen signatures as tokens of JSON.
 
 ghost use Rattle.std.specs.Prelude.{◌++◌, None, codes, map};
-ghost use Rattle.canvas_wire.specs.steps.Tokens.{Appends, data_tokens, rest_tokens, link_tokens};
+ghost use Rattle.canvas_values.specs.steps.Tokens.{Appends, data_tokens, rest_tokens, link_tokens};
 ghost use Rattle.canvas_rewrite.specs.FrozenView.{p_tasks_of, p_task_view, p_line_view, p_end_view};
 ghost use Rattle.canvas_writing.specs.steps.Tokens.{unless_null, task_behind, chain_before, members_of_end, group_of_end, list_tokens, tail_tokens, group_closing};
 ghost use Rattle.canvas_envelope.specs.MessageView.{place_seen};
@@ -13,7 +13,7 @@ use crate::pieces::{
     write_task_front,
 };
 use canvas_rewrite::{FrozenEnd, FrozenLine, FrozenTask, Place};
-use canvas_wire::write_end;
+use canvas_values::write_end;
 use json::Writer;
 use std::alloc::AllocError;
 

@@ -3,7 +3,7 @@
 ghost use Rattle.std.specs.Prelude.{◌∷◌, []};
 ghost use Rattle.std.specs.Str.{IsAscii};
 ghost use Rattle.json.specs.Token.{string};
-ghost use Rattle.canvas_wire.specs.steps.Tokens.{Appends, data_tokens};
+ghost use Rattle.canvas_values.specs.steps.Tokens.{Appends, data_tokens};
 ghost use Rattle.canvas_writing.specs.steps.Tokens.{named_tokens};
 ghost use Rattle.canvas_envelope.specs.Wire.{task_id, group_id};
 

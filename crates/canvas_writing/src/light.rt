@@ -6,7 +6,7 @@
 ghost use Rattle.std.specs.Prelude.{◌≡◌, true, Some, IfSome, string_bytes};
 ghost use Rattle.serde_json.specs.Written.{compact_text};
 ghost use Rattle.canvas_task.specs.Identifiers.{task_text};
-ghost use Rattle.canvas_wire.specs.Writing.{args_wire, kwargs_wire};
+ghost use Rattle.canvas_values.specs.Writing.{args_wire, kwargs_wire};
 ghost use Rattle.canvas_task.specs.Entries.{named};
 ghost use Rattle.canvas_semantics.specs.PlacedLine.{p_step, p_stop};
 ghost use Rattle.canvas_rewrite.specs.declared.frozen.FrozenTask.{out-FrozenTask};

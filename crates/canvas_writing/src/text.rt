@@ -6,7 +6,7 @@ ghost use Rattle.std.specs.Str.{IsAscii};
 ghost use Rattle.json.specs.Print.{escape, escape_byte, quoted};
 ghost use Rattle.serde_json.specs.Data.{string, array, object};
 ghost use Rattle.serde_json.specs.Written.{compact_text, items_text, members_text, comma_if};
-ghost use Rattle.canvas_wire.specs.Writing.{number_wire, numbers_wire, arg_wire, args_wire, kwargs_wire};
+ghost use Rattle.canvas_values.specs.Writing.{number_wire, numbers_wire, arg_wire, args_wire, kwargs_wire};
 ghost use Rattle.canvas_task.specs.Entries.{named};
 ghost use Rattle.canvas_task.specs.Identifiers.{task_text};
 ghost use Rattle.canvas_writing.specs.steps.Texts.{Adds};

@@ -4,7 +4,7 @@ use Rattle.std.specs.Prelude.{suc, codes, ◌&&◌, not, if◌then◌else◌}
 use Rattle.std.proofs.lemmas.List.{reverse-append}
 use Rattle.serde_json.specs.Data.{Data, string, array, Items, no_items, item, Members, member, no_members}
 use Rattle.canvas_sig.specs.steps.Clean.{IsAbove, behind_members, IsClean, AreClean, MembersClean}
-use Rattle.canvas_wire.specs.Writing.{member_unless_empty, tasks_member, chord_members}
+use Rattle.canvas_values.specs.Writing.{member_unless_empty, tasks_member, chord_members}
 use Rattle.canvas_sig.proofs.CleanWire.{args_clean, above_behind, kwargs_clean, all_above}
 use Rattle.canvas_values.proofs.ComposedLemmas.{both}
 use Rattle.canvas_semantics.specs.Line.{in_group}

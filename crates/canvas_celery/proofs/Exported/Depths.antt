@@ -3,7 +3,7 @@ use Rattle.std.proofs.Common.{◌≡◌, ℕ, ◌≤◌, ◌+◌, ◌*◌, max, 
 use Rattle.std.specs.Prelude.{codes, ◌&&◌, not}
 use Rattle.std.proofs.lemmas.List.{reverse-append}
 use Rattle.serde_json.specs.Data.{Data, Items, no_items, item, Members, depth, items_depth, members_depth}
-use Rattle.canvas_wire.specs.Writing.{member_unless_empty}
+use Rattle.canvas_values.specs.Writing.{member_unless_empty}
 use Rattle.canvas_sig.proofs.CleanWire.{args_depth, kwargs_depth}
 use Rattle.canvas_values.proofs.ComposedLemmas.{both}
 use Rattle.canvas_semantics.specs.Tree.{Call}

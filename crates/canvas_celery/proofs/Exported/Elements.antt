@@ -7,8 +7,8 @@ use Rattle.serde_json.specs.Data.{Data, null, no_items}
 use Rattle.canvas_task.specs.declared.arg.Arg.{Arg}
 use Rattle.canvas_task.proofs.Turns.{item_first}
 use Rattle.canvas_semantics.specs.PlacedLine.{PTask, PLine, p_stop}
-use Rattle.canvas_wire.specs.Writing.{args_wire, kwargs_wire, tasks_member, chord_members}
-use Rattle.canvas_wire.specs.steps.Tokens.{data_tokens, rest_tokens, rest_members, call_tokens, link_tokens, member_tokens, opening_tokens, kind_tokens, name_tokens}
+use Rattle.canvas_values.specs.Writing.{args_wire, kwargs_wire, tasks_member, chord_members}
+use Rattle.canvas_values.specs.steps.Tokens.{data_tokens, rest_tokens, rest_members, call_tokens, link_tokens, member_tokens, opening_tokens, kind_tokens, name_tokens}
 use Rattle.canvas_rewrite.specs.FrozenView.{p_tasks_of, p_steps, p_lines_of, p_task_view, p_line_view, p_end_view}
 use Rattle.canvas_rewrite.specs.declared.frozen.FrozenTask.{FrozenTask, out-FrozenTask}
 use Rattle.canvas_rewrite.specs.declared.frozen.FrozenLine.{FrozenLine, out-FrozenLine}

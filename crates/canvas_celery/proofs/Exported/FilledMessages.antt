@@ -10,7 +10,7 @@ use Rattle.json.specs.Token.{Token}
 use Rattle.json.specs.Tree.{json_tokens}
 use Rattle.serde_json.specs.Data.{Data, string}
 use Rattle.serde_json.specs.Written.{compact_text, outline}
-use Rattle.canvas_wire.specs.steps.Tokens.{data_tokens}
+use Rattle.canvas_values.specs.steps.Tokens.{data_tokens}
 use Rattle.canvas_task.specs.Text.{Text}
 use Rattle.canvas_envelope.specs.Content.{Content}
 use Rattle.canvas_celery.specs.Envelope.{body_wire, envelope_wire}

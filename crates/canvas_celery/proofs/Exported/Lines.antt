@@ -6,8 +6,8 @@ use Rattle.json.specs.Token.{Token, begin_array, end_array}
 use Rattle.serde_json.specs.Data.{null}
 use Rattle.canvas_task.proofs.Turns.{put_on, put_end, put_all}
 use Rattle.canvas_semantics.specs.PlacedLine.{PLine, p_stop, p_step, p_group_end, p_chord_end}
-use Rattle.canvas_wire.specs.steps.Tokens.{Appends, data_tokens, rest_tokens, link_tokens}
-use Rattle.canvas_wire.proofs.Writers.{Stands}
+use Rattle.canvas_values.specs.steps.Tokens.{Appends, data_tokens, rest_tokens, link_tokens}
+use Rattle.canvas_values.proofs.Written.Writers.{Stands}
 use Rattle.canvas_rewrite.specs.FrozenView.{p_lines_of, p_task_view, p_line_view, p_end_view}
 use Rattle.canvas_rewrite.specs.declared.frozen.FrozenTask.{FrozenTask}
 use Rattle.canvas_rewrite.specs.declared.frozen.FrozenLine.{FrozenLine, out-FrozenLine}

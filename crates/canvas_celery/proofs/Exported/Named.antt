@@ -11,7 +11,7 @@ use Rattle.canvas_values.specs.Answers.{judged}
 use Rattle.canvas_values.specs.Fields.{items, entries}
 use Rattle.canvas_values.specs.Grammar.{argument_of, arg_fault}
 use Rattle.canvas_values.specs.Refusals.{named_of, spelled_call}
-use Rattle.canvas_wire.specs.Writing.{arg_wire, args_wire, kwargs_wire}
+use Rattle.canvas_values.specs.Writing.{arg_wire, args_wire, kwargs_wire}
 use Rattle.canvas_values.specs.declared.fault.SigFault.{SigFault}
 use Rattle.canvas_values.proofs.FittingCalls.{ArgFits, ArgsFit, KwargsFit, CallFits}
 use Rattle.canvas_sig.proofs.RoundTrip.{arg_back}

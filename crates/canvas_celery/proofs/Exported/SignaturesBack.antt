@@ -5,7 +5,7 @@ use Rattle.std.specs.Cmp.Lexicographic.{slice_cmp}
 use Rattle.std.proofs.lemmas.List.{reverse-reverse, reverse-append}
 use Rattle.serde_json.specs.Data.{Data, null, object, Items, no_items, item, Members}
 use Rattle.canvas_values.specs.Fields.{field, items, listed, is_null}
-use Rattle.canvas_wire.specs.Writing.{member_unless_empty}
+use Rattle.canvas_values.specs.Writing.{member_unless_empty}
 use Rattle.canvas_values.proofs.ComposedLemmas.{both}
 use Rattle.canvas_values.proofs.FittingCalls.{CallFits}
 use Rattle.canvas_sig.proofs.RoundTrip.{list_or_null}

@@ -6,8 +6,8 @@ use Rattle.json.specs.Token.{Token, key, begin_array, begin_object, end_object, 
 use Rattle.serde_json.specs.Data.{Data, string, array, Items, no_items, item, Members}
 use Rattle.canvas_semantics.specs.Tree.{Call}
 use Rattle.canvas_semantics.specs.PlacedLine.{PTask, p_task, PTasks, PPlace, p_nowhere, p_group, p_chord, PLine, p_stop, p_step, p_group_end, p_chord_end}
-use Rattle.canvas_wire.specs.Writing.{tasks_member, chord_members, member_unless_empty}
-use Rattle.canvas_wire.specs.steps.Tokens.{data_tokens, rest_tokens, rest_members, front_tokens, flag_tokens, kwargs_tokens, kind_tokens, name_tokens, link_tokens, member_tokens, opening_tokens, closing_tokens}
+use Rattle.canvas_values.specs.Writing.{tasks_member, chord_members, member_unless_empty}
+use Rattle.canvas_values.specs.steps.Tokens.{data_tokens, rest_tokens, rest_members, front_tokens, flag_tokens, kwargs_tokens, kind_tokens, name_tokens, link_tokens, member_tokens, opening_tokens, closing_tokens}
 use Rattle.canvas_rewrite.specs.FrozenView.{p_tasks_of}
 use Rattle.canvas_envelope.specs.Content.{call_of}
 use Rattle.canvas_envelope.specs.Wire.{list_or_null}

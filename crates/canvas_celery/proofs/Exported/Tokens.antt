@@ -11,8 +11,8 @@ use Rattle.serde_json.specs.Data as json
 use Rattle.canvas_semantics.specs.PlacedLine.{PPlace, p_nowhere, p_group, p_chord}
 use Rattle.canvas_rewrite.specs.declared.frozen.Carried.{Carried}
 use Rattle.canvas_rewrite.specs.declared.frozen.Place.{Place, out-Place}
-use Rattle.canvas_wire.specs.steps.Tokens.{Appends, data_tokens}
-use Rattle.canvas_wire.proofs.Writers.{Stands}
+use Rattle.canvas_values.specs.steps.Tokens.{Appends, data_tokens}
+use Rattle.canvas_values.proofs.Written.Writers.{Stands}
 use Rattle.canvas_envelope.specs.MessageView.{place_view}
 use Rattle.canvas_writing.specs.steps.Tokens.{named_tokens}
 use Rattle.canvas_envelope.proofs.Seen.{group_place, chord_place}

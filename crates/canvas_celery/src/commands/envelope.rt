@@ -5,7 +5,7 @@ ghost use Rattle.base64.specs.Engines.{standard};
 ghost use Rattle.base64.specs.GeneralPurpose.{decoded_of, encode_of};
 ghost use Rattle.serde_json.specs.Data.{string};
 ghost use Rattle.serde_json.specs.Written.{compact_text};
-ghost use Rattle.canvas_wire.specs.steps.Tokens.{Appends, data_tokens};
+ghost use Rattle.canvas_values.specs.steps.Tokens.{Appends, data_tokens};
 ghost use Rattle.canvas_envelope.specs.Fits.{fits};
 ghost use Rattle.canvas_writing.specs.steps.Tokens.{named_tokens};
 ghost use Rattle.canvas_celery.specs.Envelope.{delivery_wire, properties_wire, envelope_wire, message_text};

@@ -8,7 +8,7 @@ use Rattle.serde_json.specs.Data.{string}
 use Rattle.canvas_task.specs.Text.{Text}
 use Rattle.canvas_task.proofs.Turns.{put_part}
 use Rattle.canvas_semantics.specs.Line.{name_at}
-use Rattle.canvas_wire.specs.steps.Tokens.{Appends, data_tokens, rest_tokens}
+use Rattle.canvas_values.specs.steps.Tokens.{Appends, data_tokens, rest_tokens}
 use Rattle.canvas_ran.specs.Calls.{names_wire}
 use Rattle.canvas_ran.specs.Fronts.{front_of, known_front}
 use Rattle.canvas_ran.specs.declared.calls.front.Front.{Front}

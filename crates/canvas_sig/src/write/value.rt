@@ -4,7 +4,7 @@ ghost use Rattle.std.specs.Prelude.{◌≡◌, IfOk, map, true};
 ghost use Rattle.serde_json.specs.View.{view};
 ghost use Rattle.canvas_values.specs.ComposedRefusals.{arg_ok};
 ghost use Rattle.canvas_values.specs.Grammar.{arg_reading};
-ghost use Rattle.canvas_wire.specs.Writing.{number_wire, arg_wire};
+ghost use Rattle.canvas_values.specs.Writing.{number_wire, arg_wire};
 
 use canvas_task::{Arg, Memory};
 use serde_json::Value;

@@ -2,8 +2,8 @@
 use Rattle.std.specs.Prelude.{ℕ, Bool, false, List, [], ◌∷◌, ◌++◌, Option, Some, None, decimal, codes}
 use Rattle.json.specs.Token.{Token, begin_array, end_array, begin_object, end_object, key, number}
 use Rattle.serde_json.specs.Data.{Data, null, string, Items, no_items, Members}
-use Rattle.canvas_wire.specs.Writing.{args_wire, kwargs_wire}
-use Rattle.canvas_wire.specs.steps.Tokens.{data_tokens, front_tokens, flag_tokens, kwargs_tokens, link_tokens, member_tokens, closing_tokens, kind_tokens, name_tokens}
+use Rattle.canvas_values.specs.Writing.{args_wire, kwargs_wire}
+use Rattle.canvas_values.specs.steps.Tokens.{data_tokens, front_tokens, flag_tokens, kwargs_tokens, link_tokens, member_tokens, closing_tokens, kind_tokens, name_tokens}
 use Rattle.canvas_semantics.specs.PlacedLine.{PTask, PLine, p_stop, p_step, p_group_end, p_chord_end, PLines, no_p_lines}
 use Rattle.canvas_envelope.specs.Content.{number_of, call_of, links_of, errbacks_of, place_of}
 use Rattle.canvas_envelope.specs.Wire.{task_id, group_id, place_id, task_wire, tasks_wire, line_wire}

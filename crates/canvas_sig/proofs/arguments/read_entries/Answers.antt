@@ -8,7 +8,7 @@ use Rattle.canvas_sig.specs.Datum.{view, seen}
 use Rattle.canvas_values.specs.Answers.{◌>>=◌, in_turn}
 use Rattle.canvas_values.specs.Grammar.{named_reading}
 use Rattle.canvas_sig.proofs.Each.{onto, one_more}
-use Rattle.canvas_wire.proofs.Named.{names, AllBelow, ascends_push, still_below}
+use Rattle.canvas_values.proofs.Written.Named.{names, AllBelow, ascends_push, still_below}
 use Rattle.canvas_sig.proofs.Parsed.{Named, next_member}
 use Rattle.canvas_sig.proofs.arguments.read_entries.Goals as goal
 

@@ -6,7 +6,7 @@ use Rattle.canvas_values.specs.Answers.{in_turn}
 use Rattle.canvas_values.specs.Grammar.{named_reading}
 use Rattle.canvas_sig.specs.steps.Names.{IsBelow}
 use Rattle.canvas_sig.proofs.Each.{onto}
-use Rattle.canvas_wire.proofs.Named.{names, AllBelow}
+use Rattle.canvas_values.proofs.Written.Named.{names, AllBelow}
 use Rattle.canvas_sig.proofs.arguments.read_few.Given as goal
 
 abbrev pub invariant-loop-member : goal.invariant-loop-member

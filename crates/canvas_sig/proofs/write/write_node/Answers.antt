@@ -1,7 +1,7 @@
 use Rattle.std.proofs.Common.{ap, ◌∙◌}
-use Rattle.canvas_wire.specs.Writing.{tree_wire}
+use Rattle.canvas_values.specs.Writing.{tree_wire}
 use Rattle.canvas_values.specs.SignatureView.{view}
-use Rattle.canvas_wire.proofs.Writers.{whole_text}
+use Rattle.canvas_values.proofs.Written.Writers.{whole_text}
 use Rattle.canvas_sig.proofs.write.write_node.Goals as goal
 
 pub returns : goal.returns

@@ -1,6 +1,6 @@
 use Rattle.std.proofs.Common.{◌∙◌, [], ◌∷◌, ◌++◌, codes, append-nil, refl, sym, ap}
 use Rattle.json.specs.Token.{key}
-use Rattle.canvas_wire.proofs.Writers.{after_ok, then_tokens}
+use Rattle.canvas_values.proofs.Written.Writers.{after_ok, then_tokens}
 use Rattle.canvas_writing.specs.steps.Around.{line_before}
 use Rattle.canvas_writing.proofs.TaskTokens.{alike}
 use Rattle.canvas_writing.proofs.AroundLines.{group_before, chord_before_is, only_end, only_tasks, long_end_before}

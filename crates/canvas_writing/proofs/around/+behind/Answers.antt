@@ -1,5 +1,5 @@
 use Rattle.std.proofs.Common.{◌∙◌, ◌++◌, append-nil, refl, sym, ap}
-use Rattle.canvas_wire.proofs.Writers.{after_ok}
+use Rattle.canvas_values.proofs.Written.Writers.{after_ok}
 use Rattle.canvas_writing.specs.steps.Around.{line_behind}
 use Rattle.canvas_writing.proofs.TaskTokens.{alike}
 use Rattle.canvas_writing.proofs.AroundLines.{group_behind, chord_behind_is, only_end, only_tasks, long_end_behind}

@@ -1,5 +1,5 @@
 use Rattle.std.proofs.Common.{◌∙◌, ◌++◌, append-nil, refl, sym, ap}
-use Rattle.canvas_wire.proofs.Writers.{after_ok}
+use Rattle.canvas_values.proofs.Written.Writers.{after_ok}
 use Rattle.canvas_writing.proofs.TaskTokens.{alike}
 use Rattle.canvas_writing.proofs.AroundLines.{one_before, more_before, none_before}
 use Rattle.canvas_writing.proofs.around.write_tasks_before.Goals as goal

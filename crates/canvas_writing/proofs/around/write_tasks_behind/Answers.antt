@@ -1,5 +1,5 @@
 use Rattle.std.proofs.Common.{◌∙◌, ◌++◌, append-nil, refl, sym, ap}
-use Rattle.canvas_wire.proofs.Writers.{after_ok}
+use Rattle.canvas_values.proofs.Written.Writers.{after_ok}
 use Rattle.canvas_writing.proofs.AroundLines.{one_behind, more_behind, none_behind}
 use Rattle.canvas_writing.proofs.around.write_tasks_behind.Goals as goal
 

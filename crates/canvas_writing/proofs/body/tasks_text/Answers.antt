@@ -1,8 +1,8 @@
 use Rattle.std.proofs.Common.{◌∙◌, [], ◌∷◌, ap, map}
 use Rattle.json.specs.Token.{begin_array}
 use Rattle.serde_json.specs.Data.{array}
-use Rattle.canvas_wire.specs.steps.Tokens.{rest_tokens}
-use Rattle.canvas_wire.proofs.Writers.{then_tokens, whole_text}
+use Rattle.canvas_values.specs.steps.Tokens.{rest_tokens}
+use Rattle.canvas_values.proofs.Written.Writers.{then_tokens, whole_text}
 use Rattle.canvas_rewrite.specs.FrozenView.{p_tasks_of, p_task_view}
 use Rattle.canvas_envelope.specs.Wire.{tasks_wire}
 use Rattle.canvas_writing.proofs.body.tasks_text.Goals as goal

@@ -1,5 +1,5 @@
 use Rattle.std.proofs.Common.{◌∙◌, Some, ap}
-use Rattle.canvas_wire.proofs.Writers.{whole_text}
+use Rattle.canvas_values.proofs.Written.Writers.{whole_text}
 use Rattle.canvas_rewrite.specs.FrozenView.{p_line_view}
 use Rattle.canvas_envelope.specs.Wire.{line_wire}
 use Rattle.canvas_writing.proofs.carried.line_text.Goals as goal

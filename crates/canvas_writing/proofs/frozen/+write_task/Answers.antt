@@ -3,13 +3,13 @@ use Rattle.std.proofs.lemmas.Result.{IfOk-from_err}
 use Rattle.json.specs.Token.{Token, begin_array, end_object, key}
 use Rattle.serde_json.specs.Data.{string}
 use Rattle.canvas_task.proofs.Turns.{put_part, put_on, put_end}
-use Rattle.canvas_wire.specs.steps.Tokens.{data_tokens, rest_tokens, member_tokens}
+use Rattle.canvas_values.specs.steps.Tokens.{data_tokens, rest_tokens, member_tokens}
 use Rattle.canvas_rewrite.specs.FrozenView.{p_tasks_of, p_lines_of, p_task_view, p_line_view}
 use Rattle.canvas_rewrite.specs.declared.frozen.Carried.{out-Carried}
 use Rattle.canvas_rewrite.specs.declared.frozen.FrozenLine.{FrozenLine}
 use Rattle.canvas_writing.specs.steps.Tokens.{named_tokens, each_tokens, opening_tokens}
 use Rattle.canvas_envelope.specs.Wire.{task_wire, tasks_wire, line_wire, members_wire}
-use Rattle.canvas_wire.proofs.Writers.{Stands, after_ok, then_tokens}
+use Rattle.canvas_values.proofs.Written.Writers.{Stands, after_ok, then_tokens}
 use Rattle.canvas_writing.proofs.TaskTokens.{alike, no_place, no_chord, a_chord, behind_is, task_written, chord_written, group_written, rest_written, no_link, some_link, opened}
 use Rattle.canvas_writing.proofs.LineTokens.{is_end, is_task, is_chain_to_end, is_chain}
 use Rattle.canvas_writing.proofs.frozen.+write_task.Goals as goal

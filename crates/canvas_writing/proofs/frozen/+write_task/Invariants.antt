@@ -1,6 +1,6 @@
 use Rattle.std.proofs.Common.{◌≡◌, ◌++◌, map, drop}
 use Rattle.canvas_rewrite.specs.FrozenView.{p_tasks_of, p_lines_of, p_task_view, p_line_view}
-use Rattle.canvas_wire.specs.steps.Tokens.{rest_tokens, member_tokens}
+use Rattle.canvas_values.specs.steps.Tokens.{rest_tokens, member_tokens}
 use Rattle.canvas_writing.specs.steps.Tokens.{each_tokens, chain_before}
 use Rattle.canvas_envelope.specs.Wire.{tasks_wire, members_wire}
 use Rattle.canvas_writing.proofs.frozen.+write_task.Given as goal

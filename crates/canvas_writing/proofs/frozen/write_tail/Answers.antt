@@ -1,5 +1,5 @@
 use Rattle.std.proofs.Common.{◌∙◌, ◌++◌, None, append-nil, refl, sym, ap}
-use Rattle.canvas_wire.specs.steps.Tokens.{data_tokens}
+use Rattle.canvas_values.specs.steps.Tokens.{data_tokens}
 use Rattle.canvas_rewrite.specs.FrozenView.{p_end_view}
 use Rattle.canvas_envelope.specs.Wire.{line_wire}
 use Rattle.canvas_writing.proofs.LineTokens.{no_tail, a_tail}

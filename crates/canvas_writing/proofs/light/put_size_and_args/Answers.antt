@@ -1,7 +1,7 @@
 use Rattle.std.proofs.Common.{◌++◌, false}
 use Rattle.std.specs.Prelude.{codes, decimal, string_bytes}
 use Rattle.serde_json.specs.Written.{items_text}
-use Rattle.canvas_wire.specs.Writing.{args_wire}
+use Rattle.canvas_values.specs.Writing.{args_wire}
 use Rattle.canvas_writing.proofs.KnownTexts.{then_ok, then_text, four}
 use Rattle.canvas_writing.proofs.light.put_size_and_args.Goals as goal
 

@@ -3,7 +3,7 @@ use Rattle.std.specs.Prelude.{codes, string_bytes}
 use Rattle.serde_json.specs.Data.{null, member, no_members}
 use Rattle.serde_json.specs.Written.{compact_text}
 use Rattle.canvas_task.specs.Identifiers.{task_text}
-use Rattle.canvas_wire.specs.Writing.{args_wire, kwargs_wire}
+use Rattle.canvas_values.specs.Writing.{args_wire, kwargs_wire}
 use Rattle.canvas_rewrite.specs.declared.frozen.FrozenTask.{out-FrozenTask}
 use Rattle.canvas_envelope.specs.Wire.{task_id, frozen_wire}
 use Rattle.canvas_writing.specs.steps.Texts.{call_text, own_text, name_text}

@@ -1,6 +1,6 @@
 use Rattle.std.proofs.Common.{[], ◌∷◌, codes}
 use Rattle.json.specs.Token.{key}
-use Rattle.canvas_wire.proofs.Writers.{after_ok}
+use Rattle.canvas_values.proofs.Written.Writers.{after_ok}
 use Rattle.canvas_writing.proofs.TaskTokens.{a_group}
 use Rattle.canvas_writing.proofs.pieces.write_group.Goals as goal
 

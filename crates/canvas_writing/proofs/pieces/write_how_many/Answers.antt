@@ -1,7 +1,7 @@
 use Rattle.std.proofs.Common.{rules, [], ◌∷◌, codes, ap}
 use Rattle.std.specs.Prelude.{decimal}
 use Rattle.json.specs.Token.{key, number}
-use Rattle.canvas_wire.proofs.Writers.{after_ok}
+use Rattle.canvas_values.proofs.Written.Writers.{after_ok}
 use Rattle.canvas_writing.proofs.pieces.write_how_many.Goals as goal
 
 pub returns : goal.returns

@@ -1,8 +1,8 @@
 use Rattle.std.proofs.Common.{rules, [], ◌∷◌, codes, false}
 use Rattle.json.specs.Token.{key, begin_object}
-use Rattle.canvas_wire.proofs.Writers.{after_ok, then_tokens}
+use Rattle.canvas_values.proofs.Written.Writers.{after_ok, then_tokens}
 use Rattle.serde_json.specs.Data.{no_items}
-use Rattle.canvas_wire.specs.steps.Tokens.{flag_tokens}
+use Rattle.canvas_values.specs.steps.Tokens.{flag_tokens}
 use Rattle.canvas_writing.specs.steps.Tokens.{start_tokens}
 use Rattle.canvas_writing.proofs.TaskTokens.{opened}
 use Rattle.canvas_writing.proofs.pieces.write_opening.Goals as goal

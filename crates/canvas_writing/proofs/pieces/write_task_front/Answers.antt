@@ -1,6 +1,6 @@
 use Rattle.std.proofs.Common.{rules, ◌∙◌, [], ◌∷◌, codes}
 use Rattle.json.specs.Token.{begin_object, key}
-use Rattle.canvas_wire.proofs.Writers.{after_ok, then_tokens}
+use Rattle.canvas_values.proofs.Written.Writers.{after_ok, then_tokens}
 use Rattle.canvas_writing.proofs.TaskTokens.{front_is}
 use Rattle.canvas_writing.proofs.pieces.write_task_front.Goals as goal
 

@@ -1,6 +1,6 @@
 use Rattle.std.proofs.Common.{ap, ◌∙◌}
 use Rattle.serde_json.specs.Data.{string}
-use Rattle.canvas_wire.proofs.Writers.{whole_text}
+use Rattle.canvas_values.proofs.Written.Writers.{whole_text}
 use Rattle.canvas_writing.proofs.text.escaped.Goals as goal
 
 pub returns : goal.returns

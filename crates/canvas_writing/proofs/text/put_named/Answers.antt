@@ -4,7 +4,7 @@ use Rattle.std.specs.Prelude.{string_bytes}
 use Rattle.serde_json.specs.Written.{comma_if, compact_text, members_text}
 use Rattle.canvas_task.specs.Entries.{named}
 use Rattle.canvas_task.proofs.Turns.{put_part}
-use Rattle.canvas_wire.specs.Writing.{arg_wire, kwargs_wire}
+use Rattle.canvas_values.specs.Writing.{arg_wire, kwargs_wire}
 use Rattle.json.specs.Print.{quoted}
 use Rattle.canvas_writing.proofs.text.put_named.Goals as goal
 

@@ -2,7 +2,7 @@ use Rattle.std.proofs.Common.{◌≡◌, ◌++◌, false}
 use Rattle.std.specs.Prelude.{string_bytes}
 use Rattle.serde_json.specs.Written.{members_text}
 use Rattle.canvas_task.specs.Entries.{named}
-use Rattle.canvas_wire.specs.Writing.{kwargs_wire}
+use Rattle.canvas_values.specs.Writing.{kwargs_wire}
 use Rattle.canvas_writing.proofs.text.put_named.Given as goal
 
 abbrev pub invariant-loop-name : goal.invariant-loop-name

@@ -1,7 +1,7 @@
 use Rattle.std.proofs.Common.{◌≡◌, ◌++◌, false, drop}
 use Rattle.std.specs.Prelude.{string_bytes}
 use Rattle.serde_json.specs.Written.{items_text}
-use Rattle.canvas_wire.specs.Writing.{numbers_wire}
+use Rattle.canvas_values.specs.Writing.{numbers_wire}
 use Rattle.canvas_writing.proofs.text.put_numbers.Given as goal
 
 abbrev pub invariant-loop-number : goal.invariant-loop-number

@@ -1,7 +1,7 @@
 use Rattle.std.proofs.Common.{◌∙◌, refl, ap}
 use Rattle.serde_json.specs.Data.{string}
 use Rattle.serde_json.specs.Written.{compact_text}
-use Rattle.canvas_wire.proofs.Writers.{whole_text}
+use Rattle.canvas_values.proofs.Written.Writers.{whole_text}
 use Rattle.canvas_celery.specs.Envelope.{envelope_wire}
 use Rattle.canvas_celery.specs.ExportView.{naming}
 use Rattle.canvas_celery.proofs.Exported.MessageBack.{kept_by}

@@ -1,8 +1,8 @@
 use Rattle.std.proofs.Common.{[], ◌∷◌, ◌∙◌, codes, ap}
 use Rattle.json.specs.Token.{begin_object, end_object, key}
 use Rattle.serde_json.specs.Data.{string}
-use Rattle.canvas_wire.specs.steps.Tokens.{data_tokens}
-use Rattle.canvas_wire.proofs.Writers.{after_ok, then_tokens}
+use Rattle.canvas_values.specs.steps.Tokens.{data_tokens}
+use Rattle.canvas_values.proofs.Written.Writers.{after_ok, then_tokens}
 use Rattle.canvas_envelope.specs.Content.{number_of}
 use Rattle.canvas_celery.specs.Envelope.{headers_wire, properties_wire}
 use Rattle.canvas_celery.specs.ExportView.{naming}

@@ -1,6 +1,6 @@
 use Rattle.std.proofs.Common.{[], ◌∷◌, refl}
 use Rattle.json.specs.Token.{begin_object, end_object}
-use Rattle.canvas_wire.proofs.Writers.{after_ok, then_tokens}
+use Rattle.canvas_values.proofs.Written.Writers.{after_ok, then_tokens}
 use Rattle.canvas_celery.proofs.Exported.Lines.{appended}
 use Rattle.canvas_celery.proofs.commands.envelope.write_properties.Goals as goal
 

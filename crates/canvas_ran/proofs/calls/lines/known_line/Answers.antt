@@ -1,5 +1,5 @@
 use Rattle.std.proofs.Common.{◌∙◌}
-use Rattle.canvas_wire.proofs.Writers.{whole_text}
+use Rattle.canvas_values.proofs.Written.Writers.{whole_text}
 use Rattle.canvas_ran.specs.Calls.{known_wire}
 use Rattle.canvas_ran.proofs.calls.lines.known_line.Goals as goal
 

@@ -2,7 +2,7 @@ use Rattle.std.proofs.Common.{◌∙◌, ◌++◌, ap, arith, [], ◌∷◌, rul
 use Rattle.json.specs.Token.{end_array}
 use Rattle.serde_json.specs.Data.{string}
 use Rattle.canvas_semantics.specs.Line.{names}
-use Rattle.canvas_wire.specs.steps.Tokens.{data_tokens}
+use Rattle.canvas_values.specs.steps.Tokens.{data_tokens}
 use Rattle.canvas_report.proofs.ReportLines.{names_long}
 use Rattle.canvas_ran.specs.Calls.{known_name}
 use Rattle.canvas_ran.proofs.Called.KnownNames.{end_ok, name_on, names_end}

@@ -1,6 +1,6 @@
 use Rattle.std.proofs.Common.{◌≡◌, ◌++◌, drop}
 use Rattle.canvas_semantics.specs.Line.{names}
-use Rattle.canvas_wire.specs.steps.Tokens.{rest_tokens}
+use Rattle.canvas_values.specs.steps.Tokens.{rest_tokens}
 use Rattle.canvas_ran.specs.Calls.{names_wire}
 use Rattle.canvas_ran.proofs.calls.lines.write_names.Given as goal
 

@@ -1,6 +1,6 @@
 use Rattle.std.proofs.Common.{[], ◌∷◌, codes, refl}
 use Rattle.json.specs.Token.{key}
-use Rattle.canvas_wire.proofs.Writers.{after_ok}
+use Rattle.canvas_values.proofs.Written.Writers.{after_ok}
 use Rattle.canvas_ran.proofs.calls.lines.write_parent.Goals as goal
 
 pub returns : goal.returns

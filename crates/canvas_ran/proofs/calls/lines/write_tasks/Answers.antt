@@ -1,6 +1,6 @@
 use Rattle.std.proofs.Common.{◌∙◌, refl}
 use Rattle.canvas_task.proofs.Turns.{put_on}
-use Rattle.canvas_wire.specs.steps.Tokens.{data_tokens, rest_tokens}
+use Rattle.canvas_values.specs.steps.Tokens.{data_tokens, rest_tokens}
 use Rattle.canvas_envelope.specs.Wire.{task_id}
 use Rattle.canvas_report.specs.JsonRows.{identifiers_wire}
 use Rattle.canvas_ran.proofs.calls.lines.write_tasks.Goals as goal

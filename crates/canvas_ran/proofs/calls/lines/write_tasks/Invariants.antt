@@ -1,5 +1,5 @@
 use Rattle.std.proofs.Common.{◌≡◌, ◌++◌, drop}
-use Rattle.canvas_wire.specs.steps.Tokens.{rest_tokens}
+use Rattle.canvas_values.specs.steps.Tokens.{rest_tokens}
 use Rattle.canvas_report.specs.JsonRows.{identifiers_wire}
 use Rattle.canvas_ran.proofs.calls.lines.write_tasks.Given as goal
 

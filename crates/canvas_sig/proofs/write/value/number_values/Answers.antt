@@ -2,7 +2,7 @@ use Rattle.std.proofs.Common.{◌≡◌, ◌∙◌, ◌++◌, ◌∷◌, [], Non
 use Rattle.std.proofs.lemmas.List.{map_push, take_more}
 use Rattle.serde_json.specs.View.{view}
 use Rattle.canvas_values.specs.Grammar.{some_or_zero}
-use Rattle.canvas_wire.specs.Writing.{number_wire}
+use Rattle.canvas_values.specs.Writing.{number_wire}
 use Rattle.canvas_sig.proofs.write.value.number_values.Goals as goal
 
 pub loop-number-preserved : goal.loop-number-preserved

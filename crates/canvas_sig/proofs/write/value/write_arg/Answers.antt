@@ -1,9 +1,9 @@
 use Rattle.std.proofs.Common.{ap, sym, ◌∙◌, map}
 use Rattle.canvas_values.specs.Grammar.{arg_reading}
-use Rattle.canvas_wire.specs.Writing.{number_wire, arg_wire}
+use Rattle.canvas_values.specs.Writing.{number_wire, arg_wire}
 use Rattle.canvas_values.proofs.ComposedLemmas.{arg_fits}
 use Rattle.canvas_sig.proofs.RoundTrip.{arg_back}
-use Rattle.canvas_wire.proofs.Writers.{list_value}
+use Rattle.canvas_values.proofs.Written.Writers.{list_value}
 use Rattle.canvas_sig.proofs.write.value.write_arg.Goals as goal
 
 pub returns-in_ok-number_values-in-List : goal.returns-in_ok-number_values-in-List

@@ -1,5 +1,5 @@
 use Rattle.std.proofs.Common.{◌∙◌}
-use Rattle.canvas_wire.proofs.Writers.{whole_text}
+use Rattle.canvas_values.proofs.Written.Writers.{whole_text}
 use Rattle.canvas_celery.specs.Envelope.{body_wire}
 use Rattle.canvas_celery.specs.ExportView.{naming}
 use Rattle.canvas_celery.proofs.Exported.Tokens.{whole_tokens, whole_utf8}

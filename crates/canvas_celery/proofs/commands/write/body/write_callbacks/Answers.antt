@@ -1,6 +1,6 @@
 use Rattle.std.proofs.Common.{[], ◌∷◌, ◌∙◌, sym}
 use Rattle.json.specs.Token.{null, begin_array}
-use Rattle.canvas_wire.proofs.Writers.{after_ok}
+use Rattle.canvas_values.proofs.Written.Writers.{after_ok}
 use Rattle.canvas_celery.specs.ExportView.{naming}
 use Rattle.canvas_celery.proofs.Exported.Tokens.{appends_as}
 use Rattle.canvas_celery.proofs.Exported.Lines.{appended}

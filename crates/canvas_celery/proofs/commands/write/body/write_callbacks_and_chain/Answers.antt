@@ -1,7 +1,7 @@
 use Rattle.std.proofs.Common.{[], ◌∷◌, map, reverse, codes, append_assoc}
 use Rattle.json.specs.Token.{key, begin_object}
-use Rattle.canvas_wire.specs.steps.Tokens.{data_tokens}
-use Rattle.canvas_wire.proofs.Writers.{after_ok, then_tokens}
+use Rattle.canvas_values.specs.steps.Tokens.{data_tokens}
+use Rattle.canvas_values.proofs.Written.Writers.{after_ok, then_tokens}
 use Rattle.canvas_rewrite.specs.FrozenView.{p_tasks_of, p_task_view}
 use Rattle.canvas_writing.specs.steps.Tokens.{named_tokens}
 use Rattle.canvas_envelope.specs.MessageView.{rest_seen}

@@ -1,6 +1,6 @@
 use Rattle.std.proofs.Common.{[], ◌∷◌, ◌∙◌, ap, sym}
 use Rattle.json.specs.Token.{null}
-use Rattle.canvas_wire.specs.steps.Tokens.{data_tokens}
+use Rattle.canvas_values.specs.steps.Tokens.{data_tokens}
 use Rattle.canvas_rewrite.specs.FrozenView.{p_line_view}
 use Rattle.canvas_envelope.specs.MessageView.{place_seen}
 use Rattle.canvas_envelope.proofs.Seen.{group_place, chord_place}

@@ -1,6 +1,6 @@
 use Rattle.std.proofs.Common.{[], ◌∷◌, ◌∙◌, sym, ap}
 use Rattle.json.specs.Token.{null, begin_array, end_array}
-use Rattle.canvas_wire.proofs.Writers.{after_ok, then_tokens}
+use Rattle.canvas_values.proofs.Written.Writers.{after_ok, then_tokens}
 use Rattle.canvas_rewrite.specs.FrozenView.{p_line_view}
 use Rattle.canvas_celery.specs.ExportView.{naming}
 use Rattle.canvas_celery.proofs.Exported.Tokens.{appends_as}

@@ -1,6 +1,6 @@
 use Rattle.std.proofs.Common.{[], ◌∷◌, reverse, ap, sym}
 use Rattle.json.specs.Token.{null}
-use Rattle.canvas_wire.specs.steps.Tokens.{data_tokens}
+use Rattle.canvas_values.specs.steps.Tokens.{data_tokens}
 use Rattle.canvas_envelope.specs.MessageView.{rest_seen}
 use Rattle.canvas_envelope.specs.Wire.{list_or_null}
 use Rattle.canvas_celery.specs.Signatures.{each_wire, elements}

@@ -2,8 +2,8 @@ use Rattle.std.proofs.Common.{◌≡◌, ◌-◌, [], ◌∷◌, ◌++◌, ◌�
 use Rattle.std.proofs.lemmas.Result.{IfOk-from_err}
 use Rattle.std.proofs.lemmas.List.{drop_all}
 use Rattle.json.specs.Token.{null, key, begin_array, begin_object, end_array, end_object}
-use Rattle.canvas_wire.specs.steps.Tokens.{data_tokens}
-use Rattle.canvas_wire.proofs.Writers.{after_ok, then_tokens}
+use Rattle.canvas_values.specs.steps.Tokens.{data_tokens}
+use Rattle.canvas_values.proofs.Written.Writers.{after_ok, then_tokens}
 use Rattle.canvas_rewrite.specs.FrozenView.{p_task_view, p_line_view, p_end_view}
 use Rattle.canvas_envelope.specs.MessageView.{place_seen}
 use Rattle.canvas_writing.specs.steps.Tokens.{named_tokens}

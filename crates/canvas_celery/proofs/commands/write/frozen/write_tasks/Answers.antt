@@ -1,6 +1,6 @@
 use Rattle.std.proofs.Common.{[], ◌∷◌, map}
 use Rattle.json.specs.Token.{end_array}
-use Rattle.canvas_wire.proofs.Writers.{after_ok}
+use Rattle.canvas_values.proofs.Written.Writers.{after_ok}
 use Rattle.canvas_rewrite.specs.FrozenView.{p_task_view}
 use Rattle.canvas_celery.specs.ExportView.{naming}
 use Rattle.canvas_celery.proofs.Exported.Sigs.{tasks_items}

@@ -1,7 +1,7 @@
 use Rattle.std.proofs.Common.{[], ◌∷◌, ◌∙◌, ap}
 use Rattle.json.specs.Token.{begin_object, end_object}
-use Rattle.canvas_wire.specs.steps.Tokens.{data_tokens}
-use Rattle.canvas_wire.proofs.Writers.{after_ok, then_tokens}
+use Rattle.canvas_values.specs.steps.Tokens.{data_tokens}
+use Rattle.canvas_values.proofs.Written.Writers.{after_ok, then_tokens}
 use Rattle.canvas_envelope.specs.Content.{number_of, place_of, call_of}
 use Rattle.canvas_envelope.specs.MessageView.{place_seen}
 use Rattle.canvas_celery.specs.ExportView.{naming}

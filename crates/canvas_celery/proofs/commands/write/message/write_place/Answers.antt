@@ -1,5 +1,5 @@
 use Rattle.std.proofs.Common.{◌∙◌, ap, sym}
-use Rattle.canvas_wire.proofs.Writers.{after_ok}
+use Rattle.canvas_values.proofs.Written.Writers.{after_ok}
 use Rattle.canvas_envelope.specs.MessageView.{place_seen}
 use Rattle.canvas_celery.specs.ExportView.{naming}
 use Rattle.canvas_celery.specs.steps.Tokens.{header_place}

@@ -1,6 +1,6 @@
 use Rattle.std.proofs.Common.{[], ◌∷◌, refl}
 use Rattle.json.specs.Token.{key}
-use Rattle.canvas_wire.proofs.Writers.{after_ok}
+use Rattle.canvas_values.proofs.Written.Writers.{after_ok}
 use Rattle.canvas_celery.proofs.Exported.Ascii.{run_group_ascii}
 use Rattle.canvas_celery.proofs.commands.write.names.write_group_member.Goals as goal
 

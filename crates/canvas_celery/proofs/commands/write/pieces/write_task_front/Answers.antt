@@ -1,6 +1,6 @@
 use Rattle.std.proofs.Common.{[], ◌∷◌, ◌∙◌, codes}
 use Rattle.json.specs.Token.{key, begin_object}
-use Rattle.canvas_wire.proofs.Writers.{after_ok, then_tokens}
+use Rattle.canvas_values.proofs.Written.Writers.{after_ok, then_tokens}
 use Rattle.canvas_celery.proofs.Exported.Lines.{appended}
 use Rattle.canvas_celery.proofs.Exported.Elements.{front_written}
 use Rattle.canvas_celery.proofs.commands.write.pieces.write_task_front.Goals as goal
