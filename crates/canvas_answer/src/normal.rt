@@ -7,11 +7,11 @@ ghost use Rattle.canvas_answer.specs.Normal.{IsNormalNode, IsNormalText, numbere
 
 use crate::answer::Answer;
 use crate::refusal::Refusal;
+use canvas_envelope::numbered_text;
 use canvas_rewrite::{Plan, node_of, normalise};
 use canvas_sig::{Canvas, write_node};
 use canvas_task::Memory;
 use canvas_values::Node;
-use canvas_writing::numbered_text;
 use std::alloc::{AllocError, Global};
 
 /// Returns the normal line of a canvas, as a signature.

@@ -17,7 +17,7 @@ use Rattle.canvas_envelope.specs.Content.{Content, number_of}
 use Rattle.canvas_envelope.specs.Fits.{fits}
 use Rattle.canvas_envelope.specs.Wire.{parent_id, place_id, member_unless_null, size_member, frozen_wire, task_options, call_wire, chain_wire, group_options, group_wire, chord_wire, task_wire, tasks_wire, carried_wire, line_wire, elements_wire, members_wire, onto_reversed, list_or_null, embed_wire, body_wire, headers_wire, properties_wire}
 use Rattle.canvas_codec.proofs.CleanMessage.{texts}
-use Rattle.canvas_writing.proofs.IdentifierTexts.{task_ascii, group_ascii}
+use Rattle.canvas_envelope.proofs.Written.IdentifierTexts.{task_ascii, group_ascii}
 use Rattle.canvas_codec.proofs.Utf8Data.{IsUtf8Data, AreUtf8Items, AreUtf8Members, compact_utf8}
 
 -- ---- what a message carries

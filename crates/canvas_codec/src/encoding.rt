@@ -9,11 +9,11 @@ ghost use Rattle.canvas_envelope.specs.EnvelopeFaults.{Says};
 ghost use Rattle.canvas_envelope.specs.Pieces.{body_text, embed_text, joined};
 ghost use Rattle.canvas_envelope.specs.Wire.{properties_wire, headers_wire, body_wire};
 
-use canvas_envelope::{Envelope, Followed, Message, Pieces};
-use canvas_task::{ListOf, Memory, TaskNo};
-use canvas_writing::{
-    Body, body_of, body_of_followed, put_parent_id, put_place_id, put_string, put_task_id,
+use canvas_envelope::{
+    Body, Envelope, Followed, Message, Pieces, body_of, body_of_followed, put_parent_id,
+    put_place_id, put_string, put_task_id,
 };
+use canvas_task::{ListOf, Memory, TaskNo};
 use std::alloc::{AllocError, Global};
 
 /// Returns the bytes of a text, which are UTF-8.

@@ -8,9 +8,10 @@ ghost use Rattle.canvas_envelope.specs.Wire.{properties_wire, headers_wire, body
 
 use crate::decode;
 use crate::encoding::{pieces_of, pieces_of_followed};
-use canvas_envelope::{Envelope, Followed, Letter, Message, MessageFault, Unplaced, following};
+use canvas_envelope::{
+    Envelope, Followed, Letter, Message, MessageFault, Unplaced, following, line_text,
+};
 use canvas_task::Memory;
-use canvas_writing::line_text;
 use std::alloc::{AllocError, Global};
 
 /// Writes the text of the rest of a message's line, and counts the first tasks there without a

@@ -14,7 +14,7 @@ use Rattle.canvas_semantics.specs.PlacedLine.{PTask, PPlace, p_nowhere, p_chord,
 use Rattle.canvas_envelope.specs.SharedTexts.{AreEnds, AreTexts, IsLineText, SaysRinged, SaysCarried, core_of, inner_place, place_behind, rings_of}
 use Rattle.canvas_envelope.specs.Unplaced.{AreUnplaced}
 use Rattle.canvas_envelope.specs.declared.texts.Texts.{Texts}
-use Rattle.canvas_envelope.specs.declared.carried_text.CarriedText.{CarriedText}
+use Rattle.canvas_envelope.specs.declared.nested_text.CarriedText.{CarriedText}
 use Rattle.canvas_envelope.specs.steps.Parts.{is_stop}
 use Rattle.canvas_effects.specs.Placing.{placed, end_place}
 use Rattle.canvas_effects.specs.Carrying.{carrying_place}

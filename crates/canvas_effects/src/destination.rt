@@ -5,9 +5,8 @@ ghost use Rattle.canvas_envelope.specs.MessageView.{place_view};
 ghost use Rattle.canvas_envelope.specs.SharedTexts.{SaysCarried, inner_place};
 
 use crate::copies::share_place;
-use canvas_envelope::{CarriedText, share_text};
+use canvas_envelope::{CarriedText, carried_text, share_text};
 use canvas_rewrite::Place;
-use canvas_writing::carried_text;
 use std::alloc::{AllocError, Global};
 use std::marker::Model;
 use std::sync::Arc;

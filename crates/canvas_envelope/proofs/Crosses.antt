@@ -16,8 +16,8 @@ use Rattle.canvas_envelope.specs.contracts.followed.Followed as Followed
 use Rattle.canvas_envelope.specs.contracts.kept.Compact as Compact
 use Rattle.canvas_envelope.specs.contracts.letter.Letter as Letter
 use Rattle.canvas_envelope.specs.contracts.message.Message as Message
-use Rattle.canvas_envelope.proofs.carried_text.CarriedText.TheSendSync.{the_send as carried_send, the_sync as carried_sync}
-use Rattle.canvas_envelope.proofs.carried_text.Ring.TheSendSync.{the_send as ring_send, the_sync as ring_sync}
+use Rattle.canvas_envelope.proofs.nested_text.CarriedText.TheSendSync.{the_send as carried_send, the_sync as carried_sync}
+use Rattle.canvas_envelope.proofs.nested_text.Ring.TheSendSync.{the_send as ring_send, the_sync as ring_sync}
 use Rattle.canvas_envelope.proofs.pieces.LinePiece.TheSendSync.{the_send as line_piece_send}
 use Rattle.canvas_envelope.proofs.pieces.Piece.TheSendSync.{the_send as piece_send}
 use Rattle.canvas_envelope.proofs.pieces.Pieces.TheSendSync.{the_send as pieces_send}

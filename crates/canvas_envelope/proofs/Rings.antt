@@ -2,7 +2,7 @@
 use Rattle.std.proofs.Common.{◌≡◌, ◌∙◌, ◌<◌, ◌+◌, ℕ, List, [], ◌∷◌, ◌++◌, map, length, get_or, drop, refl, ap}
 use Rattle.std.proofs.lemmas.List.{map_push}
 use Rattle.canvas_task.proofs.Turns.{put_on}
-use Rattle.canvas_envelope.specs.declared.carried_text.Ring.{Ring}
+use Rattle.canvas_envelope.specs.declared.nested_text.Ring.{Ring}
 use Rattle.canvas_envelope.specs.SharedTexts.{ring_view}
 
 -- one more turn of a loop that shares

@@ -12,8 +12,8 @@ use Rattle.serde_json.specs.Written.{compact_text, items_text}
 use Rattle.canvas_semantics.specs.PlacedLine.{PPlace, p_nowhere, p_group, p_chord, PLine, p_stop, p_step, p_group_end, p_chord_end}
 use Rattle.canvas_envelope.specs.Content.{end_place}
 use Rattle.canvas_envelope.specs.Wire.{elements_wire, line_wire, onto_reversed}
-use Rattle.canvas_envelope.specs.declared.carried_text.CarriedText.{CarriedText}
-use Rattle.canvas_envelope.specs.declared.carried_text.Ring.{Ring}
+use Rattle.canvas_envelope.specs.declared.nested_text.CarriedText.{CarriedText}
+use Rattle.canvas_envelope.specs.declared.nested_text.Ring.{Ring}
 use Rattle.canvas_envelope.specs.declared.texts.Head.{Head}
 use Rattle.canvas_envelope.specs.declared.texts.LineText.{LineText}
 use Rattle.canvas_envelope.specs.declared.texts.Texts.{Texts}

@@ -1,9 +1,8 @@
-//! Messages as a queue carries them: their data, and what they can hold. What their texts are is
-//! defined here too (`Wire`), since a message may hold some of them.
+//! Messages as a queue carries them: their data, what they can hold, and how their texts (`Wire`)
+//! are written, some of which a message may hold.
 #![tactic(auto)]
 
 mod carried;
-mod carried_text;
 mod draft;
 mod embed;
 mod envelope;
@@ -13,12 +12,13 @@ mod followed;
 mod kept;
 mod letter;
 mod message;
+mod nested_text;
 mod pieces;
 mod texts;
 mod unplaced;
+mod writing;
 
 pub use carried::share_carried;
-pub use carried_text::{CarriedText, Ring};
 pub use draft::Draft;
 pub use embed::Embed;
 pub use envelope::Envelope;
@@ -27,6 +27,11 @@ pub use fits::{MOST_MEMBERS, following};
 pub use followed::Followed;
 pub use letter::Letter;
 pub use message::Message;
+pub use nested_text::{CarriedText, Ring};
 pub use pieces::{LinePiece, Piece, Pieces};
 pub use texts::{ElementsText, Head, LineText, Texts, share_text};
 pub use unplaced::Unplaced;
+pub use writing::{
+    Body, ascii, body_of, body_of_followed, carried_text, line_text, numbered_text, put_parent_id,
+    put_place_id, put_string, put_task_id,
+};

@@ -3,7 +3,7 @@ use Rattle.std.proofs.Common.{◌≡◌, ℕ, true, List}
 use Rattle.std.specs.Str.{IsUtf8, IsAscii}
 use Rattle.std.proofs.lemmas.Str.{IsUtf8-from_ascii}
 use Rattle.canvas_task.specs.Text.{Text}
-use Rattle.canvas_writing.proofs.IdentifierTexts.{task_ascii, group_ascii}
+use Rattle.canvas_envelope.proofs.Written.IdentifierTexts.{task_ascii, group_ascii}
 use Rattle.canvas_celery.specs.Run.{all_digits, run_task, run_group}
 use Rattle.canvas_celery.proofs.Pieces.{digits_ascii, in_run_ascii}
 

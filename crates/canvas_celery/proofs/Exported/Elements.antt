@@ -18,7 +18,7 @@ use Rattle.canvas_rewrite.specs.declared.frozen.Carried.{Carried, out-Carried}
 use Rattle.canvas_envelope.specs.Content.{call_of, links_of, errbacks_of}
 use Rattle.canvas_envelope.specs.MessageView.{place_view, place_seen}
 use Rattle.canvas_envelope.specs.Wire.{list_or_null}
-use Rattle.canvas_writing.specs.steps.Tokens.{named_tokens, links_tokens}
+use Rattle.canvas_envelope.specs.steps.Tokens.{named_tokens, links_tokens}
 use Rattle.canvas_envelope.proofs.Seen.{called, task_seen, chord_place, line_none, line_some, end_none, end_some}
 use Rattle.canvas_celery.specs.Signatures.{Naming, task_id, Sig, group_sig, chord_sigs, task_sig, tasks_wire, elements, members_wire, first_wire, carried_wire}
 use Rattle.canvas_celery.specs.steps.Elements.{front_tokens, call_front, sig_rest, first_front, each_tokens, task_sigs, tail_sigs, chord_option, group_options}

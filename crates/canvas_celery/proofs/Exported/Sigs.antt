@@ -11,7 +11,7 @@ use Rattle.canvas_values.specs.steps.Tokens.{data_tokens, rest_tokens, rest_memb
 use Rattle.canvas_rewrite.specs.FrozenView.{p_tasks_of}
 use Rattle.canvas_envelope.specs.Content.{call_of}
 use Rattle.canvas_envelope.specs.Wire.{list_or_null}
-use Rattle.canvas_writing.specs.steps.Tokens.{named_tokens, links_tokens, list_tokens}
+use Rattle.canvas_envelope.specs.steps.Tokens.{named_tokens, links_tokens, list_tokens}
 use Rattle.canvas_celery.specs.Signatures.{Naming, task_id, Sig, sig_wire, each_wire, own_option, place_options, task_sig, tasks_wire, body_at, chord_sigs, elements, members_wire, behind, first_wire, carried_wire, member_wire, chain_wire}
 use Rattle.canvas_celery.specs.steps.Elements as part
 use Rattle.canvas_celery.specs.steps.Elements.{sig_front, call_front, sig_rest, sig_tokens, first_front, first_rest, each_tokens, task_sigs, has_more, chord_option, group_options}

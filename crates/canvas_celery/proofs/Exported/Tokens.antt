@@ -14,7 +14,7 @@ use Rattle.canvas_rewrite.specs.declared.frozen.Place.{Place, out-Place}
 use Rattle.canvas_values.specs.steps.Tokens.{Appends, data_tokens}
 use Rattle.canvas_values.proofs.Written.Writers.{Stands}
 use Rattle.canvas_envelope.specs.MessageView.{place_view}
-use Rattle.canvas_writing.specs.steps.Tokens.{named_tokens}
+use Rattle.canvas_envelope.specs.steps.Tokens.{named_tokens}
 use Rattle.canvas_envelope.proofs.Seen.{group_place, chord_place}
 use Rattle.canvas_celery.specs.Signatures.{Naming, task_id, group_id, index_wire}
 use Rattle.canvas_celery.specs.Envelope.{place_headers, parent_id}

@@ -6,7 +6,7 @@ use Rattle.canvas_semantics.specs.Tree.{Call}
 use Rattle.canvas_semantics.specs.PlacedLine.{PTask, PPlace, p_nowhere, p_group, p_chord, PLine, p_stop, p_step, p_group_end, p_chord_end}
 use Rattle.canvas_values.specs.Writing.{args_wire, kwargs_wire}
 use Rattle.canvas_values.specs.steps.Tokens.{data_tokens, rest_members, call_tokens, kind_tokens, name_tokens}
-use Rattle.canvas_writing.specs.steps.Tokens.{named_tokens}
+use Rattle.canvas_envelope.specs.steps.Tokens.{named_tokens}
 use Rattle.canvas_celery.specs.Signatures.{Naming, group_id, index_wire, Sig, sig_wire, task_sig, elements, carried_wire}
 
 -- ---- one signature

@@ -7,7 +7,7 @@ ghost use Rattle.serde_json.specs.Data.{string};
 ghost use Rattle.serde_json.specs.Written.{compact_text};
 ghost use Rattle.canvas_values.specs.steps.Tokens.{Appends, data_tokens};
 ghost use Rattle.canvas_envelope.specs.Fits.{fits};
-ghost use Rattle.canvas_writing.specs.steps.Tokens.{named_tokens};
+ghost use Rattle.canvas_envelope.specs.steps.Tokens.{named_tokens};
 ghost use Rattle.canvas_celery.specs.Envelope.{delivery_wire, properties_wire, envelope_wire, message_text};
 ghost use Rattle.canvas_celery.specs.MessageReading.{IsSound, read_message};
 ghost use Rattle.canvas_celery.specs.Sizeless.{sizeless};

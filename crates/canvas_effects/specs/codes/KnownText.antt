@@ -3,7 +3,7 @@ use Rattle.std.specs.Prelude.{ℕ, List, [], ◌∷◌, Option, Some, None, IfSo
 use Rattle.std.specs.Coded.{codes}
 use Rattle.std.specs.Global.{Global}
 use Rattle.std.specs.declared.sync.Arc.{Arc}
-use Rattle.canvas_envelope.specs.declared.carried_text.CarriedText.{CarriedText}
+use Rattle.canvas_envelope.specs.declared.nested_text.CarriedText.{CarriedText}
 use Rattle.std.proofs.Props.{props}
 use Rattle.canvas_semantics.specs.PlacedLine.{PPlace, p_nowhere, p_group, p_chord}
 use Rattle.canvas_rewrite.specs.FrozenView.{PCarried}

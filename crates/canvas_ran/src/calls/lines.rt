@@ -11,17 +11,16 @@ ghost use Rattle.canvas_report.specs.JsonRows.{identifiers_wire};
 ghost use Rattle.canvas_semantics.specs.Line.{names};
 ghost use Rattle.canvas_values.specs.Writing.{args_wire};
 ghost use Rattle.canvas_values.specs.steps.Tokens.{Appends, data_tokens, rest_tokens};
-ghost use Rattle.canvas_writing.specs.steps.Tokens.{named_tokens};
+ghost use Rattle.canvas_envelope.specs.steps.Tokens.{named_tokens};
 ghost use Rattle.canvas_ran.specs.Calls.{call_line, call_lines, call_wire, calls_text, header_wire, known_name, known_wire, names_wire};
 ghost use Rattle.canvas_ran.specs.Fronts.{front_of, known_front};
 
 use crate::calls::front::Front;
 use canvas_codec::decode;
-use canvas_envelope::{Letter, Message};
+use canvas_envelope::{Letter, Message, ascii};
 use canvas_rewrite::Plan;
 use canvas_task::{Arg, ListOf, Memory, TaskNo, task_text};
 use canvas_values::{write_args, write_kwargs};
-use canvas_writing::ascii;
 use json::Writer;
 use std::alloc::{AllocError, Global};
 

@@ -12,7 +12,7 @@ ghost use Rattle.canvas_rewrite.specs.FrozenView.{p_tasks_of, p_task_view, p_lin
 ghost use Rattle.canvas_envelope.specs.MessageView.{place_seen, rest_seen};
 ghost use Rattle.canvas_envelope.specs.Wire.{list_or_null};
 ghost use Rattle.canvas_envelope.specs.steps.Parts.{is_stop};
-ghost use Rattle.canvas_writing.specs.steps.Tokens.{named_tokens};
+ghost use Rattle.canvas_envelope.specs.steps.Tokens.{named_tokens};
 ghost use Rattle.canvas_celery.specs.Signatures.{tasks_wire, each_wire, elements, body_at};
 ghost use Rattle.canvas_celery.specs.Envelope.{embed_wire, body_wire};
 ghost use Rattle.canvas_celery.specs.ExportView.{naming};

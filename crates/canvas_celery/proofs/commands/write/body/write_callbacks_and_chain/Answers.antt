@@ -3,7 +3,7 @@ use Rattle.json.specs.Token.{key, begin_object}
 use Rattle.canvas_values.specs.steps.Tokens.{data_tokens}
 use Rattle.canvas_values.proofs.Written.Writers.{after_ok, then_tokens}
 use Rattle.canvas_rewrite.specs.FrozenView.{p_tasks_of, p_task_view}
-use Rattle.canvas_writing.specs.steps.Tokens.{named_tokens}
+use Rattle.canvas_envelope.specs.steps.Tokens.{named_tokens}
 use Rattle.canvas_envelope.specs.MessageView.{rest_seen}
 use Rattle.canvas_envelope.specs.Wire.{list_or_null}
 use Rattle.canvas_celery.specs.Signatures.{tasks_wire, each_wire, elements}

@@ -6,7 +6,7 @@ use Rattle.canvas_values.specs.steps.Tokens.{data_tokens}
 use Rattle.canvas_values.proofs.Written.Writers.{after_ok, then_tokens}
 use Rattle.canvas_rewrite.specs.FrozenView.{p_task_view, p_line_view, p_end_view}
 use Rattle.canvas_envelope.specs.MessageView.{place_seen}
-use Rattle.canvas_writing.specs.steps.Tokens.{named_tokens}
+use Rattle.canvas_envelope.specs.steps.Tokens.{named_tokens}
 use Rattle.canvas_envelope.proofs.Seen.{group_place}
 use Rattle.canvas_celery.specs.Signatures.{elements, behind, carried_wire, first_wire}
 use Rattle.canvas_celery.specs.ExportView.{naming}

@@ -1,5 +1,5 @@
 use Rattle.std.proofs.Common.{codes, ap, sym}
-use Rattle.canvas_writing.specs.steps.Tokens.{named_tokens}
+use Rattle.canvas_envelope.specs.steps.Tokens.{named_tokens}
 use Rattle.canvas_celery.specs.Envelope.{parent_id}
 use Rattle.canvas_celery.specs.ExportView.{naming}
 use Rattle.canvas_celery.proofs.Exported.Tokens.{appends_as}

@@ -1,6 +1,6 @@
 use Rattle.std.proofs.Common.{codes, pos, ap}
 use Rattle.canvas_values.specs.Writing.{number_wire}
-use Rattle.canvas_writing.specs.steps.Tokens.{named_tokens}
+use Rattle.canvas_envelope.specs.steps.Tokens.{named_tokens}
 use Rattle.canvas_celery.proofs.Exported.Tokens.{appends_as}
 use Rattle.canvas_celery.proofs.commands.write.names.write_index.Goals as goal
 

@@ -1,5 +1,0 @@
-use Rattle.canvas_writing.proofs.IdentifierTexts.{task_ascii}
-use Rattle.canvas_writing.proofs.identifiers.write_task_id.Goals as goal
-
-pub write_id-requires : goal.write_id-requires
-write_id-requires c = rw c.task_text.ensures.value (task_ascii c.args.task)

@@ -1,6 +1,0 @@
-use Rattle.std.proofs.Common.{◌≡◌, true, drop}
-use Rattle.json.specs.Print.{escape}
-use Rattle.canvas_writing.proofs.text.is_plain.Given as goal
-
-abbrev pub invariant-loop-byte : goal.invariant-loop-byte
-invariant-loop-byte l = l.plain ≡ true → escape (drop l.byte-index l.text) ≡ drop l.byte-index l.text → escape l.text ≡ l.text

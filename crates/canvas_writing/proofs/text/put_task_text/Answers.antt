@@ -1,5 +1,0 @@
-use Rattle.canvas_writing.proofs.IdentifierTexts.{task_ascii}
-use Rattle.canvas_writing.proofs.text.put_task_text.Goals as goal
-
-pub ascii-requires : goal.ascii-requires
-ascii-requires c = rw c.task_text.ensures.value (task_ascii c.args.task)

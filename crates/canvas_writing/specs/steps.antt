@@ -1,4 +1,0 @@
-pub mod Around
-pub mod Tokens
-pub mod Texts
-pub mod Listing
