@@ -3,3 +3,4 @@ mod Names
 pub mod RenamedLaws
 mod Settled
 pub mod Naming
+pub mod Stubbing

@@ -2,4 +2,9 @@ pub mod Adapted
 pub mod Adapting
 pub mod Renamed
 pub mod RenameTexts
+pub mod Stubs
+pub mod StubsInRange
+pub mod StubTexts
+pub mod Raising
+pub mod StubLaws
 pub mod steps

@@ -1,4 +1,5 @@
-//! Canvases of the engine's profile from any signature that Celery writes as JSON.
+//! Canvases of the engine's profile from any signature that Celery writes as JSON; and a user's own
+//! names: other names by number, and stubs, which answer instead of tasks.
 #![tactic(auto)]
 
 mod adapting;
@@ -19,6 +20,7 @@ mod rename_fault;
 mod renames;
 mod renaming;
 mod shape;
+mod stubs;
 mod task;
 mod text;
 mod thaw;
@@ -30,3 +32,7 @@ pub use printing::{AdaptedText, adapted_text};
 pub use rename_fault::{BadRename, RenameFault};
 pub use renames::{Rename, read_rename, read_renames};
 pub use renaming::{law_of_renames, renamed};
+pub use stubs::{
+    BadStub, Does, Stub, StubFault, Stubbed, law_of_stubs, other_error, plain_text, read_stub,
+    read_stubs,
+};

@@ -12,7 +12,7 @@ use Rattle.canvas_rewrite.specs.declared.frozen.FrozenTask.{FrozenTask, out-Froz
 use Rattle.canvas_rewrite.specs.declared.frozen.FrozenLine.{FrozenLine, out-FrozenLine}
 use Rattle.canvas_rewrite.specs.declared.frozen.FrozenEnd.{FrozenEnd, out-FrozenEnd}
 use Rattle.canvas_rewrite.proofs.PlanLines.{in_none, in_some, in_group, in_chord}
-use Rattle.canvas_stubs.specs.declared.stub.Stub.{Stub}
+use Rattle.canvas_adapt.specs.declared.stubs.stub.Stub.{Stub}
 use Rattle.canvas_check.specs.declared.position.Input.{Input}
 use Rattle.canvas_check.specs.declared.position.Input.TheVariants.{Number, Numbers, Identifier}
 use Rattle.canvas_answer.specs.Blamed.{Blames, line_blames, lines_blames, own_blames, task_blames, tasks_blames}

@@ -4,7 +4,7 @@ use Rattle.std.proofs.lemmas.List.{append_assoc}
 use Rattle.std.specs.Borrow.{Bor}
 use Rattle.canvas_task.specs.Text.{Text}
 use Rattle.canvas_adapt.specs.declared.renames.Rename.{Rename}
-use Rattle.canvas_stubs.specs.declared.stub.Stub.{Stub}
+use Rattle.canvas_adapt.specs.declared.stubs.stub.Stub.{Stub}
 use Rattle.canvas_answer.specs.Stubbing.{AreNumbered, IsNumbered}
 use Rattle.canvas_answer.proofs.Reading.{one_more, one_taken}
 

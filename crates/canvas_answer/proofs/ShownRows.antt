@@ -22,7 +22,7 @@ use Rattle.canvas_report.specs.declared.row.Row.{Row}
 use Rattle.canvas_report.specs.declared.row.Row.TheVariants.{Known, Value, Raised, Blamed}
 use Rattle.canvas_report.proofs.ReportLines.{run_said}
 use Rattle.canvas_report.proofs.RowLines.{row_state}
-use Rattle.canvas_stubs.specs.declared.stub.Stub.{Stub}
+use Rattle.canvas_adapt.specs.declared.stubs.stub.Stub.{Stub}
 use Rattle.canvas_answer.specs.Raised.{class_if_named, class_of, own_class, IsRaised, IsBlamed, IsShown, AreShown}
 use Rattle.canvas_answer.specs.Told.{IsJsonOf, known_states}
 use Rattle.canvas_answer.proofs.Classes.{in_before, at_end, past_end, below, not_below, none_if_none}

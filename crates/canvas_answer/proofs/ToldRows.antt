@@ -8,7 +8,7 @@ use Rattle.canvas_semantics.specs.Evaluation.{State}
 use Rattle.canvas_semantics.specs.Line.{Line, tree_of}
 use Rattle.canvas_semantics.specs.Report.{report_of}
 use Rattle.canvas_semantics.specs.States.{rows_from, states}
-use Rattle.canvas_stubs.specs.declared.stub.Stub.{Stub}
+use Rattle.canvas_adapt.specs.declared.stubs.stub.Stub.{Stub}
 use Rattle.canvas_ran.specs.Ran.{fates}
 use Rattle.canvas_ran.specs.Seen.{seen_fates}
 use Rattle.canvas_report.specs.Fates.{Fates}

@@ -1,7 +1,7 @@
 -- How canvases are run, besides the tasks that answer their calls.
 use Rattle.std.specs.Prelude.{Bool, List}
 use Rattle.canvas_adapt.specs.declared.renames.Rename.{Rename}
-use Rattle.canvas_stubs.specs.declared.stub.Stub.{Stub}
+use Rattle.canvas_adapt.specs.declared.stubs.stub.Stub.{Stub}
 use Rattle.canvas_answer.specs.declared.errors.OtherError.{OtherError}
 use Rattle.canvas_answer.specs.declared.setting.Setting.{Setting}
 use Rattle.canvas_answer.specs.declared.stubs.Answers.{Answers}

@@ -17,10 +17,10 @@ use Rattle.canvas_semantics.specs.Tree.{Call, Task, task, Tasks, no_tasks, and_t
 use Rattle.canvas_report.specs.Fates.{Fates, fate_at}
 use Rattle.canvas_report.specs.declared.fate.Fate.{Fate}
 use Rattle.canvas_report.specs.declared.fate.Fate.TheVariants.{Ran}
-use Rattle.canvas_stubs.specs.Stubs.{any_name, stub_of}
-use Rattle.canvas_stubs.specs.declared.stub.Does.{Does}
-use Rattle.canvas_stubs.specs.declared.stub.Does.TheVariants.{SameAs}
-use Rattle.canvas_stubs.specs.declared.stub.Stub.{Stub}
+use Rattle.canvas_adapt.specs.Stubs.{any_name, stub_of}
+use Rattle.canvas_adapt.specs.declared.stubs.stub.Does.{Does}
+use Rattle.canvas_adapt.specs.declared.stubs.stub.Does.TheVariants.{SameAs}
+use Rattle.canvas_adapt.specs.declared.stubs.stub.Stub.{Stub}
 use Rattle.canvas_check.specs.Calls.{taken}
 use Rattle.canvas_check.specs.Parameters.{blamed}
 use Rattle.canvas_check.specs.declared.position.Input.{Input}

@@ -19,8 +19,8 @@ use Rattle.canvas_ran.specs.Ran.{fates}
 use Rattle.canvas_report.specs.Failing.{any_failed}
 use Rattle.canvas_report.specs.JsonRows.{parameter_of}
 use Rattle.canvas_report.specs.RowTexts.{end_text, row_line}
-use Rattle.canvas_stubs.specs.Stubs.{stubs_behaviour}
-use Rattle.canvas_stubs.specs.declared.stub.Stub.{Stub}
+use Rattle.canvas_adapt.specs.Stubs.{stubs_behaviour}
+use Rattle.canvas_adapt.specs.declared.stubs.stub.Stub.{Stub}
 use Rattle.canvas_answer.specs.Asking.{Asking}
 use Rattle.canvas_answer.specs.Blamed.{AreBlames, blames}
 use Rattle.canvas_answer.specs.Items.{joined}

@@ -3,8 +3,8 @@ use Rattle.std.specs.Prelude.{◌≡◌, ◌||◌, Bool, false, if◌then◌else
 use Rattle.std.specs.Str.{bytes_eq}
 use Rattle.canvas_task.specs.Builtin.{builtin_named}
 use Rattle.canvas_task.specs.Text.{Text}
-use Rattle.canvas_stubs.specs.Stubs.{any_name}
-use Rattle.canvas_stubs.specs.declared.stub.Stub.{Stub}
+use Rattle.canvas_adapt.specs.Stubs.{any_name}
+use Rattle.canvas_adapt.specs.declared.stubs.stub.Stub.{Stub}
 use Rattle.canvas_answer.specs.declared.refusal.Refusal.{Refusal}
 use Rattle.canvas_answer.specs.declared.refusal.Refusal.TheVariants.{NoTaskNamed, Memory}
 

@@ -22,8 +22,8 @@ use Rattle.canvas_report.specs.declared.fate.Fate.{Fate}
 use Rattle.canvas_report.specs.declared.fate.Fate.TheVariants.{Ran, Skipped, Idle}
 use Rattle.canvas_report.specs.declared.row.Row.{Row}
 use Rattle.canvas_report.specs.declared.row.Row.TheVariants.{Known, Raised, Blamed}
-use Rattle.canvas_stubs.specs.Stubs.{any_name, has_stub}
-use Rattle.canvas_stubs.specs.declared.stub.Stub.{Stub}
+use Rattle.canvas_adapt.specs.Stubs.{any_name, has_stub}
+use Rattle.canvas_adapt.specs.declared.stubs.stub.Stub.{Stub}
 use Rattle.canvas_answer.specs.declared.errors.OtherError.{OtherError}
 
 -- ---- by name

@@ -8,10 +8,10 @@ use Rattle.clap.specs.Walk.{Row, first_of}
 use Rattle.canvas_task.specs.Text.{Text}
 use Rattle.canvas_adapt.specs.RenameTexts.{IsRenameText}
 use Rattle.canvas_adapt.specs.declared.renames.Rename.{Rename}
-use Rattle.canvas_stubs.specs.Raising.{other_error, plain_text}
-use Rattle.canvas_stubs.specs.Stubs.{has_stub}
-use Rattle.canvas_stubs.specs.StubTexts.{stub_reading, stubs_reading}
-use Rattle.canvas_stubs.specs.declared.stub.Stub.{Stub}
+use Rattle.canvas_adapt.specs.Raising.{other_error, plain_text}
+use Rattle.canvas_adapt.specs.Stubs.{has_stub}
+use Rattle.canvas_adapt.specs.StubTexts.{stub_reading, stubs_reading}
+use Rattle.canvas_adapt.specs.declared.stubs.stub.Stub.{Stub}
 use Rattle.canvas_words.specs.declared.subcommand.Subcommand.{Subcommand}
 use Rattle.canvas_words.specs.declared.subcommand.Subcommand.TheVariants.{Check}
 use Rattle.canvas_answer.specs.Given.{texts_of}

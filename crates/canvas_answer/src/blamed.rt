@@ -7,10 +7,10 @@ ghost use Rattle.canvas_answer.specs.Blamed.{AreBlames, blame, blame_said, blame
 ghost use Rattle.canvas_answer.specs.steps.BlamedLists.{call_in, callbacks_blames, chain_blames, input_after, lines_blames_of, tail_blames};
 
 use crate::stubs::stub_named;
+use canvas_adapt::{Does, Stub};
 use canvas_check::{Blame, Input, blamed};
 use canvas_report::{Fate, Report, state_in};
 use canvas_rewrite::{FrozenEnd, FrozenLine, FrozenTask, Plan};
-use canvas_stubs::{Does, Stub};
 use canvas_task::{Builtin, Fault, Kind, Outcome, TaskNo};
 use std::alloc::{AllocError, Global};
 

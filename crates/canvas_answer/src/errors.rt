@@ -4,11 +4,11 @@
 //! of the engine is about it.
 ghost use Rattle.std.specs.Prelude.{◌≡◌, ◌++◌, IfOk, OnOk, map, option_map, option_to_list};
 ghost use Rattle.std.specs.List.{filter_map};
-ghost use Rattle.canvas_stubs.specs.Raising.{other_error};
+ghost use Rattle.canvas_adapt.specs.Raising.{other_error};
 ghost use Rattle.canvas_answer.specs.Raised.{class_named};
 ghost use Rattle.canvas_answer.specs.Stubbing.{error_said};
 
-use canvas_stubs::other_error;
+use canvas_adapt::other_error;
 use std::alloc::{AllocError, Global};
 
 /// An exception of another class that the stub of a name raises.

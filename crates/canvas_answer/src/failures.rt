@@ -3,7 +3,7 @@
 ghost use Rattle.std.specs.Prelude.{◌≡◌, ◌+◌, ◌++◌, ◌<◌, IfOk, None, Some, codes, map, string_bytes};
 ghost use Rattle.canvas_adapt.specs.Renamed.{renamed};
 ghost use Rattle.canvas_semantics.specs.Line.{count_line, tree_of};
-ghost use Rattle.canvas_stubs.specs.Stubs.{stubs_behaviour};
+ghost use Rattle.canvas_adapt.specs.Stubs.{stubs_behaviour};
 ghost use Rattle.canvas_task.specs.Text.{Text};
 ghost use Rattle.canvas_answer.specs.Asking.{asked_of};
 ghost use Rattle.canvas_answer.specs.Cases.{AreAllRows, IsCaseLine, IsEvaluated, case_line, numbered_word};
@@ -19,9 +19,8 @@ use crate::refusal::Refusal;
 use crate::setting::Setting;
 use crate::source::Source;
 use crate::stubs::Answers;
-use canvas_adapt::{law_of_renames, renamed};
+use canvas_adapt::{Does, StubFault, Stubbed, law_of_renames, plain_text, read_stub, renamed};
 use canvas_sig::Canvas;
-use canvas_stubs::{Does, StubFault, Stubbed, plain_text, read_stub};
 use canvas_task::{TaskNo, Tasks};
 use std::alloc::{AllocError, Global};
 

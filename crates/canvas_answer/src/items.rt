@@ -14,9 +14,8 @@ use crate::refusal::Refusal;
 use crate::setting::Setting;
 use crate::stubs::{Answers, named, stub_named};
 use crate::unread::Unread;
-use canvas_adapt::Rename;
+use canvas_adapt::{Rename, Stub};
 use canvas_sig::MOST_BYTES;
-use canvas_stubs::Stub;
 use std::alloc::{AllocError, Global};
 use std::io::{self, BufRead, ErrorKind};
 

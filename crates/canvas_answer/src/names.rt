@@ -4,8 +4,8 @@ ghost use Rattle.canvas_semantics.specs.Line.{names};
 ghost use Rattle.canvas_answer.specs.Names.{IsUnknownName, first_unknown, has_name, is_called, is_common};
 
 use crate::refusal::Refusal;
+use canvas_adapt::Stub;
 use canvas_rewrite::Plan;
-use canvas_stubs::Stub;
 use canvas_task::Builtin;
 use std::alloc::{AllocError, Global};
 use strsim::levenshtein;

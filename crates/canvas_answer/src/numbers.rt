@@ -7,17 +7,16 @@ ghost use Rattle.std.specs.Prelude.{◌≡◌, ◌∷◌, ◌++◌, [], IfOk, Li
 ghost use Rattle.std.specs.List.{filter_map};
 ghost use Rattle.canvas_adapt.specs.RenameTexts.{IsRenameText};
 ghost use Rattle.canvas_adapt.specs.declared.renames.Rename.{Rename};
-ghost use Rattle.canvas_stubs.specs.Raising.{other_error, plain_text};
-ghost use Rattle.canvas_stubs.specs.StubTexts.{stub_reading};
-ghost use Rattle.canvas_stubs.specs.declared.stub.Stub.{Stub};
+ghost use Rattle.canvas_adapt.specs.Raising.{other_error, plain_text};
+ghost use Rattle.canvas_adapt.specs.StubTexts.{stub_reading};
+ghost use Rattle.canvas_adapt.specs.declared.stubs.stub.Stub.{Stub};
 ghost use Rattle.canvas_answer.specs.steps.First.{AreAlike, IsPutFirst};
 ghost use Rattle.canvas_answer.specs.Stubbing.{AreNumbered, IsNumbered, error_said, is_numbered, named, numbered};
 
 use crate::errors::{OtherError, push_error};
 use crate::refusal::Refusal;
 use crate::stubs::Answers;
-use canvas_adapt::{Rename, RenameFault, read_rename};
-use canvas_stubs::{Stub, StubFault, plain_text, read_stub};
+use canvas_adapt::{Rename, RenameFault, Stub, StubFault, plain_text, read_rename, read_stub};
 use canvas_task::TaskNo;
 use std::alloc::{AllocError, Global};
 use std::fmt;

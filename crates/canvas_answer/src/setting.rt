@@ -1,8 +1,7 @@
 //! How canvases are run, besides what answers their calls.
 
 use crate::errors::OtherError;
-use canvas_adapt::Rename;
-use canvas_stubs::Stub;
+use canvas_adapt::{Rename, Stub};
 
 /// How canvases are prepared and shown.
 #[derive(Clone, Copy)]

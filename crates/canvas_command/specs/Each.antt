@@ -8,8 +8,8 @@ use Rattle.canvas_report.specs.Failing.{any_failed}
 use Rattle.canvas_semantics.specs.Evaluation.{with_states}
 use Rattle.canvas_semantics.specs.Line.{Line, ends_of, tree_of}
 use Rattle.canvas_semantics.specs.States.{rows_from, states}
-use Rattle.canvas_stubs.specs.Stubs.{stubs_behaviour}
-use Rattle.canvas_stubs.specs.declared.stub.Stub.{Stub}
+use Rattle.canvas_adapt.specs.Stubs.{stubs_behaviour}
+use Rattle.canvas_adapt.specs.declared.stubs.stub.Stub.{Stub}
 use Rattle.canvas_answer.specs.Answers.{AnswersAll}
 use Rattle.canvas_answer.specs.Asking.{Asking, asked_of}
 use Rattle.canvas_answer.specs.Items.{IsRunObject, before, most_item}

@@ -9,7 +9,7 @@ use Rattle.canvas_semantics.specs.Evaluation.{with_states}
 use Rattle.canvas_semantics.specs.Line.{Line, count_line, ends_of, tree_of}
 use Rattle.canvas_semantics.specs.States.{rows_from, states}
 use Rattle.canvas_semantics.specs.Tree.{Tree}
-use Rattle.canvas_stubs.specs.Stubs.{stubs_behaviour}
+use Rattle.canvas_adapt.specs.Stubs.{stubs_behaviour}
 use Rattle.canvas_answer.specs.Answers.{AnswersAll}
 use Rattle.canvas_answer.specs.Asking.{Asking}
 use Rattle.canvas_answer.specs.Cases.{AreAllRows, IsCaseLine, IsEvaluated, case_line}

@@ -8,7 +8,7 @@ use Rattle.canvas_adapt.specs.Renamed.{renamed}
 use Rattle.canvas_page.specs.Page.{page_of}
 use Rattle.canvas_semantics.specs.Line.{Line, count_line, tree_of}
 use Rattle.canvas_semantics.specs.Tree.{Tree}
-use Rattle.canvas_stubs.specs.Stubs.{stubs_behaviour}
+use Rattle.canvas_adapt.specs.Stubs.{stubs_behaviour}
 use Rattle.canvas_answer.specs.Answers.{AnswersAll, printed_out}
 use Rattle.canvas_answer.specs.Asking.{Asking}
 use Rattle.canvas_answer.specs.Cases.{AreAllRows, IsEvaluated, case_line}

@@ -4,7 +4,7 @@
 ghost use Rattle.std.specs.Prelude.{◌≡◌, IfOk, List, OnOk, flat_map, map, string_bytes};
 ghost use Rattle.std.specs.Io.KnownBytes.{Appends};
 ghost use Rattle.canvas_semantics.specs.Line.{count_line};
-ghost use Rattle.canvas_stubs.specs.Stubs.{stubs_behaviour};
+ghost use Rattle.canvas_adapt.specs.Stubs.{stubs_behaviour};
 ghost use Rattle.canvas_task.specs.Text.{Text};
 ghost use Rattle.canvas_answer.specs.Asking.{asked_of};
 ghost use Rattle.canvas_answer.specs.Cases.{AreAllRows};

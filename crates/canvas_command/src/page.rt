@@ -2,7 +2,7 @@
 
 ghost use Rattle.std.specs.Prelude.{◌≡◌, ◌++◌, IfOk, OnOk, List, flat_map, map, string_bytes, true};
 ghost use Rattle.canvas_semantics.specs.Line.{count_line};
-ghost use Rattle.canvas_stubs.specs.Stubs.{stubs_behaviour};
+ghost use Rattle.canvas_adapt.specs.Stubs.{stubs_behaviour};
 ghost use Rattle.canvas_task.specs.Text.{Text};
 ghost use Rattle.canvas_answer.specs.Answers.{printed_out};
 ghost use Rattle.canvas_answer.specs.Asking.{asked_of, asking};
@@ -15,6 +15,7 @@ ghost use Rattle.canvas_command.specs.Paged.{AreRunsShown, cases_shown, IsBlock,
 
 use crate::failures::{print, print_cases};
 use crate::runs::answer_steps;
+use canvas_adapt::Stubbed;
 use canvas_answer::answer::Answer;
 use canvas_answer::failures::{Base, Cases, Ready};
 use canvas_answer::normal::numbered_line;
@@ -26,7 +27,6 @@ use canvas_answer::source::Source;
 use canvas_answer::stubs::Answers;
 use canvas_page::page_text;
 use canvas_rewrite::Plan;
-use canvas_stubs::Stubbed;
 use canvas_task::Tasks;
 use std::alloc::{AllocError, Global};
 

@@ -1,6 +1,7 @@
 //! What is printed of a run that ended early: what it stored until then.
 
 use crate::program::ADD_THEN_MUL;
+use canvas_adapt::{Does, Stub};
 use canvas_answer::answer::Answer;
 use canvas_answer::errors::OtherError;
 use canvas_answer::refusal::Refusal;
@@ -8,7 +9,6 @@ use canvas_answer::reporting::{Format, OutputOptions};
 use canvas_answer::setting::Setting;
 use canvas_answer::source::Source;
 use canvas_engine::Report;
-use canvas_stubs::{Does, Stub};
 use canvas_task::{BuiltinTasks, Fault, Kind, ListOf, Outcome, TextOf};
 use std::alloc::{AllocError, Global};
 use std::test::Fail;

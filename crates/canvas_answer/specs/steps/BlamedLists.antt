@@ -5,7 +5,7 @@ use Rattle.canvas_rewrite.specs.FrozenView.{end_in}
 use Rattle.canvas_rewrite.specs.declared.frozen.FrozenEnd.{FrozenEnd}
 use Rattle.canvas_semantics.specs.Line.{Line}
 use Rattle.canvas_semantics.specs.Tree.{Call, Task, task}
-use Rattle.canvas_stubs.specs.declared.stub.Stub.{Stub}
+use Rattle.canvas_adapt.specs.declared.stubs.stub.Stub.{Stub}
 use Rattle.canvas_check.specs.declared.position.Input.{Input}
 use Rattle.canvas_check.specs.declared.position.Input.TheVariants.{Number}
 use Rattle.canvas_answer.specs.Blamed.{Blames, line_blames, task_blames}

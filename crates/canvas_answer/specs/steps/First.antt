@@ -4,8 +4,8 @@ use Rattle.canvas_adapt.specs.Renamed.{renamed}
 use Rattle.canvas_adapt.specs.declared.renames.Rename.{Rename}
 use Rattle.canvas_semantics.specs.Line.{Line}
 use Rattle.canvas_semantics.specs.Tree.{Tree}
-use Rattle.canvas_stubs.specs.Stubs.{stubs_behaviour}
-use Rattle.canvas_stubs.specs.declared.stub.Stub.{Stub}
+use Rattle.canvas_adapt.specs.Stubs.{stubs_behaviour}
+use Rattle.canvas_adapt.specs.declared.stubs.stub.Stub.{Stub}
 use Rattle.canvas_task.specs.Apply.{Behaviour}
 use Rattle.canvas_task.specs.Text.{Text}
 use Rattle.canvas_answer.specs.Asking.{Asking}

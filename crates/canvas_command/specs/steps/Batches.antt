@@ -1,7 +1,7 @@
 -- Items that are read, answered and printed batch by batch.
 use Rattle.std.specs.Prelude.{◌≡◌, ℕ, Bool, true, false, List, [], ◌∷◌, ◌++◌, map, IfOk, IfSome, Ok, Option, None, Some, flat_map}
 use Rattle.std.specs.Io.KnownBytes.{Appends}
-use Rattle.canvas_stubs.specs.declared.stub.Stub.{Stub}
+use Rattle.canvas_adapt.specs.declared.stubs.stub.Stub.{Stub}
 use Rattle.canvas_task.specs.Apply.{Behaviour}
 use Rattle.canvas_task.specs.Text.{Text}
 use Rattle.canvas_answer.specs.Asking.{Asking}

@@ -1,5 +1,5 @@
 use Rattle.std.proofs.Common.{◌≡◌, map, take, filter_map}
-use Rattle.canvas_stubs.specs.Raising.{other_error}
+use Rattle.canvas_adapt.specs.Raising.{other_error}
 use Rattle.canvas_answer.specs.Stubbing.{error_said}
 use Rattle.canvas_answer.proofs.errors.errors_of.Given as goal
 

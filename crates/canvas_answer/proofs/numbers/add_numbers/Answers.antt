@@ -1,6 +1,6 @@
 use Rattle.std.proofs.Common.{◌∷◌, ◌++◌, [], map, sym}
 use Rattle.std.proofs.lemmas.List.{append-nil}
-use Rattle.canvas_stubs.specs.Raising.{other_error}
+use Rattle.canvas_adapt.specs.Raising.{other_error}
 use Rattle.canvas_answer.specs.Stubbing.{error_said}
 use Rattle.canvas_answer.proofs.Numbering.{kept_added, one_added, one_numbered}
 use Rattle.canvas_answer.proofs.numbers.add_numbers.Goals as goal

@@ -1,7 +1,7 @@
 use Rattle.std.proofs.Common.{◌≡◌, ◌++◌, List, map, take, filter_map}
 use Rattle.canvas_adapt.specs.declared.renames.Rename.{Rename}
-use Rattle.canvas_stubs.specs.Raising.{other_error}
-use Rattle.canvas_stubs.specs.declared.stub.Stub.{Stub}
+use Rattle.canvas_adapt.specs.Raising.{other_error}
+use Rattle.canvas_adapt.specs.declared.stubs.stub.Stub.{Stub}
 use Rattle.canvas_answer.specs.Stubbing.{AreNumbered, error_said}
 use Rattle.canvas_answer.proofs.numbers.add_numbers.Given as goal
 

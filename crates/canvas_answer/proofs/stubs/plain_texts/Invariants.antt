@@ -1,5 +1,5 @@
 use Rattle.std.proofs.Common.{◌≡◌, map, take, string_bytes}
-use Rattle.canvas_stubs.specs.Raising.{plain_text}
+use Rattle.canvas_adapt.specs.Raising.{plain_text}
 use Rattle.canvas_answer.proofs.stubs.plain_texts.Given as goal
 
 -- those of the texts before

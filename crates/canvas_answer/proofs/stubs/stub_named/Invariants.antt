@@ -1,5 +1,5 @@
 use Rattle.std.proofs.Common.{◌≡◌, drop}
-use Rattle.canvas_stubs.specs.Stubs.{stub_of}
+use Rattle.canvas_adapt.specs.Stubs.{stub_of}
 use Rattle.canvas_answer.proofs.stubs.stub_named.Given as goal
 
 -- the stubs that are left answer as all do

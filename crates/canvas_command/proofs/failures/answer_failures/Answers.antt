@@ -1,5 +1,5 @@
 use Rattle.std.proofs.Common.{◌≡◌, ◌∙◌, ap, subst, rules}
-use Rattle.canvas_stubs.specs.Stubs.{stubs_behaviour}
+use Rattle.canvas_adapt.specs.Stubs.{stubs_behaviour}
 use Rattle.canvas_answer.specs.Asking.{asked_of}
 use Rattle.canvas_answer.specs.Told.{report_status}
 use Rattle.canvas_command.specs.Failing.{IsFailedAs}

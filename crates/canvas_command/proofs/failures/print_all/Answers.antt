@@ -1,7 +1,7 @@
 use Rattle.std.proofs.Common.{◌∙◌, ◌∷◌, None, refl, sym, subst, map, string_bytes}
 use Rattle.std.specs.Io.KnownBytes.{Appends}
 use Rattle.canvas_semantics.specs.Line.{count_line, tree_of}
-use Rattle.canvas_stubs.specs.Stubs.{stubs_behaviour}
+use Rattle.canvas_adapt.specs.Stubs.{stubs_behaviour}
 use Rattle.canvas_answer.specs.Asking.{asked_of}
 use Rattle.canvas_answer.specs.Cases.{AreAllRows, IsEvaluated, case_line}
 use Rattle.canvas_answer.specs.Plans.{IsPlanOf, run_line}

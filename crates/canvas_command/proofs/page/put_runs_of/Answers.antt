@@ -1,5 +1,5 @@
 use Rattle.std.proofs.Common.{◌≡◌, ◌++◌, true, subst}
-use Rattle.canvas_stubs.specs.Stubs.{stubs_behaviour}
+use Rattle.canvas_adapt.specs.Stubs.{stubs_behaviour}
 use Rattle.canvas_task.specs.Text.{Text}
 use Rattle.canvas_answer.specs.Asking.{Asking, asked_of}
 use Rattle.canvas_answer.specs.Plans.{ArePlansOf, run_line}

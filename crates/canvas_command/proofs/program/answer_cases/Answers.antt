@@ -1,6 +1,6 @@
 use Rattle.std.proofs.Common.{subst}
 use Rattle.std.proofs.lemmas.Result.{IfOk-weaker}
-use Rattle.canvas_stubs.specs.Stubs.{stubs_behaviour}
+use Rattle.canvas_adapt.specs.Stubs.{stubs_behaviour}
 use Rattle.canvas_answer.specs.Asking.{asked_of}
 use Rattle.canvas_answer.specs.Plans.{IsCanvasOf}
 use Rattle.canvas_command.specs.Failing.{IsFailuresDone}

@@ -1,6 +1,6 @@
 use Rattle.std.proofs.Common.{IfOk, subst, sym}
 use Rattle.canvas_task.specs.Text.{Text}
-use Rattle.canvas_stubs.specs.Stubs.{stubs_behaviour}
+use Rattle.canvas_adapt.specs.Stubs.{stubs_behaviour}
 use Rattle.canvas_answer.specs.Asking.{asked_of}
 use Rattle.canvas_answer.specs.Inputs.{IsCanvasRead}
 use Rattle.canvas_answer.specs.declared.answer.Answer.{Answer}

@@ -1,7 +1,7 @@
 use Rattle.std.proofs.Common.{◌≡◌, ◌∙◌, ◌∷◌, ap, sym, subst, codes}
 use Rattle.std.proofs.lemmas.Result.{IfOk-weaker}
 use Rattle.canvas_adapt.specs.Renamed.{renamed}
-use Rattle.canvas_stubs.specs.Stubs.{stubs_behaviour}
+use Rattle.canvas_adapt.specs.Stubs.{stubs_behaviour}
 use Rattle.canvas_answer.specs.Asking.{asked_of}
 use Rattle.canvas_answer.specs.Cases.{IsEvaluated, first_of, numbered_word}
 use Rattle.canvas_answer.specs.Plans.{IsPlanOf, run_line}
