@@ -5,7 +5,7 @@ use Rattle.std.specs.Prelude.{◌≡◌, ◌++◌, ◌&&◌, [], ℕ, Bool, true
 use Rattle.canvas_task.specs.Apply.{Behaviour}
 use Rattle.canvas_task.specs.Text.{Text}
 use Rattle.canvas_adapt.specs.Renamed.{renamed}
-use Rattle.canvas_page.specs.Page.{page_of}
+use Rattle.canvas_report.specs.Page.{page_of}
 use Rattle.canvas_semantics.specs.Line.{Line, count_line, tree_of}
 use Rattle.canvas_semantics.specs.Tree.{Tree}
 use Rattle.canvas_adapt.specs.Stubs.{stubs_behaviour}

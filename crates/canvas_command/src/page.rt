@@ -25,7 +25,7 @@ use canvas_answer::refusal::Refusal;
 use canvas_answer::setting::Setting;
 use canvas_answer::source::Source;
 use canvas_answer::stubs::Answers;
-use canvas_page::page_text;
+use canvas_report::page_text;
 use canvas_rewrite::Plan;
 use canvas_task::Tasks;
 use std::alloc::{AllocError, Global};

@@ -9,3 +9,4 @@ pub mod EdgeParts
 pub mod NodeParts
 pub mod NodeLaw
 pub mod MessageParts
+mod Blocks

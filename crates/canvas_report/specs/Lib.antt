@@ -10,4 +10,5 @@ pub mod MessageLines
 pub mod Ends
 pub mod Nodes
 pub mod Picture
+pub mod Page
 pub mod steps

@@ -1,7 +1,7 @@
 use Rattle.std.proofs.Common.{◌≡◌, ◌∙◌, ap, rules, subst}
 use Rattle.canvas_answer.specs.Asking.{asked_of}
 use Rattle.canvas_answer.specs.Plans.{IsCanvasOf}
-use Rattle.canvas_page.specs.Page.{page_of}
+use Rattle.canvas_report.specs.Page.{page_of}
 use Rattle.canvas_command.specs.Paged.{IsBlock}
 use Rattle.canvas_command.proofs.page.answer_page.Goals as goal
 

@@ -1,7 +1,7 @@
 -- A page: an HTML file of the text before its block of data, the block, and the text after it.
 use Rattle.std.specs.Prelude.{◌==◌, ◌++◌, ◌∷◌, ℕ, [], codes, flat_map, if◌then◌else◌}
 use Rattle.canvas_task.specs.Text.{Text}
-use Rattle.canvas_page.specs.declared.template.TheConstants.{HEAD, TAIL}
+use Rattle.canvas_report.specs.declared.page.template.TheConstants.{HEAD, TAIL}
 
 -- How a byte is written in the block. In JSON these three, `<`, `>` and `&`, are only in texts, in
 -- which each may be written by its number (RFC 8259, 7). HTML would read them as its own.

@@ -3,7 +3,7 @@ use Rattle.std.proofs.Common.{◌≡◌, ◌≢◌, ◌==◌, ℕ, Bool, true, f
 use Rattle.std.specs.List.{All}
 use Rattle.std.proofs.lemmas.List.Elements.{All-append, All-cons, All-nil}
 use Rattle.canvas_task.specs.Text.{Text}
-use Rattle.canvas_page.specs.Page.{escaped, escaped_byte}
+use Rattle.canvas_report.specs.Page.{escaped, escaped_byte}
 
 abbrev pub Safe : ℕ → Type 0
 Safe b = (b ≢ 60) × (b ≢ 62) × (b ≢ 38)

@@ -1,6 +1,6 @@
 use Rattle.std.proofs.Common.{◌∙◌, ◌++◌, ap, ap₂}
-use Rattle.canvas_page.specs.Page.{escaped, page_of}
-use Rattle.canvas_page.proofs.page.page_text.Goals as goal
+use Rattle.canvas_report.specs.Page.{escaped, page_of}
+use Rattle.canvas_report.proofs.page.page_text.Goals as goal
 
 pub returns : goal.returns
 unfolding page_of

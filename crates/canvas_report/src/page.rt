@@ -1,10 +1,14 @@
 //! The page: the text before its block, the block, and the text after it.
 
-ghost use Rattle.std.specs.Prelude.{◌≡◌, IfOk};
-ghost use Rattle.canvas_page.specs.Page.{page_of};
+mod escaping;
+mod template;
 
-use crate::escaping::push_escaped;
-use crate::template::{HEAD, TAIL};
+ghost use Rattle.std.specs.Prelude.{◌≡◌, IfOk};
+ghost use Rattle.canvas_report.specs.Page.{page_of};
+
+use crate::page::escaping::push_escaped;
+use crate::page::template::{HEAD, TAIL};
+pub use escaping::law_of_blocks;
 use std::alloc::{AllocError, Global};
 
 /// Returns the page whose block is a JSON text.

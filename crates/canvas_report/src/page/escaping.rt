@@ -2,7 +2,7 @@
 
 ghost use Rattle.std.specs.Prelude.{◌≡◌, ◌≢◌, ◌++◌, OnOk, ℕ};
 ghost use Rattle.std.specs.List.{All};
-ghost use Rattle.canvas_page.specs.Page.{escaped, escaped_byte};
+ghost use Rattle.canvas_report.specs.Page.{escaped, escaped_byte};
 ghost use Rattle.canvas_task.specs.Text.{Text};
 
 use std::alloc::AllocError;
