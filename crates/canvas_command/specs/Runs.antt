@@ -16,11 +16,11 @@ use Rattle.canvas_answer.specs.declared.refusal.Refusal.{Refusal}
 use Rattle.canvas_answer.specs.declared.refusal.Refusal.TheVariants as refusal
 use Rattle.canvas_answer.specs.declared.reporting.Format.{Format}
 use Rattle.canvas_core.specs.declared.cause.Cause.TheVariants.{Memory, Stopped}
-use Rattle.canvas_by_turns.specs.declared.fault.RunFault.{RunFault}
-use Rattle.canvas_by_turns.specs.declared.fault.RunFault.TheVariants.{BadWorkers, BadTurn, Halted}
-use Rattle.canvas_by_turns.specs.Correct.{IsRunFault}
-use Rattle.canvas_by_turns.specs.Noted.{IsStepped, step_seen}
-use Rattle.canvas_by_turns.specs.declared.notes.Step.{Step}
+use Rattle.canvas_engine.specs.declared.by_turns.fault.RunFault.{RunFault}
+use Rattle.canvas_engine.specs.declared.by_turns.fault.RunFault.TheVariants.{BadWorkers, BadTurn, Halted}
+use Rattle.canvas_engine.specs.Correct.{IsRunFault}
+use Rattle.canvas_engine.specs.Noted.{IsStepped, step_seen}
+use Rattle.canvas_engine.specs.declared.by_turns.notes.Step.{Step}
 use Rattle.canvas_runs.specs.Redeliveries.{Entry}
 use Rattle.canvas_steps.specs.Lines.{none_held, steps_text}
 use Rattle.canvas_report.specs.Failing.{any_failed}

@@ -4,7 +4,7 @@ ghost use Rattle.canvas_answer.specs.Asking.{asking};
 ghost use Rattle.canvas_answer.specs.Plans.{ArePlansOf, run_line};
 ghost use Rattle.canvas_semantics.specs.Line.{tree_of};
 ghost use Rattle.canvas_semantics.specs.States.{states};
-ghost use Rattle.canvas_by_turns.specs.Correct.{IsRunFault};
+ghost use Rattle.canvas_engine.specs.Correct.{IsRunFault};
 ghost use Rattle.canvas_engine.specs.Evidence.{IsThreadFault};
 ghost use Rattle.canvas_command.specs.Runs.{IsByTurns, IsRunOf, IsSteppedOf};
 

@@ -12,7 +12,7 @@ use Rattle.canvas_semantics.specs.States.{states, rows_from}
 use Rattle.canvas_semantics.proofs.RowNumbers.{states_in, states_listed}
 use Rattle.canvas_semantics.proofs.SameReport.{same_report}
 use Rattle.canvas_runs.specs.Redeliveries.{Entry}
-use Rattle.canvas_by_turns.specs.Correct.{AreWorkers, IsAsked, IsWholeAgain}
+use Rattle.canvas_engine.specs.Correct.{AreWorkers, IsAsked, IsWholeAgain}
 use Rattle.canvas_history.specs.Callers.{told}
 use Rattle.canvas_rewrite.specs.Planned.{IsPlan}
 use Rattle.canvas_runs.specs.ProgramOrder.{program_order}
@@ -20,7 +20,7 @@ use Rattle.canvas_engine.specs.Evidence.{IsRun}
 use Rattle.canvas_engine.specs.Headline.{Headline, OnlyWanted}
 use Rattle.canvas_engine.specs.Texts.{IsPlanOfText, IsTextAgain, IsTextFault, IsTextRun}
 use Rattle.canvas_engine.specs.steps.PlanTexts.{IsPlanFault}
-use Rattle.canvas_by_turns.specs.declared.fault.RunFault.{RunFault}
+use Rattle.canvas_engine.specs.declared.by_turns.fault.RunFault.{RunFault}
 use Rattle.canvas_engine.specs.declared.threads.records.Records.{Records}
 use Rattle.canvas_engine.specs.declared.text.TextFault.{TextFault}
 use Rattle.canvas_engine.specs.declared.text.TextFault.TheVariants as a_fault

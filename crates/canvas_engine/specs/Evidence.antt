@@ -22,9 +22,9 @@ use Rattle.canvas_runs.specs.PerCaller.{QueuePerCaller, TablePerCaller}
 use Rattle.canvas_runs.specs.CallerLaws.{broker_calls_seen}
 use Rattle.canvas_runs.specs.CallerRows.{RanWell}
 use Rattle.canvas_core.specs.declared.cause.Cause.TheVariants.{Memory, Stopped}
-use Rattle.canvas_by_turns.specs.Correct.{AreWorkers}
-use Rattle.canvas_by_turns.specs.declared.fault.RunFault.{RunFault}
-use Rattle.canvas_by_turns.specs.declared.fault.RunFault.TheVariants.{BadWorkers, BadTurn, Halted}
+use Rattle.canvas_engine.specs.Correct.{AreWorkers}
+use Rattle.canvas_engine.specs.declared.by_turns.fault.RunFault.{RunFault}
+use Rattle.canvas_engine.specs.declared.by_turns.fault.RunFault.TheVariants.{BadWorkers, BadTurn, Halted}
 use Rattle.canvas_engine.specs.declared.threads.records.Records.{Records}
 use Rattle.canvas_engine.specs.declared.threads.records.Tally.{Tally}
 

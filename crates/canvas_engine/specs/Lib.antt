@@ -2,12 +2,12 @@ pub mod Headline
 pub mod Evidence
 pub mod RecordLaws
 pub mod Texts
+pub mod Correct
+pub mod Traced
+pub mod Noted
+pub mod TurnFaults
 pub mod steps
 pub use Rattle.canvas_backend.specs.Plain
-pub use Rattle.canvas_by_turns.specs.Correct
-pub use Rattle.canvas_by_turns.specs.Noted
-pub use Rattle.canvas_by_turns.specs.Traced
-pub use Rattle.canvas_by_turns.specs.TurnFaults
 pub use Rattle.canvas_history.specs.Callers
 pub use Rattle.canvas_history.specs.Roster
 pub use Rattle.canvas_history.specs.Table
@@ -25,3 +25,5 @@ pub use Rattle.canvas_runs.specs.Termination
 pub use Rattle.canvas_runs.specs.Redeliveries
 pub use Rattle.canvas_runs.specs.Turns
 pub use Rattle.canvas_values.specs.CanvasText
+pub use Rattle.canvas_effects.specs.Effects
+pub use Rattle.canvas_runs.specs.Worker

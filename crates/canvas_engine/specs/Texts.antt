@@ -13,12 +13,12 @@ use Rattle.canvas_semantics.specs.Report.{report}
 use Rattle.canvas_semantics.specs.SameMeaning.{IsSame}
 use Rattle.canvas_semantics.specs.States.{states}
 use Rattle.canvas_runs.specs.Redeliveries.{Entry}
-use Rattle.canvas_by_turns.specs.Correct.{AreWorkers, IsAsked, IsWholeAgain}
+use Rattle.canvas_engine.specs.Correct.{AreWorkers, IsAsked, IsWholeAgain}
 use Rattle.canvas_rewrite.specs.Planned.{IsPlan}
 use Rattle.canvas_runs.specs.ProgramOrder.{program_order}
 use Rattle.canvas_engine.specs.Evidence.{IsRun}
 use Rattle.canvas_engine.specs.Headline.{Headline, OnlyWanted}
-use Rattle.canvas_by_turns.specs.declared.fault.RunFault.{RunFault}
+use Rattle.canvas_engine.specs.declared.by_turns.fault.RunFault.{RunFault}
 use Rattle.canvas_engine.specs.declared.threads.records.Records.{Records}
 use Rattle.canvas_engine.specs.declared.text.TextFault.{TextFault}
 use Rattle.canvas_engine.specs.declared.text.TextFault.TheVariants.{Sig, Run, Memory}

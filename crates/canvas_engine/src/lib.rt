@@ -1,12 +1,13 @@
-//! Runs of canvases and their reports.
+//! Runs of canvases, by turns on one thread and on threads, and their reports.
 #![tactic(auto)]
 
+mod by_turns;
 mod text;
 mod threads;
 
 ghost use Rattle.canvas_engine.specs.RecordLaws.{FewEntries, AllArePlain};
 
-pub use canvas_by_turns::{
+pub use by_turns::{
     Did, RunFault, Step, read_turns, run_turns, run_turns_again, run_turns_stepped,
     run_turns_traced, run_turns_within,
 };

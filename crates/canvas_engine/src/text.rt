@@ -7,7 +7,7 @@ ghost use Rattle.canvas_semantics.specs.Evaluation.{State};
 ghost use Rattle.canvas_semantics.specs.Line.{tree_of};
 ghost use Rattle.canvas_semantics.specs.Report.{report, report_of};
 ghost use Rattle.canvas_semantics.specs.States.{rows_from, states};
-ghost use Rattle.canvas_by_turns.specs.Correct.{AreWorkers, IsAsked, IsWholeAgain, IsRunFault};
+ghost use Rattle.canvas_engine.specs.Correct.{AreWorkers, IsAsked, IsWholeAgain, IsRunFault};
 ghost use Rattle.canvas_engine.specs.Headline.{Headline, OnlyWanted};
 ghost use Rattle.canvas_engine.specs.Evidence.{IsRun, IsThreadFault};
 ghost use Rattle.canvas_rewrite.specs.Planned.{IsPlan};

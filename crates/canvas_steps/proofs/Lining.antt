@@ -6,7 +6,7 @@ use Rattle.canvas_task.proofs.Turns.{item_first}
 use Rattle.canvas_task.specs.Text.{Text}
 use Rattle.canvas_semantics.specs.Line.{Line}
 use Rattle.canvas_report.specs.declared.row.Row.{Row}
-use Rattle.canvas_by_turns.specs.declared.notes.Step.{Step}
+use Rattle.canvas_engine.specs.declared.by_turns.notes.Step.{Step}
 use Rattle.canvas_steps.specs.Lines.{did_text, held_after, held_by, steps_text, worker_text}
 
 -- ---- pieces that are added one after the other

@@ -12,9 +12,9 @@ use Rattle.canvas_history.specs.declared.stored.Stored.TheVariants.{First, Again
 use Rattle.canvas_report.specs.RowTexts.{shown_text}
 use Rattle.canvas_report.specs.StoredRows.{row_of}
 use Rattle.canvas_report.specs.declared.row.Row.{Row}
-use Rattle.canvas_by_turns.specs.declared.notes.Did.{Did}
-use Rattle.canvas_by_turns.specs.declared.notes.Did.TheVariants as did
-use Rattle.canvas_by_turns.specs.declared.notes.Step.{Step}
+use Rattle.canvas_engine.specs.declared.by_turns.notes.Did.{Did}
+use Rattle.canvas_engine.specs.declared.by_turns.notes.Did.TheVariants as did
+use Rattle.canvas_engine.specs.declared.by_turns.notes.Step.{Step}
 
 -- ---- parts of a line
 

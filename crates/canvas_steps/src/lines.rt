@@ -8,7 +8,7 @@ ghost use Rattle.canvas_steps.specs.Lines.{ask_text, did_text, held_after, held_
 use crate::line::{
     more_member, put, put_ask, put_group, put_named, put_number, put_task, stored_member,
 };
-use canvas_by_turns::{Did, Step};
+use canvas_engine::{Did, Step};
 use canvas_report::{Row, shown_members};
 use canvas_rewrite::Plan;
 use canvas_task::{GroupNo, Memory, TaskNo};

@@ -38,7 +38,7 @@ use Rattle.canvas_worker.proofs.Polls.Stepping.{nothing_done}
 use Rattle.canvas_worker.specs.declared.record.Record.{Record}
 use Rattle.canvas_core.specs.declared.cause.Cause.{Cause}
 use Rattle.canvas_core.specs.declared.cause.Cause.TheVariants.{Memory, Stopped}
-use Rattle.canvas_by_turns.specs.Correct.{AreWorkers}
+use Rattle.canvas_engine.specs.Correct.{AreWorkers}
 use Rattle.canvas_engine.specs.Evidence.{IsRun, AreTallies, IsThreadFault}
 use Rattle.canvas_engine.specs.steps.Gathering.{AreGathered, AreRead, JoinedWorkers, IsStart, IsWellGathered, AreWanted, leaves, tallies_from}
 use Rattle.canvas_engine.specs.steps.WorkerSlots.{AllRan, IsWell, IsWhy, TakesIn, nothing_counted, tally_in}
@@ -46,7 +46,7 @@ use Rattle.canvas_engine.specs.declared.threads.ending.Run.{Run}
 use Rattle.canvas_engine.specs.declared.threads.running.Start.{Start}
 use Rattle.canvas_engine.specs.declared.threads.slot.WorkerSlot.{WorkerSlot}
 use Rattle.canvas_engine.proofs.OnThreads.WorkerSlots.{each_ran, joined_of}
-use Rattle.canvas_by_turns.specs.declared.fault.RunFault.TheVariants.{Halted}
+use Rattle.canvas_engine.specs.declared.by_turns.fault.RunFault.TheVariants.{Halted}
 use Rattle.canvas_engine.specs.declared.threads.records.Records.{Records}
 use Rattle.canvas_engine.specs.declared.threads.records.Tally.{Tally}
 

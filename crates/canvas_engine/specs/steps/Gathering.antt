@@ -25,8 +25,8 @@ use Rattle.canvas_engine.specs.steps.WorkerSlots.{AreOfObjects, IsReadySlot, Spl
 use Rattle.canvas_engine.specs.declared.threads.handles.Objects.{Objects}
 use Rattle.canvas_engine.specs.declared.threads.records.Records.{Records}
 use Rattle.canvas_engine.specs.declared.threads.records.Tally.{Tally}
-use Rattle.canvas_by_turns.specs.declared.fault.RunFault.{RunFault}
-use Rattle.canvas_by_turns.specs.declared.fault.RunFault.TheVariants.{BadWorkers, BadTurn, Halted}
+use Rattle.canvas_engine.specs.declared.by_turns.fault.RunFault.{RunFault}
+use Rattle.canvas_engine.specs.declared.by_turns.fault.RunFault.TheVariants.{BadWorkers, BadTurn, Halted}
 use Rattle.canvas_engine.specs.declared.threads.ending.Run.{Run}
 use Rattle.canvas_engine.specs.declared.threads.running.Start.{Start}
 

@@ -2,7 +2,7 @@
 use Rattle.std.specs.Prelude.{◌≡◌, Err}
 use Rattle.canvas_task.specs.Text.{Text}
 use Rattle.canvas_values.specs.CanvasText.{text_reading}
-use Rattle.canvas_by_turns.specs.declared.fault.RunFault.{RunFault}
+use Rattle.canvas_engine.specs.declared.by_turns.fault.RunFault.{RunFault}
 use Rattle.canvas_engine.specs.declared.text.TextFault.{TextFault}
 use Rattle.canvas_engine.specs.declared.text.TextFault.TheVariants.{Sig, Run, Memory}
 

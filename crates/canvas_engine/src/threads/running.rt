@@ -7,12 +7,13 @@ ghost use Rattle.canvas_history.specs.Roster.{roster_of};
 ghost use Rattle.canvas_runs.specs.CallerRuns.{first_pass, first_seat};
 ghost use Rattle.canvas_runs.specs.ProgramOrder.{program_order};
 ghost use Rattle.canvas_semantics.specs.States.{states};
-ghost use Rattle.canvas_by_turns.specs.Correct.{AreWorkers};
+ghost use Rattle.canvas_engine.specs.Correct.{AreWorkers};
 ghost use Rattle.canvas_engine.specs.Evidence.{IsRun, IsThreadFault};
 ghost use Rattle.canvas_engine.specs.Headline.{Headline, OnlyWanted};
 ghost use Rattle.canvas_engine.specs.steps.Gathering.{HaveWorked, IsStart};
 ghost use Rattle.canvas_engine.specs.steps.WorkerSlots.{nothing_counted};
 
+use crate::by_turns::{first_envelopes, new_rows};
 use crate::threads::ending::Run;
 use crate::threads::handles::{
     Handles, Objects, are_done, fault_of, join_all, split_all, tally_all,
@@ -23,7 +24,6 @@ use crate::threads::workers::work_on_threads;
 use crate::{Cause, Records, Report, RunFault, Tally};
 use canvas_backend::Backend;
 use canvas_broker::Broker;
-use canvas_by_turns::{first_envelopes, new_rows};
 use canvas_envelope::Letter;
 use canvas_rewrite::Plan;
 use canvas_semantics::MOST_WORKERS;

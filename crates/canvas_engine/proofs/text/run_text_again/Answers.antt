@@ -1,4 +1,4 @@
-use Rattle.canvas_by_turns.specs.Correct.{IsRunFault}
+use Rattle.canvas_engine.specs.Correct.{IsRunFault}
 use Rattle.canvas_engine.proofs.SameText.{ran_again, ran_fault}
 use Rattle.canvas_engine.proofs.text.run_text_again.Goals as goal
 

@@ -1,7 +1,7 @@
 use Rattle.std.proofs.Common.{None, inr, subst}
 use Rattle.canvas_semantics.specs.Line.{tree_of}
 use Rattle.canvas_semantics.specs.States.{states}
-use Rattle.canvas_by_turns.specs.Correct.{IsRunFault}
+use Rattle.canvas_engine.specs.Correct.{IsRunFault}
 use Rattle.canvas_answer.specs.Plans.{run_line}
 use Rattle.canvas_command.proofs.runs.ByTurns.shown.Goals as goal
 

@@ -3,7 +3,7 @@ use Rattle.canvas_report.specs.Failing.{any_failed}
 use Rattle.canvas_semantics.specs.Evaluation.{with_states}
 use Rattle.canvas_semantics.specs.Line.{ends_of, tree_of}
 use Rattle.canvas_semantics.specs.States.{rows_from, states}
-use Rattle.canvas_by_turns.specs.Noted.{IsStepped, step_seen}
+use Rattle.canvas_engine.specs.Noted.{IsStepped, step_seen}
 use Rattle.canvas_answer.specs.Answers.{bytes_in}
 use Rattle.canvas_answer.specs.Plans.{run_line}
 use Rattle.canvas_answer.specs.Told.{report_status}

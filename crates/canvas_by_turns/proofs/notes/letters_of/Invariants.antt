@@ -1,9 +1,0 @@
-use Rattle.std.proofs.Common.{◌≡◌, ◌++◌, map}
-use Rattle.canvas_by_turns.specs.Noted.{step_seen}
-use Rattle.canvas_by_turns.specs.Traced.{sent_in}
-use Rattle.canvas_by_turns.proofs.notes.letters_of.Given as goal
-
--- the letters so far with those that are still to come
-abbrev pub invariant-loop-step : goal.invariant-loop-step
-invariant-loop-step l =
-    l.letters.items ++ sent_in (map step_seen l.step-iterator.rest.items) ≡ sent_in (map step_seen l.fn.steps.items)
