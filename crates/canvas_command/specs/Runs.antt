@@ -22,7 +22,7 @@ use Rattle.canvas_engine.specs.Correct.{IsRunFault}
 use Rattle.canvas_engine.specs.Noted.{IsStepped, step_seen}
 use Rattle.canvas_engine.specs.declared.by_turns.notes.Step.{Step}
 use Rattle.canvas_runs.specs.Redeliveries.{Entry}
-use Rattle.canvas_steps.specs.Lines.{none_held, steps_text}
+use Rattle.canvas_engine.specs.StepLines.{none_held, steps_text}
 use Rattle.canvas_report.specs.Failing.{any_failed}
 use Rattle.canvas_report.specs.declared.report.Report.{Report}
 use Rattle.canvas_report.specs.declared.row.Row.{Row}

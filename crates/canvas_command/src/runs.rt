@@ -17,10 +17,9 @@ use canvas_answer::refusal::Refusal;
 use canvas_answer::reporting::{Format, OutputOptions};
 use canvas_answer::source::Source;
 use canvas_engine::{
-    OpenGate, Report, RunFault, Stop, When, run, run_turns_again, run_turns_stepped,
+    OpenGate, Report, RunFault, Stop, When, run, run_turns_again, run_turns_stepped, steps_text,
 };
 use canvas_rewrite::Plan;
-use canvas_steps::steps_text;
 use canvas_task::{TaskNo, Tasks};
 use std::alloc::Global;
 use std::random::RandomSource;

@@ -6,6 +6,7 @@ pub mod Correct
 pub mod Traced
 pub mod Noted
 pub mod TurnFaults
+pub mod StepLines
 pub mod steps
 pub use Rattle.canvas_backend.specs.Plain
 pub use Rattle.canvas_history.specs.Callers

@@ -1,7 +1,9 @@
-//! Runs of canvases, by turns on one thread and on threads, and their reports.
+//! Runs of canvases, by turns on one thread and on threads; their reports, and the steps of those
+//! by turns as JSON lines.
 #![tactic(auto)]
 
 mod by_turns;
+mod steps;
 mod text;
 mod threads;
 
@@ -14,6 +16,7 @@ pub use by_turns::{
 pub use canvas_report::{Report, report_text};
 pub use canvas_semantics::MOST_WORKERS;
 pub use canvas_worker::{Cause, Gate, OpenGate, Stop, When};
+pub use steps::steps_text;
 pub use text::{TextFault, run_text, run_text_again, run_text_recorded, run_text_threads};
 pub use threads::{Records, Tally, run};
 

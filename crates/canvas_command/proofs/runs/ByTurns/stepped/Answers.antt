@@ -7,7 +7,7 @@ use Rattle.canvas_engine.specs.Noted.{IsStepped, step_seen}
 use Rattle.canvas_answer.specs.Answers.{bytes_in}
 use Rattle.canvas_answer.specs.Plans.{run_line}
 use Rattle.canvas_answer.specs.Told.{report_status}
-use Rattle.canvas_steps.specs.Lines.{none_held, steps_text}
+use Rattle.canvas_engine.specs.StepLines.{none_held, steps_text}
 use Rattle.canvas_command.proofs.runs.ByTurns.stepped.Goals as goal
 
 pub returns-in_ok-lines-in-Ok : goal.returns-in_ok-lines-in-Ok
