@@ -68,10 +68,7 @@ pub fn two_numbers(
 fn fitted(answer: Result<i128, Kind>) -> Result<i64, Kind>
     ensures { result ≡ fitted answer }
 {
-    match answer {
-        Ok(number) => checked(number),
-        Err(kind) => Err(kind),
-    }
+    checked(answer?)
 }
 
 /// The answer to a number.
