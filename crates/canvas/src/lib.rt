@@ -18,8 +18,8 @@ pub use canvas_sig::{
     Canvas, Node, SigFault, TaskSig, read_arg, read_canvas, write_arg, write_canvas, write_node,
 };
 pub use canvas_task::{
-    Add, AddFault, Arg, BuiltinTasks, Div, Fault, GroupNo, Ident, Kind, ListOf, LogError, MapOf,
-    Memory, Mul, NotAdded, OfList, OfOne, OfTwo, Outcome, Registry, Task, TaskNo, TaskOfList,
-    TaskOfOne, TaskOfTwo, Tasks, TextOf, Why, Xsum, apply, group_of_text, group_text, name_ok,
-    outcome_of, registry_of, task_of_text, task_text, word_of,
+    Add, AddFault, Arg, Builtin, BuiltinTasks, Div, Fault, GroupNo, Ident, Kind, ListOf, LogError,
+    MapOf, Memory, Mul, NotAdded, OfList, OfOne, OfTwo, Outcome, Registry, Task, TaskNo,
+    TaskOfList, TaskOfOne, TaskOfTwo, Tasks, TextOf, Why, Xsum, apply, group_of_text, group_text,
+    name_ok, outcome_of, registry_of, task_of_text, task_text, word_of,
 };

@@ -1,6 +1,6 @@
 //! The meaning of a canvas as plain data: its tree, its normal line, and the states and the report
 //! that evaluating it gives. No code runs here: the functions have empty bodies, and their
-//! contracts are laws. Only the limits are constants for code.
+//! contracts are laws. Only the limits are for code.
 #![tactic(auto)]
 
 mod limits;
@@ -15,7 +15,7 @@ ghost use Rattle.canvas_semantics.specs.SameMeaning.{IsSame};
 ghost use Rattle.canvas_semantics.specs.States.{rows_from, states};
 ghost use Rattle.canvas_semantics.specs.Tree.{Tree, IsFull, count, count_groups, numbered};
 
-pub use limits::{MOST_GROUPS, MOST_NESTING, MOST_REACH, MOST_TASKS, MOST_WORKERS};
+pub use limits::{MOST_GROUPS, MOST_NESTING, MOST_REACH, MOST_TASKS, MOST_WORKERS, WithCommas};
 
 /// States the law of the normal line: if no chain is empty, the normal line of a canvas means what
 /// the canvas means, for all behaviours of tasks. For every flow each task has the same state by

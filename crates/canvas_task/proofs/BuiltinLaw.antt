@@ -1,6 +1,7 @@
 -- The built-in tasks have names of their own, and a registry of just them answers as they do.
 use Rattle.std.proofs.Common.{◌≡◌, ◌∙◌, ◌≤◌, ℕ, zero, suc, negsuc, Err, inl, inr, Bool, true, false, List, [], ◌∷◌, get_or, Option, Some, None, ℤ, pos, refl, sym, ap, subst, arith}
-use Rattle.std.specs.Prelude.{if◌then◌else◌}
+use Rattle.std.specs.Prelude.{if◌then◌else◌, ◌==◌, not}
+use Rattle.std.specs.List.{list_all}
 use Rattle.std.specs.Str.{bytes_eq}
 use Rattle.std.proofs.lemmas.Option.{same_Some, none-some}
 use Rattle.std.proofs.lemmas.Slice.Eq.{bytes_eq-Decides}
@@ -42,6 +43,15 @@ word_begins Div = omega arith
 word_begins Xsum = omega arith
 word_begins Ident = omega arith
 word_begins LogError = omega arith
+
+-- no word has an `=`
+pub no_equals : (task : Builtin) → list_all (λ b. not (b == 61)) (word task) ≡ true
+no_equals Add = refl
+no_equals Mul = refl
+no_equals Div = refl
+no_equals Xsum = refl
+no_equals Ident = refl
+no_equals LogError = refl
 
 -- ---- what they answer
 

@@ -206,7 +206,7 @@ fn first_named(name: &str, tasks: &[Builtin]) -> Option<Builtin>
     ensures { result ≡ first_called task_name name.now tasks.now }
 {
     for task in tasks {
-        if task.name() == name {
+        if (*task).name() == name {
             return Some(*task);
         }
     }
@@ -304,6 +304,23 @@ impl Builtin {
             Builtin::Ident => Ident.call(args, kwargs),
             Builtin::LogError => LogError.call(args, kwargs),
         }
+    }
+}
+
+/// Each as a task of a registry: `registry_of!(alloc; Builtin::Add, Builtin::Mul, change)?`.
+impl Task for Builtin {
+    ghost use Rattle.canvas_task.specs.Builtin.{meaning, task_name};
+
+    ghost called = { task_name };
+
+    ghost answers = { meaning };
+
+    fn name(&self) -> &str {
+        Builtin::name(*self)
+    }
+
+    fn call(&self, args: &[Arg], kwargs: &BTreeMap<String, Arg>) -> Result<i64, Kind> {
+        Builtin::call(*self, args, kwargs)
     }
 }
 

@@ -4,8 +4,8 @@ ghost use Rattle.std.specs.Prelude.{pos, Ok};
 
 use canvas_samples::{Difference, group, raised_by_2, task};
 use canvas_task::{
-    Add, AddFault, Arg, Div, Fault, GroupNo, Ident, Kind, ListOf, LogError, MapOf, Mul, NotAdded,
-    Outcome, Registry, Task, TaskNo, TaskOfTwo, TextOf, Xsum, apply, group_of_text, group_text,
+    Add, AddFault, Arg, Builtin, Div, Fault, GroupNo, Ident, Kind, ListOf, LogError, MapOf, Mul,
+    NotAdded, Outcome, Registry, Task, TaskNo, TaskOfTwo, TextOf, apply, group_of_text, group_text,
     name_ok, outcome_of, registry_of, task_of_text, task_text, word_of,
 };
 use std::alloc::{AllocError, Global};
@@ -135,7 +135,7 @@ fn answers_as_the_table(registry: &Registry, args: &[Arg], none: &BTreeMap<Strin
 }
 
 fn six_answer(alloc: Global) -> Result<bool, AddFault> {
-    let six = registry_of!(alloc; Add, Mul, Div, Xsum, Ident, LogError)?;
+    let six = registry_of!(alloc; Add, Mul, Div, Builtin::Xsum, Ident, LogError)?;
     let none = BTreeMap::new(alloc);
     let numbers = [Arg::Num(-7), Arg::Num(2)];
     Ok(
