@@ -135,18 +135,12 @@ pub fn or_null<'a>(field: Option<&'a Datum<'a>>, lent: &'a Datum<'a>) -> &'a Dat
 pub fn kwarg_of<'a>(value: &Datum<'a>, name: &str) -> Option<&'a Datum<'a>>
     ensures { value_at result ≡ kwarg name.now (view value.now) }
 {
-    match value.get("kwargs") {
-        Some(kwargs) => kwargs.get(name),
-        None => None,
-    }
+    value.get("kwargs")?.get(name)
 }
 
 /// Returns a member of the options.
 pub fn option_of<'a>(value: &Datum<'a>, name: &str) -> Option<&'a Datum<'a>>
     ensures { value_at result ≡ option name.now (view value.now) }
 {
-    match value.get("options") {
-        Some(options) => options.get(name),
-        None => None,
-    }
+    value.get("options")?.get(name)
 }

@@ -27,10 +27,7 @@ pub(crate) struct Members<'v> {
 fn within<'v>(outer: Option<&'v Datum<'v>>, name: &str) -> Option<&'v Datum<'v>>
     ensures { value_at result ≡ field name.now (value_at outer.entry) }
 {
-    match outer {
-        Some(value) => value.get(name),
-        None => None,
-    }
+    outer?.get(name)
 }
 
 impl<'v> Members<'v> {

@@ -37,10 +37,7 @@ fn alone<'a>(token: Token<'a>) -> Option<Datum<'a>>
     match token {
         Token::Null => Some(Datum::Null),
         Token::Bool(flag) => Some(Datum::Bool(flag)),
-        Token::Number(text) => match number_of(text) {
-            Some(number) => Some(Datum::Number(number)),
-            None => None,
-        },
+        Token::Number(text) => Some(Datum::Number(number_of(text)?)),
         Token::String(text) => Some(Datum::Text(text)),
         _ => None,
     }

@@ -115,10 +115,7 @@ impl<'a> Source<'a> {
         ensures { MatchResult result (λ t. self.old ≡ token_of t ∷ self.new)
             (λ e. e ≡ NotJson → self.old ≡ []) }
     {
-        match self.next()? {
-            Some(token) => Ok(token),
-            None => Err(Unread::NotJson),
-        }
+        self.next()?.ok_or(Unread::NotJson)
     }
 
     /// Returns the next token if it is not plain.
@@ -144,15 +141,11 @@ impl<'a> Source<'a> {
                 return Ok(Some(token));
             }
         }
-        match Reader::new(self.rest, scratch) {
-            Ok(mut reader) => {
-                let token = reader.next();
-                self.reader = Some(reader);
-                self.place = Place::Failed;
-                Ok(token)
-            }
-            Err(refused) => Err(refused),
-        }
+        let mut reader = Reader::new(self.rest, scratch)?;
+        let token = reader.next();
+        self.reader = Some(reader);
+        self.place = Place::Failed;
+        Ok(token)
     }
 
     /// Returns the next key, or None at the brace that closes an object.

@@ -1,10 +1,9 @@
-use Rattle.std.proofs.Common.{◌≡◌, Some, option_map, sym, ap, ◌∙◌, rules}
+use Rattle.std.proofs.Common.{◌≡◌, Some, sym, ap, ◌∙◌, rules}
 use Rattle.json.specs.Reads.{token_of}
-use Rattle.serde_json.specs.Data.{null, boolean, number, string}
-use Rattle.serde_json.specs.View.{number_view}
+use Rattle.serde_json.specs.Data.{null, boolean, string}
 use Rattle.canvas_sig.specs.Datum.{view}
 use Rattle.canvas_sig.specs.steps.Alone.{alone}
-use Rattle.canvas_sig.specs.declared.datum.Datum.{Text, Number, Bool, Null, the_lemmas}
+use Rattle.canvas_sig.specs.declared.datum.Datum.{Text, Bool, Null, the_lemmas}
 use Rattle.canvas_sig.proofs.Alone.{not_alone}
 use Rattle.canvas_sig.proofs.parsing.alone.Goals as goal
 
@@ -17,14 +16,6 @@ pub returns-in-Bool : goal.returns-in-Bool
 returns-in-Bool c =
     let seen : view (Bool c.in-Bool.flag) ≡ boolean c.in-Bool.flag = search (rules, the_lemmas) in
     ap Some seen ∙ ap (λ t. alone (token_of t)) (sym c.in-Bool.is)
-
-pub returns-in-Some : goal.returns-in-Some
-returns-in-Some c =
-    let seen : view (Number c.in-Some.number) ≡ number (number_view c.in-Some.number) = search (rules, the_lemmas) in
-    ap Some seen ∙ ap (option_map number) c.in-Some.ensures ∙ ap (λ t. alone (token_of t)) (sym c.in-Number.is)
-
-pub returns-in-None : goal.returns-in-None
-returns-in-None c = ap (option_map number) c.in-None.ensures ∙ ap (λ t. alone (token_of t)) (sym c.in-Number.is)
 
 pub returns-in-String : goal.returns-in-String
 returns-in-String c =
