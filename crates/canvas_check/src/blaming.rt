@@ -82,13 +82,11 @@ fn wrong_of_one<'a>(
     ensures { option_map (λ b. (b.parameter.now, b.wrong)) result
         ≡ first_wrong (fits (taken task)) (x.now ∷ []) args.now (named kwargs.now.entries) }
 {
-    match wrong_with(task, args.first(), by_name(x, kwargs)) {
-        Some(wrong) => Some(Blame {
-            parameter: x,
-            wrong,
-        }),
-        None => None,
-    }
+    let wrong = wrong_with(task, args.first(), by_name(x, kwargs))?;
+    Some(Blame {
+        parameter: x,
+        wrong,
+    })
 }
 
 /// Returns the first of two parameters that has a fault.
@@ -108,13 +106,11 @@ fn wrong_of_two<'a>(
             wrong,
         });
     }
-    match wrong_with(task, args.get(1), by_name(y, kwargs)) {
-        Some(wrong) => Some(Blame {
-            parameter: y,
-            wrong,
-        }),
-        None => None,
-    }
+    let wrong = wrong_with(task, args.get(1), by_name(y, kwargs))?;
+    Some(Blame {
+        parameter: y,
+        wrong,
+    })
 }
 
 /// Returns the first of a task's parameters that has a fault.
