@@ -75,9 +75,7 @@ impl NameList {
     pub(crate) fn get(&self, index: usize) -> Option<&str>
         ensures { option_map (λ name. name.now) result ≡ slice_get self.now index }
     {
-        match self.places.get(index) {
-            Some(place) => Some(self.texts[*place].get().as_str()),
-            None => None,
-        }
+        let place = *self.places.get(index)?;
+        Some(self.texts[place].get().as_str())
     }
 }
