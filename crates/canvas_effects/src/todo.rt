@@ -45,6 +45,6 @@ pub struct Todo {
 pub enum Onward {
     /// To publish this message, and nothing else.
     Next(Followed),
-    /// These.
+    /// To do the jobs of this.
     Todo(Todo),
 }
