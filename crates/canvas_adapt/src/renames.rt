@@ -27,10 +27,7 @@ fn number_of(text: &str) -> Option<TaskNo>
     if digits.starts_with('+') {
         return None;
     }
-    match digits.parse() {
-        Ok(number) => TaskNo::new(number),
-        Err(_) => None,
-    }
+    TaskNo::new(digits.parse().ok()?)
 }
 
 /// Reads another name for a task, as `#3=shop.ship`. The first `=` ends the number.

@@ -51,10 +51,7 @@ fn is_size(field: Option<&Datum<'_>>) -> bool {
 
 /// Returns the name of the task that is called with each item.
 pub(crate) fn called_task<'a>(value: &Datum<'a>) -> Option<&'a Datum<'a>> {
-    match kwarg_of(value, "task") {
-        Some(task) => task.get("task"),
-        None => None,
-    }
+    kwarg_of(value, "task")?.get("task")
 }
 
 /// Returns whether a signature is a task of Celery's own that gets a signature to call.
