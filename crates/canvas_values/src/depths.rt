@@ -15,9 +15,9 @@ use canvas_semantics::MOST_NESTING;
 /// The depths to which the signatures of a canvas are nested.
 #[derive(Clone, Copy, Debug, PartialEq, Eq)]
 pub struct Depths {
-    /// The depth in the canvas as written: from 1 to 8.
+    /// The depth in the canvas as written: from 1 to `MOST_NESTING`.
     pub nesting: u32,
-    /// The greatest depth in a message of its run: at most 32.
+    /// The greatest depth in a message of its run: at most `MOST_REACH`.
     pub reach: u32,
 }
 

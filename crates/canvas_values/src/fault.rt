@@ -33,9 +33,11 @@ pub enum SigFault {
     EmptyChain,
     /// 10: a member of a group or header ends in a group.
     NestedGroup,
-    /// 11: signatures are nested more than 8 deep, or more than 32 deep in some message of a run.
+    /// 11: signatures are nested deeper than `MOST_NESTING`, or deeper than `MOST_REACH` in some
+    /// message of a run.
     TooDeep,
-    /// 12: more than 1,024 tasks, callbacks included, or more than 1,024 groups and chords.
+    /// 12: more tasks than `MOST_TASKS`, callbacks included, or more groups and chords than
+    /// `MOST_GROUPS`.
     TooMany,
     /// 13: an allocation failed. It may replace any other refusal, and a success.
     Memory,

@@ -5,8 +5,7 @@ use Rattle.std.specs.List.{list_all}
 use Rattle.canvas_task.specs.Text.{Text}
 use Rattle.canvas_task.specs.Builtin.{word}
 use Rattle.canvas_task.specs.Name.{name_ok}
-use Rattle.canvas_task.proofs.BuiltinLaw.{known_word}
-use Rattle.canvas_task.specs.declared.builtin.Builtin.TheVariants.{Add, Mul, Div, Xsum, Ident, LogError}
+use Rattle.canvas_task.proofs.BuiltinLaw.{known_word, no_equals}
 use Rattle.canvas_task.specs.declared.outcome.Kind.{Kind}
 use Rattle.canvas_task.specs.declared.outcome.Kind.TheVariants.{BadCall, ZeroDivision, Overflow, NotRegistered}
 use Rattle.canvas_adapt.specs.declared.stubs.stub.Does.{Does}
@@ -28,12 +27,7 @@ free (b ∷ bs) h (suc i) l at =
     free bs (both_right (not (b == 61)) (list_all (λ b. not (b == 61)) bs) h) i (omega arith) at
 
 word_free : (does : Does) → in_bounds does ≡ true → Lacks (word_text does)
-word_free (SameAs Add) h = free (word Add) refl
-word_free (SameAs Mul) h = free (word Mul) refl
-word_free (SameAs Div) h = free (word Div) refl
-word_free (SameAs Xsum) h = free (word Xsum) refl
-word_free (SameAs Ident) h = free (word Ident) refl
-word_free (SameAs LogError) h = free (word LogError) refl
+word_free (SameAs task) h = free (word task) (no_equals task)
 word_free (Gives n) h = number_free n h
 word_free (Raises BadCall) h = free (word_text (Raises BadCall)) refl
 word_free (Raises ZeroDivision) h = free (word_text (Raises ZeroDivision)) refl

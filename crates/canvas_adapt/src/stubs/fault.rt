@@ -1,5 +1,6 @@
 //! The reasons why a text gives no stub.
 
+use canvas_semantics::{MOST_TASKS, WithCommas};
 use std::alloc::{AllocError, AllocFailed};
 use thiserror::Error;
 
@@ -26,7 +27,7 @@ pub enum StubFault {
     #[error("the name is there twice")]
     Doubled,
     /// There are already as many stubs as allowed (`MOST_STUBS`).
-    #[error("more than 1,024 names")]
+    #[error("more than {most} names", most = WithCommas(MOST_TASKS))]
     TooMany,
     /// An allocation failed.
     #[error("memory refused")]
