@@ -1,11 +1,12 @@
--- No command is missing in the list of all.
-use Rattle.std.proofs.Common.{◌≡◌, ◌≢◌, ◌⊎◌, inl, inr, ℕ, ◌+◌, ◌<◌, Bool, false, Option, Some, if◌then◌else◌, List, [], ◌∷◌, get_or, drop, refl, sym, ap, ◌∙◌, subst}
+-- What is proved command by command: none is missing in the list of all, and the parser's matches of
+-- each are known.
+use Rattle.std.proofs.Common.{◌≡◌, ◌≢◌, ◌⊎◌, inl, inr, ℕ, ◌+◌, ◌<◌, Bool, false, true, Option, Some, None, if◌then◌else◌, List, [], ◌∷◌, get_or, drop, refl, sym, ap, ◌∙◌, subst}
 use Rattle.std.specs.Str.{bytes_eq}
+use Rattle.clap.specs.Simple.{is_simple}
 use Rattle.std.proofs.lemmas.Bool.Decides.{not_from_Decides}
 use Rattle.std.proofs.lemmas.List.{drop_more}
 use Rattle.std.proofs.lemmas.Slice.Eq.{bytes_eq-Decides}
-use Rattle.canvas_words.specs.Names.{command_name}
-use Rattle.canvas_words.specs.Options.{all, named_among}
+use Rattle.canvas_words.specs.Options.{all, command_name, named_among, offered, program}
 use Rattle.canvas_words.specs.declared.subcommand.Subcommand.{Subcommand}
 use Rattle.canvas_words.specs.declared.subcommand.Subcommand.TheVariants.{Run, Turns, Normal, Check, Adapt, Graph, Page, Messages, Export, Keys, Collect}
 
@@ -29,6 +30,24 @@ all_there Messages = inr (inr (inr (inr (inr (inr (inr (inl refl)))))))
 all_there Export = inr (inr (inr (inr (inr (inr (inr (inr (inl refl))))))))
 all_there Keys = inr (inr (inr (inr (inr (inr (inr (inr (inr (inl refl)))))))))
 all_there Collect = inr (inr (inr (inr (inr (inr (inr (inr (inr (inr (inl refl))))))))))
+
+-- ---- the matches of the program with one command, or with all
+
+pub simple : (one : Option Subcommand) → is_simple (program (offered one)) ≡ true
+simple (Some Run) = refl
+simple (Some Turns) = refl
+simple (Some Normal) = refl
+simple (Some Check) = refl
+simple (Some Adapt) = refl
+simple (Some Graph) = refl
+simple (Some Page) = refl
+simple (Some Messages) = refl
+simple (Some Export) = refl
+simple (Some Keys) = refl
+simple (Some Collect) = refl
+simple None = refl
+
+-- ---- those that are left
 
 pub all_left : (name : List ℕ) → Left name all
 all_left name c is = all_there c

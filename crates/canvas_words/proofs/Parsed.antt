@@ -7,7 +7,7 @@ use Rattle.clap.specs.declared.error.Error.{Error}
 use Rattle.clap.specs.declared.error.kind.ErrorKind.TheVariants.{OutOfMemory}
 use Rattle.clap.specs.declared.parser.matches.ArgMatches.{ArgMatches}
 use Rattle.canvas_words.specs.Options.{all, first_word, named_among, program_for}
-use Rattle.canvas_words.proofs.Simplicity.{simple}
+use Rattle.canvas_words.proofs.AllCommands.{simple}
 
 pub parsed : (a : App) (words : List (List ℕ)) (r : Result ArgMatches Error) → a ≡ program_for words → IfOk r (HasMatchesOf a words)
     → IfOk r (λ m. subcommand_rows_of m ≡ subcommand_of (program_for words) words)

@@ -1,9 +1,8 @@
 -- The program as the parser has it.
 use Rattle.std.proofs.Common.{◌≡◌, [], Option, Some, None, map, true, codes, refl}
-use Rattle.clap.specs.Simple.{App, is_simple, new_shape}
+use Rattle.clap.specs.Simple.{App, new_shape}
 use Rattle.canvas_words.specs.Options.{command, offered, program}
 use Rattle.canvas_words.specs.declared.subcommand.Subcommand.{Subcommand}
-use Rattle.canvas_words.specs.declared.subcommand.Subcommand.TheVariants.{Run, Turns, Normal, Check, Adapt, Graph, Page, Messages, Export, Keys, Collect}
 use Rattle.canvas_words.proofs.Added.{with_commands}
 
 abbrev pub no_commands : App
@@ -16,19 +15,3 @@ no_commands =
 pub whole : (one : Option Subcommand) → with_commands no_commands (map command (offered one)) ≡ program (offered one)
 whole (Some c) = refl
 whole None = refl
-
--- ---- its matches are known
-
-pub simple : (one : Option Subcommand) → is_simple (program (offered one)) ≡ true
-simple (Some Run) = refl
-simple (Some Turns) = refl
-simple (Some Normal) = refl
-simple (Some Check) = refl
-simple (Some Adapt) = refl
-simple (Some Graph) = refl
-simple (Some Page) = refl
-simple (Some Messages) = refl
-simple (Some Export) = refl
-simple (Some Keys) = refl
-simple (Some Collect) = refl
-simple None = refl

@@ -8,9 +8,23 @@ use Rattle.clap.specs.declared.builder.action.ArgAction.TheVariants.{Append, Set
 use Rattle.clap.specs.declared.builder.value_parser.ValueParser.TheVariants.{Unsigned}
 use Rattle.clap.specs.declared.error.kind.ErrorKind.{ErrorKind}
 use Rattle.clap.specs.declared.error.kind.ErrorKind.TheVariants.{DisplayHelp, DisplayVersion}
-use Rattle.canvas_words.specs.Names.{command_name}
 use Rattle.canvas_words.specs.declared.subcommand.Subcommand.{Subcommand}
 use Rattle.canvas_words.specs.declared.subcommand.Subcommand.TheVariants.{Run, Turns, Normal, Check, Adapt, Graph, Page, Messages, Export, Keys, Collect}
+
+-- ---- the names of the commands
+
+abbrev pub command_name : Subcommand → List ℕ
+command_name Run = codes "run"
+command_name Turns = codes "turns"
+command_name Normal = codes "normal"
+command_name Check = codes "check"
+command_name Adapt = codes "adapt"
+command_name Graph = codes "graph"
+command_name Page = codes "page"
+command_name Messages = codes "messages"
+command_name Export = codes "export"
+command_name Keys = codes "keys"
+command_name Collect = codes "collect"
 
 -- ---- kinds of options
 

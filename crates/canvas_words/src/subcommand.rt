@@ -1,8 +1,7 @@
 //! The commands of the program.
 
 ghost use Rattle.std.specs.Prelude.{◌≡◌, ◌≢◌, IfSome, IfNone};
-ghost use Rattle.canvas_words.specs.Names.{command_name};
-ghost use Rattle.canvas_words.specs.Options.{all, named_among};
+ghost use Rattle.canvas_words.specs.Options.{all, command_name, named_among};
 
 /// A command of the program.
 #[derive(Clone, Copy, Debug, PartialEq, Eq)]
