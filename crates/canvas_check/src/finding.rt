@@ -213,9 +213,9 @@ fn find_at(alloc: Global, bytes: &[u8], fault: SigFault) -> Result<Finding, Memo
 }
 
 /// Returns the refusal of a text and its place, or None if the text is a canvas. The place of a
-/// limit is the first signature that exceeds it: a member that ends in a group; a signature more
-/// than 8 deep, or the whole canvas if it is too deep only in a message; the task, group or chord
-/// that is one too many.
+/// limit is the first signature that exceeds it: a member that ends in a group; a signature that is
+/// too deep, or the whole canvas if it is too deep only in a message; the task, group or chord that
+/// is one too many.
 pub fn find(alloc: Global, bytes: &[u8]) -> Result<Option<Finding>, Memory>
     ensures { IfOk result (IsFound bytes.now) }
 {

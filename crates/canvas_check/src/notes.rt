@@ -3,6 +3,7 @@
 use crate::arguments::{Bad, of_bad_argument};
 use crate::listing::Place;
 use crate::shown::{shown, shown_value};
+use canvas_semantics::{MOST_GROUPS, MOST_NESTING, MOST_REACH, MOST_TASKS, WithCommas};
 use canvas_sig::SigFault;
 use canvas_sig::parts::{
     Datum, is_list, is_list_or_null, is_name, is_object_or_null, is_text, is_true, kwarg_of,
@@ -174,30 +175,21 @@ fn of_canvas(alloc: Global, place: &Place<'_>) -> Result<String, AllocError> {
 
 fn of_depth(alloc: Global, place: &Place<'_>) -> Result<String, AllocError> {
     if place.steps.is_empty() {
-        return String::from_str(
-            alloc,
-            "found signatures more than 32 deep in each other in a message of the run, wanted at most 32",
+        return format!(in alloc;
+            "found signatures more than {MOST_REACH} deep in each other in a message of the run, wanted at most {MOST_REACH}"
         );
     }
-    String::from_str(
-        alloc,
-        "found a signature more than 8 deep in others, wanted at most 8",
+    format!(in alloc;
+        "found a signature more than {MOST_NESTING} deep in others, wanted at most {MOST_NESTING}"
     )
 }
 
 fn of_number(alloc: Global, place: &Place<'_>) -> Result<String, AllocError> {
-    match primitive_of(place.value.get("subtask_type")) {
-        Some(Primitive::Task) => {
-            String::from_str(
-                alloc,
-                "found one task more than 1,024, wanted at most 1,024",
-            )
-        }
-        _ => String::from_str(
-            alloc,
-            "found one group or chord more than 1,024, wanted at most 1,024",
-        ),
-    }
+    let (what, most) = match primitive_of(place.value.get("subtask_type")) {
+        Some(Primitive::Task) => ("task", WithCommas(MOST_TASKS)),
+        _ => ("group or chord", WithCommas(MOST_GROUPS)),
+    };
+    format!(in alloc; "found one {what} more than {most}, wanted at most {most}")
 }
 
 /// Makes the note on a signature that has a refusal, or that exceeds a limit.
