@@ -14,7 +14,7 @@ use std::fs;
 use std::io::{self, ErrorKind, Read};
 use std::rt::Files;
 
-/// The most bytes of results that are accepted: 64 KiB for each of 1,024 tasks.
+/// The most bytes of results that are accepted: 64 MiB.
 const MOST_RESULTS: usize = 67_108_864;
 
 /// How many bytes are read at a time.

@@ -11,7 +11,8 @@ use std::marker::Model;
 ///
 /// `parent` is the task whose end published the message. A message holds only what can be read from
 /// an envelope: names and numbers are valid, only the last task of a line has a place, and
-/// signatures are nested at most 32 deep. The type guarantees it, so `encode` needs no condition.
+/// signatures are nested at most `MOST_REACH` deep. The type guarantees it, so `encode` needs no
+/// condition.
 #[derive(Drop)]
 pub struct Message {
     /// The called task: `id` in the headers.
