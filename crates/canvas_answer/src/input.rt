@@ -18,7 +18,7 @@ use std::rt::Files;
 const MOST_RESULTS: usize = 67_108_864;
 
 /// How many bytes are read at a time.
-const CHUNK: usize = 2048;
+const CHUNK: usize = 16_384;
 
 /// The size of the largest block that malloc is made to keep, in bytes.
 const KEPT: usize = 4_194_304;

@@ -4,6 +4,7 @@ ghost use Rattle.std.specs.Prelude.{◌≡◌, ◌++◌, Some, IfOk, OnOk};
 ghost use Rattle.canvas_envelope.specs.Pieces.{embed_text, following_text, list_text};
 
 use crate::Piece;
+use crate::pieces::put;
 use canvas_task::ListOf;
 use std::alloc::AllocError;
 
@@ -17,12 +18,6 @@ pub struct Embed {
     pub following: Option<Piece>,
     /// The error callbacks as a list, if there are any.
     pub errbacks: Option<ListOf<u8>>,
-}
-
-fn put(body: &mut Vec<u8>, text: &[u8]) -> Result<(), AllocError>
-    ensures { OnOk result (body.new.items ≡ body.old.items ++ text.now) }
-{
-    body.extend_from_slice(text)
 }
 
 /// Appends a list, or null.

@@ -149,7 +149,9 @@ fn is_long(rest: &Option<FrozenLine>) -> bool {
 #[derive(Drop)]
 pub(crate) enum Kept {
     Nothing,
-    Whole(Box<Message>),
+    /// A message in no box of its own. The worker that opens the letter frees what another thread
+    /// allocated, and each block takes the lock of that thread's memory.
+    Whole(Message),
     /// A message that many others follow on its line.
     Followed(Box<Followed>),
     /// A message with a few keyword arguments. A map with one entry takes room for fifteen, and all
@@ -164,12 +166,6 @@ impl Kept {
     {
         let waiting = Compact::of(alloc, message)?;
         Ok(Kept::Compact(Box::new(alloc, waiting)?))
-    }
-
-    fn whole(alloc: Global, message: Message) -> Result<Kept, AllocError>
-        ensures { IfOk result (λ k. kept k ≡ Some message) }
-    {
-        Ok(Kept::Whole(Box::new(alloc, message)?))
     }
 
     fn before(alloc: Global, message: Message) -> Result<Kept, AllocError>
@@ -187,7 +183,7 @@ impl Kept {
         let made = if is_long(&message.rest) {
             Kept::before(alloc, message)
         } else if count == 0 || count > FEW {
-            Kept::whole(alloc, message)
+            Ok(Kept::Whole(message))
         } else {
             Kept::waiting(alloc, message)
         };
@@ -229,7 +225,7 @@ impl Kept {
     {
         match mem::replace(self, Kept::Nothing) {
             Kept::Nothing => None,
-            Kept::Whole(message) => Some(message),
+            Kept::Whole(message) => Box::new(alloc, message).ok(),
             Kept::Followed(followed) => {
                 let message = Box::into_inner(followed).into_message();
                 Box::new(alloc, message).ok()

@@ -68,7 +68,8 @@ fn between(bytes: &[u8], start: usize, end: usize) -> &[u8]
     up_to(behind(bytes, start), end.saturating_sub(start))
 }
 
-fn put(text: &mut Vec<u8>, piece: &[u8]) -> Result<(), AllocError>
+/// Appends a piece to a text.
+pub(crate) fn put(text: &mut Vec<u8>, piece: &[u8]) -> Result<(), AllocError>
     ensures { OnOk result (text.new.items ≡ text.old.items ++ piece.now) }
 {
     text.extend_from_slice(piece)

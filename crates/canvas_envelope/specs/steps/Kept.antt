@@ -6,6 +6,6 @@ use Rattle.canvas_envelope.specs.declared.kept.Kept.TheVariants as holds
 
 abbrev pub kept : Kept → Option Content
 kept holds.Nothing = None
-kept (holds.Whole m) = Some m.value
+kept (holds.Whole m) = Some m
 kept (holds.Followed m) = Some m.value
 kept (holds.Compact m) = Some m.value

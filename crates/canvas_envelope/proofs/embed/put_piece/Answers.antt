@@ -7,6 +7,6 @@ use Rattle.canvas_envelope.proofs.embed.put_piece.Goals as goal
 
 pub returns-in_ok-put-in-Carried : goal.returns-in_ok-put-in-Carried
 returns-in_ok-put-in-Carried c =
-    last c.put-in-Carried-2.result c.args.body.now.items c.put-in-Carried.new.body.items c.put-in-Carried-2.new.out.items
+    last c.put-in-Carried-2.result c.args.body.now.items c.put-in-Carried.new.text.items c.put-in-Carried-2.new.out.items
     (codes "\"chain\":null,\"chord\":") (carried_bytes c.deref.result.now) _ c.in_ok-put-in-Carried.ensures c.put-in-Carried-2.ensures
     (ap (λ t. codes "\"chain\":null,\"chord\":" ++ carried_bytes t) c.deref.ensures ∙ ap (λ p. following_text (Some p)) (sym c.in-Carried.is))

@@ -18,5 +18,5 @@ returns c =
     let s3 = next _ _ f _ c.in_ok-put_following.ensures s2 in
     let s4 = next _ _ b _ c.in_ok-put-3.ensures s3 in
     let s5 = next _ _ r _ c.in_ok-put_list-2.ensures s4 in
-    last c.put-4.result o c.put_list-2.new.body.items c.put-4.new.body.items (((((a ++ l) ++ codes ",") ++ f) ++ b) ++ r) (codes "}]") _
+    last c.put-4.result o c.put_list-2.new.body.items c.put-4.new.text.items (((((a ++ l) ++ codes ",") ++ f) ++ b) ++ r) (codes "}]") _
     (s5 ∙ in_six o a l (codes ",") f b r) c.put-4.ensures (seven a l (codes ",") f b r (codes "}]"))
