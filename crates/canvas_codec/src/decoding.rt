@@ -97,10 +97,7 @@ fn draft_of(
 fn checked(draft: Draft) -> Result<Message, MessageFault>
     ensures { Gives (λ m. m) result (if_fits (draft_view draft)) }
 {
-    match Message::of(draft) {
-        Some(message) => Ok(message),
-        None => Err(MessageFault::BadEmbed),
-    }
+    Message::of(draft).ok_or(MessageFault::BadEmbed)
 }
 
 fn read_message(

@@ -37,19 +37,13 @@ pub(crate) fn group_of(field: Option<&Datum<'_>>) -> Option<GroupNo>
 pub(crate) fn known_task(field: Option<&Datum<'_>>) -> Result<TaskNo, SigFault>
     ensures { Gives (λ k. k) result (if_numbered (task_of (value_at field.entry))) }
 {
-    match task_of(field) {
-        Some(task) => Ok(task),
-        None => Err(SigFault::NotSignature),
-    }
+    task_of(field).ok_or(SigFault::NotSignature)
 }
 
 pub(crate) fn known_group(field: Option<&Datum<'_>>) -> Result<GroupNo, SigFault>
     ensures { Gives (λ g. g) result (if_numbered (group_of (value_at field.entry))) }
 {
-    match group_of(field) {
-        Some(group) => Ok(group),
-        None => Err(SigFault::NotSignature),
-    }
+    group_of(field).ok_or(SigFault::NotSignature)
 }
 
 fn sized(number: i64) -> Result<u32, SigFault>
