@@ -21,7 +21,7 @@ use Rattle.canvas_effects.specs.steps.Walks.{last_of, successes, skipped, all_sk
 use Rattle.canvas_effects.proofs.Copied.{line_parts}
 use Rattle.canvas_effects.proofs.Entered.{skipped_steps, skipped_group, skipped_chord}
 use Rattle.canvas_envelope.proofs.FitLemmas.{end_stands, never_stops}
-use Rattle.canvas_envelope.proofs.Seen.{task_seen, line_none, line_some, line_last, line_empty, end_none, end_some}
+use Rattle.canvas_envelope.proofs.Seen.{task_seen, line_none, line_some, line_last, end_none, end_some}
 
 pub number_seen : (t : FrozenTask) → number_of (p_task_view t) ≡ (out-FrozenTask t).no
 number_seen t = ap number_of (task_seen t)
@@ -102,16 +102,6 @@ pub last_there : (l : FrozenLine) → (out-FrozenLine l).tail ≡ None → (all 
     → Some (p_task_view t) ≡ last_of (p_line_view l)
 last_there l none all others t same split =
     sym (ap last_of (line_last l none others t (sym same ∙ split)) ∙ last_steps (map p_task_view others) (p_step (p_task_view t) p_stop) refl)
-
-pub last_never : (l : FrozenLine) → (out-FrozenLine l).tail ≡ None → (all : List FrozenTask) → all ≡ (out-FrozenLine l).tasks → length all ≡ 0
-    → None ≡ last_of (p_line_view l)
-last_never l none all same few = sym (ap last_of (line_empty l none all same few))
-
-pub last_end_none : (t : FrozenEnd) → (out-FrozenEnd t).body ≡ None → None ≡ last_of (p_end_view t)
-last_end_none t none = sym (ap last_of (end_none t none))
-
-pub last_end_some : (t : FrozenEnd) (b : FrozenLine) → (out-FrozenEnd t).body ≡ Some b → last_of (p_line_view b) ≡ last_of (p_end_view t)
-last_end_some t b some = sym (ap last_of (end_some t b some))
 
 -- its number and its place
 pub last_number : (k : ℕ) (l : PLine) (t : PTask) → last_of l ≡ Some t → last_task k l ≡ number_of t

@@ -14,10 +14,10 @@ pub(super) fn last_task(line: &FrozenLine) -> Option<&FrozenTask>
 {
     match &line.tail {
         Some(end) => last_of_end(end),
-        None => match line.tasks.get().split_last() {
-            Some((last, _others)) => Some(last),
-            None => None,
-        },
+        None => {
+            let (last, _others) = line.tasks.get().split_last()?;
+            Some(last)
+        }
     }
 }
 
@@ -25,8 +25,5 @@ pub(super) fn last_task(line: &FrozenLine) -> Option<&FrozenTask>
 fn last_of_end(end: &FrozenEnd) -> Option<&FrozenTask>
     ensures { option_map (λ t. p_task_view t.now) result ≡ last_of (p_end_view end.now) }
 {
-    match &end.body {
-        Some(body) => last_task(body),
-        None => None,
-    }
+    last_task(end.body.as_ref()?)
 }

@@ -276,15 +276,13 @@ fn part_at(place: Place, task: TaskNo, text: Option<Arc<CarriedText>>) -> Option
     ensures { option_map part_view result ≡ part_in (part_of (place_view place) task) }
 {
     let Place { group, chord } = place;
-    match chord {
-        Some(chord) => Some(PartCall {
-            group,
-            task,
-            chord,
-            text,
-        }),
-        None => None,
-    }
+    let chord = chord?;
+    Some(PartCall {
+        group,
+        task,
+        chord,
+        text,
+    })
 }
 
 /// Like `part_at`, but `place` may be None.
@@ -293,10 +291,7 @@ fn take_part(place: Option<Place>, task: TaskNo, texts: Texts) -> Option<PartCal
     requires texts { AreTexts texts (place_seen place) p_stop }
     ensures { option_map part_view result ≡ part_in (part_of (place_seen place) task) }
 {
-    match place {
-        Some(place) => part_at(place, task, carried_by(texts)),
-        None => None,
-    }
+    part_at(place?, task, carried_by(texts))
 }
 
 /// Returns the part that a message's task returns if it is the last of its line.

@@ -133,10 +133,7 @@ fn take_end(line: FrozenLine) -> Option<FrozenEnd>
         (λ e. p_line_view line ≡ p_end_view e) }
 {
     let FrozenLine { tasks: _none, tail } = line;
-    match tail {
-        Some(end) => Some(Box::into_inner(end)),
-        None => None,
-    }
+    Some(Box::into_inner(tail?))
 }
 
 /// Appends the messages with which a line begins; its end goes to the place.

@@ -1,8 +1,8 @@
 use Rattle.canvas_effects.proofs.Begun.{end_alone, none_alone}
 use Rattle.canvas_effects.proofs.effects.started.take_end.Goals as goal
 
-pub returns-in-Some : goal.returns-in-Some
-returns-in-Some c = end_alone c.args.line c.in-Some.end c.into_inner.result c.in-Some.is c.into_inner.ensures c.requires
+pub returns-in_err-tail : goal.returns-in_err-tail
+returns-in_err-tail c = rw c.from_residual.ensures (none_alone c.args.line c.in_err-tail.was c.requires)
 
 pub returns : goal.returns
-returns c = none_alone c.args.line c.in-None.is c.requires
+returns c = end_alone c.args.line c.in_ok-tail.field-0 c.into_inner.result c.in_ok-tail.was c.into_inner.ensures c.requires
