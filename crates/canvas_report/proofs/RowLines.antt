@@ -2,7 +2,7 @@
 use Rattle.std.proofs.Common.{◌≡◌, ◌≤◌, ℕ, zero, suc, ◌+◌, ◌-◌, ◌==◌, if◌then◌else◌, false, List, [], ◌∷◌, ◌++◌, length, drop, map, None, refl, sym, ap, ◌∙◌, append_assoc, append-nil, arith}
 use Rattle.std.proofs.lemmas.Bool.Decides.{nat_tests}
 use Rattle.std.proofs.lemmas.List.{drop_all}
-use Rattle.std.specs.Prelude.{slice_get, unwrap_or, option_map}
+use Rattle.std.specs.Prelude.{slice_get, unwrap_or}
 use Rattle.canvas_task.specs.Text.{Text}
 use Rattle.canvas_report.specs.declared.row.Row.{Row}
 use Rattle.canvas_report.specs.declared.row.Row.TheVariants as row
@@ -11,7 +11,6 @@ use Rattle.canvas_semantics.specs.States.{rows_from}
 use Rattle.canvas_semantics.specs.Line.{name_at}
 use Rattle.canvas_semantics.specs.Report.{counted_from}
 use Rattle.canvas_semantics.proofs.RowLookups.{flat, of_task}
-use Rattle.canvas_report.specs.Fates.{Fates, fate_at}
 use Rattle.canvas_report.specs.declared.shown.Status.{Status}
 use Rattle.canvas_report.specs.declared.shown.Status.TheVariants.{Pending, Success, Failure}
 use Rattle.canvas_report.specs.JsonRows.{worse}
@@ -80,12 +79,6 @@ row_found rows zero n same some = absurd (omega (arith, same, some))
 row_found rows (suc k) n same some =
     let place : n - 1 ≡ k = omega (arith, same, some) in
     ap (λ i. unwrap_or (slice_get rows i) (row.Known None)) place
-
-pub fate_found : (fates : Fates) (k n : ℕ) → n ≡ k → 1 ≤ n → option_map (λ f. f.1) (slice_get fates (n - 1)) ≡ fate_at fates k
-fate_found fates zero n same some = absurd (omega (arith, same, some))
-fate_found fates (suc k) n same some =
-    let place : n - 1 ≡ k = omega (arith, same, some) in
-    ap (λ i. option_map (λ f. f.1) (slice_get fates i)) place
 
 none_below : (ss : List State) (m : ℕ) → state_of 0 (rows_from (suc m) ss) ≡ None
 none_below [] m = refl

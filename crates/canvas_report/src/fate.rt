@@ -21,8 +21,6 @@ pub enum Fate {
 pub(crate) fn fate_in(fates: &[(TaskNo, Fate)], task: TaskNo) -> Option<Fate>
     ensures { result ≡ fate_at fates.now task }
 {
-    match fates.get(task.get() as usize - 1) {
-        Some((_, fate)) => Some(*fate),
-        None => None,
-    }
+    let (_, fate) = fates.get(task.get() as usize - 1)?;
+    Some(*fate)
 }

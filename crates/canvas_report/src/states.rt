@@ -17,8 +17,5 @@ fn row_at(rows: &[Option<Outcome>], index: usize) -> Option<Option<Outcome>>
 pub fn state_in(rows: &[Option<Outcome>], task: TaskNo) -> Option<Outcome>
     ensures { result ≡ state_of task (rows_from 1 rows.now) }
 {
-    match row_at(rows, task.get() as usize - 1) {
-        Some(state) => state,
-        None => None,
-    }
+    row_at(rows, task.get() as usize - 1).flatten()
 }

@@ -34,10 +34,7 @@ fn status_in(seen: &Seen<'_>, task: TaskNo) -> Option<Status>
     ensures { result ≡ option_map (λ rows. row_status (row_of rows task))
         (option_map (λ rows. rows.now) seen.now.rows) }
 {
-    match seen.rows {
-        Some(rows) => Some(status_at(rows, task)),
-        None => None,
-    }
+    Some(status_at(seen.rows?, task))
 }
 
 fn push_beginning(text: &mut String, number: u32, look: &str) -> Result<(), AllocError>
