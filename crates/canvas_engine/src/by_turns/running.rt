@@ -172,23 +172,38 @@ struct Ran {
     steps: Vec<NotedStep>,
 }
 
+/// How a run by turns goes, and which of its steps are noted.
+#[derive(Clone, Copy)]
+struct Schedule<'a> {
+    workers: u32,
+    turns: &'a [u32],
+    again: &'a [(TaskNo, When)],
+    keeps: Keeps,
+    /// How many asks may be answered.
+    steps: u128,
+}
+
 /// Runs a plan until `steps` asks are answered.
 fn run_steps<T: Tasks>(
     alloc: Global,
     plan: &Plan,
     tasks: &T,
-    workers: u32,
-    turns: &[u32],
-    again: &[(TaskNo, When)],
-    keeps: Keeps,
-    steps: u128,
+    schedule: &Schedule<'_>,
 ) -> Result<Ran, RunFault>
-    requires { IsAsked workers turns.now }
-    ensures ok { IfOk result (λ r. IsNotedWithin (T.behaviour tasks.now) plan.now workers turns.now
-        again.now steps keeps r.report.rows r.repeats (map step_seen r.steps.items)) }
-    ensures err { IfErr result
-        (IsAgainFault (T.behaviour tasks.now) plan.now workers turns.now again.now steps) }
+    requires { IsAsked schedule.now.workers schedule.now.turns.now }
+    ensures ok { IfOk result (λ r. IsNotedWithin (T.behaviour tasks.now) plan.now
+        schedule.now.workers schedule.now.turns.now schedule.now.again.now schedule.now.steps
+        schedule.now.keeps r.report.rows r.repeats (map step_seen r.steps.items)) }
+    ensures err { IfErr result (IsAgainFault (T.behaviour tasks.now) plan.now
+        schedule.now.workers schedule.now.turns.now schedule.now.again.now schedule.now.steps) }
 {
+    let Schedule {
+        workers,
+        turns,
+        again,
+        keeps,
+        steps,
+    } = *schedule;
     let Ok(rows) = new_rows(alloc, plan) else {
         return Err(RunFault::halted(Cause::Memory));
     };
@@ -219,23 +234,20 @@ fn run_checked<T: Tasks>(
     alloc: Global,
     plan: &Plan,
     tasks: &T,
-    workers: u32,
-    turns: &[u32],
-    again: &[(TaskNo, When)],
-    keeps: Keeps,
-    steps: u128,
+    schedule: &Schedule<'_>,
 ) -> Result<Ran, RunFault>
-    ensures ok { IfOk result (λ r. IsAsked workers turns.now
-        × IsNotedWithin (T.behaviour tasks.now) plan.now workers turns.now again.now steps keeps
-        r.report.rows r.repeats (map step_seen r.steps.items)) }
-    ensures err { IfErr result
-        (IsAgainFault (T.behaviour tasks.now) plan.now workers turns.now again.now steps) }
+    ensures ok { IfOk result (λ r. IsAsked schedule.now.workers schedule.now.turns.now
+        × IsNotedWithin (T.behaviour tasks.now) plan.now
+        schedule.now.workers schedule.now.turns.now schedule.now.again.now schedule.now.steps
+        schedule.now.keeps r.report.rows r.repeats (map step_seen r.steps.items)) }
+    ensures err { IfErr result (IsAgainFault (T.behaviour tasks.now) plan.now
+        schedule.now.workers schedule.now.turns.now schedule.now.again.now schedule.now.steps) }
 {
-    if workers < 1 || workers > MOST_WORKERS {
+    if schedule.workers < 1 || schedule.workers > MOST_WORKERS {
         return Err(RunFault::BadWorkers);
     }
-    if are_turns(turns, workers) {
-        run_steps(alloc, plan, tasks, workers, turns, again, keeps, steps)
+    if are_turns(schedule.turns, schedule.workers) {
+        run_steps(alloc, plan, tasks, schedule)
     } else {
         Err(RunFault::BadTurn)
     }
@@ -308,16 +320,14 @@ pub fn run_turns_again<T: Tasks>(
         (IsRunFault workers turns.now (states (T.behaviour tasks.now) (tree_of plan.now))) }
 {
     let steps = more_than_all(plan, workers, turns, again);
-    match run_checked(
-        alloc,
-        plan,
-        tasks,
+    let schedule = Schedule {
         workers,
         turns,
         again,
-        Keeps::Nothing,
+        keeps: Keeps::Nothing,
         steps,
-    ) {
+    };
+    match run_checked(alloc, plan, tasks, &schedule) {
         Ok(ran) => Ok((ran.report, ran.repeats)),
         Err(fault) => Err(fault),
     }
@@ -339,8 +349,14 @@ pub fn run_turns_traced<T: Tasks>(
         (IsRunFault workers turns.now (states (T.behaviour tasks.now) (tree_of plan.now))) }
 {
     let steps = more_than_all(plan, workers, turns, &[]);
-    let keeps = Keeps::Published;
-    match run_checked(alloc, plan, tasks, workers, turns, &[], keeps, steps) {
+    let schedule = Schedule {
+        workers,
+        turns,
+        again: &[],
+        keeps: Keeps::Published,
+        steps,
+    };
+    match run_checked(alloc, plan, tasks, &schedule) {
         Ok(ran) => match letters_of(alloc, ran.steps) {
             Ok(letters) => Ok((ran.report, letters)),
             Err(_refused) => Err(RunFault::halted(Cause::Memory)),
@@ -367,7 +383,14 @@ pub fn run_turns_stepped<T: Tasks>(
         (IsRunFault workers turns.now (states (T.behaviour tasks.now) (tree_of plan.now))) }
 {
     let steps = more_than_all(plan, workers, turns, again);
-    match run_checked(alloc, plan, tasks, workers, turns, again, Keeps::All, steps) {
+    let schedule = Schedule {
+        workers,
+        turns,
+        again,
+        keeps: Keeps::All,
+        steps,
+    };
+    match run_checked(alloc, plan, tasks, &schedule) {
         Ok(ran) => Ok((ran.report, ran.repeats, ran.steps)),
         Err(fault) => Err(fault),
     }
@@ -390,16 +413,14 @@ pub fn run_turns_within<T: Tasks>(
     ensures err { IfErr result
         (IsFaultWithin (T.behaviour tasks.now) plan.now workers turns.now steps) }
 {
-    match run_checked(
-        alloc,
-        plan,
-        tasks,
+    let schedule = Schedule {
         workers,
         turns,
-        &[],
-        Keeps::Nothing,
-        steps as u128,
-    ) {
+        again: &[],
+        keeps: Keeps::Nothing,
+        steps: steps as u128,
+    };
+    match run_checked(alloc, plan, tasks, &schedule) {
         Ok(ran) => Ok(ran.report),
         Err(fault) => Err(fault),
     }

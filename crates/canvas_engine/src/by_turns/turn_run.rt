@@ -74,34 +74,41 @@ fn count_again(repeats: u64, stored: Stored) -> u64
     }
 }
 
-/// Answers one ask of a worker by the queue and the table. A rest is answered with whether there is
-/// more. A store that answers Again is counted, and the step noted.
+/// The worker whose turn it is, and whether there is more to do, which a rest is answered with.
+#[derive(Clone, Copy)]
+struct Turn {
+    worker: u32,
+    more: bool,
+}
+
+/// Answers one ask of a worker by the queue and the table. A store that answers Again is counted,
+/// and the step noted.
 fn step<T: Tasks>(
     core: &mut Core,
     queue: &mut PlainBroker<Letter>,
     table: &mut PlainBackend,
     repeats: &mut u64,
     notes: &mut Notes,
-    worker: u32,
     tasks: &T,
-    more: bool,
+    turn: Turn,
 ) -> Result<(), Memory>
     requires inside { core.old.is_out ≡ false }
     requires may { MayAsk table.old.plan (held table.old) (asks_of table.old.plan core.old) }
     requires there { IsThere table.old.plan (next core.old) }
     requires in_range { AreInRange (held table.old) }
     requires going { next core.old ≡ ask.End → ⊥ }
-    ensures ok { OnOk result (Stepped (T.behaviour tasks.now) more core.old queue.old table.old
-        core.new queue.new table.new) }
+    ensures ok { OnOk result (Stepped (T.behaviour tasks.now) turn.more core.old queue.old
+        table.old core.new queue.new table.new) }
     ensures noted { OnOk result (Noted notes.old
-        (step_now worker table.old.plan queue.old (held table.old) more
+        (step_now turn.worker table.old.plan queue.old (held table.old) turn.more
         (asks_of table.old.plan core.old) ∷ []) notes.new) }
     ensures again { repeats.new
         ≡ counted_on repeats.old
         (store_answer (held table.old) (asks_of table.old.plan core.old)) }
     ensures err { OnErr result
-        (IsTried (T.behaviour tasks.now) more core.old queue.old table.old table.new) }
+        (IsTried (T.behaviour tasks.now) turn.more core.old queue.old table.old table.new) }
 {
+    let Turn { worker, more } = turn;
     match core.next() {
         Ask::Take => {
             let taken = queue.take();
@@ -364,9 +371,8 @@ impl TurnRun {
             &mut self.table,
             &mut self.repeats,
             &mut self.notes,
-            worker,
             tasks,
-            more,
+            Turn { worker, more },
         ) {
             Ok(()) => {
                 self.steps -= 1;

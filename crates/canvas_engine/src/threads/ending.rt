@@ -27,6 +27,13 @@ use std::alloc::{AllocGlobal, Global};
 use std::random::RandomSource;
 use std::sync::Wait;
 
+/// What holds a run back, and what ends it early.
+#[derive(Drop)]
+pub(crate) struct Controls<'a, G> {
+    pub gate: &'a G,
+    pub stop: &'a Stop,
+}
+
 /// What a run has besides its workers' places: before they begin, and once they have ended.
 #[derive(Drop)]
 pub(crate) struct Run {
@@ -169,20 +176,18 @@ impl Run {
         plan: &Plan,
         tasks: &T,
         workers: u32,
-        gate: &G,
-        stop: &Stop,
+        controls: &Controls<'_, G>,
     ) -> Result<(Report, Records), RunFault>
         requires workers { AreWorkers workers }
-        requires gathered { HaveWorked (T.behaviour tasks.now) (G.may_want gate.now) plan.now
-            workers None self }
+        requires gathered { HaveWorked (T.behaviour tasks.now) (G.may_want controls.now.gate.now)
+            plan.now workers None self }
         ensures ok { IfOk result
             (λ r. IsRun (T.behaviour tasks.now) plan.now workers r.0.rows r.1) }
-        ensures wanted { IfOk result (λ r. OnlyWanted (G.may_want gate.now) (told r.1.pass)) }
+        ensures wanted { IfOk result
+            (λ r. OnlyWanted (G.may_want controls.now.gate.now) (told r.1.pass)) }
         ensures err { IfErr result
             (IsThreadFault workers (states (T.behaviour tasks.now) (tree_of plan.now))) }
     {
-        // Only the clauses need it.
-        let _gate = gate;
         let Run {
             objects,
             handles,
@@ -190,7 +195,7 @@ impl Run {
             rows,
             tallies,
         } = self;
-        match work_alone(rt, alloc, &objects, tasks, stop, handles) {
+        match work_alone(rt, alloc, &objects, tasks, controls.stop, handles) {
             Some(left) => finish(plan, objects, left, first, rows, tallies),
             None => Err(RunFault::halted(Cause::Memory)),
         }

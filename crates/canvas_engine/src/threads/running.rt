@@ -14,7 +14,7 @@ ghost use Rattle.canvas_engine.specs.steps.Gathering.{HaveWorked, IsStart};
 ghost use Rattle.canvas_engine.specs.steps.WorkerSlots.{nothing_counted};
 
 use crate::by_turns::{first_envelopes, new_rows};
-use crate::threads::ending::Run;
+use crate::threads::ending::{Controls, Run};
 use crate::threads::handles::{
     Handles, Objects, are_done, fault_of, join_all, split_all, tally_all,
 };
@@ -101,8 +101,7 @@ fn gather<R, T, G>(
     plan: &Plan,
     tasks: &T,
     workers: u32,
-    gate: &G,
-    stop: &Stop,
+    controls: &Controls<'_, G>,
     start: Start,
 ) -> Result<(Run, Option<Cause>), RunFault>
 where
@@ -112,7 +111,8 @@ where
     requires workers { AreWorkers workers }
     requires start { IsStart plan.now workers start }
     ensures ok { IfOk result
-        (λ r. HaveWorked (T.behaviour tasks.now) (G.may_want gate.now) plan.now workers r.1 r.0) }
+        (λ r. HaveWorked (T.behaviour tasks.now) (G.may_want controls.now.gate.now) plan.now
+        workers r.1 r.0) }
     ensures err { IfErr result
         (IsThreadFault workers (states (T.behaviour tasks.now) (tree_of plan.now))) }
 {
@@ -125,16 +125,7 @@ where
         Ok(()) => (),
         Err(Memory) => return Err(RunFault::halted_with(Cause::Memory, run.rows)),
     }
-    work_on_threads(
-        rt,
-        alloc,
-        &run.objects,
-        run.first,
-        tasks,
-        gate,
-        stop,
-        &mut slots,
-    );
+    work_on_threads(rt, alloc, &run, tasks, controls, &mut slots);
     if !are_done(&slots) {
         return Err(RunFault::halted(Cause::Memory));
     }
@@ -150,8 +141,7 @@ fn run_started<R, T, G>(
     plan: &Plan,
     tasks: &T,
     workers: u32,
-    gate: &G,
-    stop: &Stop,
+    controls: &Controls<'_, G>,
     start: Start,
 ) -> Result<(Report, Records), RunFault>
 where
@@ -161,13 +151,14 @@ where
     requires workers { AreWorkers workers }
     requires start { IsStart plan.now workers start }
     ensures ok { IfOk result (λ r. IsRun (T.behaviour tasks.now) plan.now workers r.0.rows r.1) }
-    ensures wanted { IfOk result (λ r. OnlyWanted (G.may_want gate.now) (told r.1.pass)) }
+    ensures wanted { IfOk result
+        (λ r. OnlyWanted (G.may_want controls.now.gate.now) (told r.1.pass)) }
     ensures err { IfErr result
         (IsThreadFault workers (states (T.behaviour tasks.now) (tree_of plan.now))) }
 {
-    match gather(rt, alloc, plan, tasks, workers, gate, stop, start) {
+    match gather(rt, alloc, plan, tasks, workers, controls, start) {
         Ok((ended, early)) => match early {
-            None => ended.conclude(rt, alloc, plan, tasks, workers, gate, stop),
+            None => ended.conclude(rt, alloc, plan, tasks, workers, controls),
             Some(cause) => Err(ended.halt(plan, tasks, workers, cause)),
         },
         Err(fault) => Err(fault),
@@ -211,7 +202,10 @@ where
         return Err(RunFault::BadWorkers);
     }
     match reserve(rt, alloc, plan, workers) {
-        Ok(start) => run_started(rt, alloc, plan, tasks, workers, gate, stop, start),
+        Ok(start) => {
+            let controls = Controls { gate, stop };
+            run_started(rt, alloc, plan, tasks, workers, &controls, start)
+        }
         Err(Memory) => Err(RunFault::halted(Cause::Memory)),
     }
 }

@@ -6,7 +6,7 @@ ghost use Rattle.canvas_rewrite.specs.Planned.{IsPlan};
 ghost use Rattle.canvas_history.specs.Roster.{roster_of};
 ghost use Rattle.canvas_engine.specs.steps.WorkerSlots.{IsReadySlot, RanSlot, AllRan};
 
-use crate::threads::handles::Objects;
+use crate::threads::ending::{Controls, Run};
 use crate::threads::slot::{SlotState, WorkerSlot};
 use canvas_task::Tasks;
 use canvas_worker::{Gate, InFlight, Shared, Stop, work_to_end};
@@ -39,34 +39,34 @@ where
 }
 
 /// Runs each worker on a thread of its own, or on this one if none can be made: there they work one
-/// after the other, each until no message is in flight. `first` messages were published before.
+/// after the other, each until no message is in flight.
 ///
 /// Two workers or more have threads even if their tasks are light, since a task may wait for
 /// another of its run. No contract depends on the number of threads.
 pub(crate) fn work_on_threads<R, T, G>(
     rt: &R,
     alloc: Global,
-    objects: &Objects,
-    first: usize,
+    run: &Run,
     tasks: &T,
-    gate: &G,
-    stop: &Stop,
+    controls: &Controls<'_, G>,
     slots: &mut [WorkerSlot],
 )
 where
     R: Threads + Wait + RandomSource + AllocGlobal + Sync,
     T: Tasks + Sync,
     G: Gate + Sync,
-    requires plan { (l : Line) × IsPlan l × (objects.now.backend.plan ≡ roster_of l) }
-    requires ready { All (IsReadySlot objects.now.broker objects.now.backend.id) slots.old }
-    ensures { AllRan (T.behaviour tasks.now) (G.may_want gate.now) objects.now.backend.plan
-        slots.old slots.new }
+    requires plan { (l : Line) × IsPlan l × (run.now.objects.backend.plan ≡ roster_of l) }
+    requires ready { All (IsReadySlot run.now.objects.broker run.now.objects.backend.id)
+        slots.old }
+    ensures { AllRan (T.behaviour tasks.now) (G.may_want controls.now.gate.now)
+        run.now.objects.backend.plan slots.old slots.new }
 {
     if slots.is_empty() {
         return;
     }
-    let (broker, backend) = (&objects.broker, &objects.backend);
-    let flight = &InFlight::new(first as u64);
+    let (broker, backend) = (&run.objects.broker, &run.objects.backend);
+    let (gate, stop) = (controls.gate, controls.stop);
+    let flight = &InFlight::new(run.first as u64);
     let each = |_: usize, slot: &mut WorkerSlot|
         requires { ((l : Line) × IsPlan l × (backend.now.plan ≡ roster_of l))
             × IsReadySlot broker.now backend.now.id slot.now }

@@ -29,7 +29,6 @@ fn is_two(record: &Record) -> bool {
 /// How a worker of a plan ends, whose first message is published.
 fn works<R>(
     rt: &R,
-    alloc: Global,
     plan: &Plan,
     broker: &Broker<Letter>,
     pass: BrokerPass<Letter>,
@@ -48,6 +47,7 @@ where
     }
     let (stop, flight) = (Stop::new(), InFlight::new(1));
     law_of_workers();
+    let alloc = rt.alloc();
     let worker = Worker::new(
         rt, alloc, 1, broker, pass, backend, seat, six, &OpenGate, &stop, &flight,
     );
@@ -94,7 +94,7 @@ where
         return Ok(false);
     }
     let (backend, seat) = Backend::new(alloc, plan)?;
-    Ok(works(rt, alloc, plan, &broker, pass, &backend, seat, six))
+    Ok(works(rt, plan, &broker, pass, &backend, seat, six))
 }
 
 fn is_run<R>(rt: &R, alloc: Global) -> Result<bool, AddFault>

@@ -15,7 +15,7 @@ use Rattle.canvas_engine.proofs.by_turns.turn_run.step.Goals as goal
 pub returns-in_err-plain-in-Store-clause-err : goal.returns-in_err-plain-in-Store-clause-err
 returns-in_err-plain-in-Store-clause-err g c =
     let old = c.args.core.now in
-    answered_err (g.T.Tasks.behaviour c.args.tasks.now) _ c.args.more old old c.args.queue.now c.args.queue.now c.args.table.now c.store-stored.new.self
+    answered_err (g.T.Tasks.behaviour c.args.tasks.now) _ c.args.turn.more old old c.args.queue.now c.args.queue.now c.args.table.now c.store-stored.new.self
     (C.to_table (table.store c.in-Store.task c.in-Store.outcome)) (R.Stored c.store-stored.result)
     (is_store (book_on c.args.table.now.plan) c.in-Store.task c.in-Store.outcome old (sym c.in-Store.ensures.ask))
     c.store-stored.ensures.reply
@@ -24,7 +24,7 @@ returns-in_err-plain-in-Store-clause-err g c =
 pub returns-in_err-plain-in-Part-clause-err : goal.returns-in_err-plain-in-Part-clause-err
 returns-in_err-plain-in-Part-clause-err g c =
     let old = c.args.core.now in
-    answered_err (g.T.Tasks.behaviour c.args.tasks.now) _ c.args.more old old c.args.queue.now c.args.queue.now c.args.table.now c.part-count.new.self
+    answered_err (g.T.Tasks.behaviour c.args.tasks.now) _ c.args.turn.more old old c.args.queue.now c.args.queue.now c.args.table.now c.part-count.new.self
     (C.to_table (table.part c.in-Part.group c.in-Part.task)) (R.Counted c.part-count.result)
     (is_part (book_on c.args.table.now.plan) c.in-Part.group c.in-Part.task old (sym c.in-Part.ensures.ask))
     c.part-count.ensures.reply
@@ -38,9 +38,9 @@ pub returns-in-Publish-clause-noted : goal.returns-in-Publish-clause-noted
 returns-in-Publish-clause-noted g c =
     let table = c.args.table.now in
     at_more c.publish.result
-    (λ more. Noted c.args.notes.now (step_now c.args.worker table.plan c.args.queue.now (held table) more
+    (λ more. Noted c.args.notes.now (step_now c.args.turn.worker table.plan c.args.queue.now (held table) more
     (asks_of table.plan c.args.core.now) ∷ []) c.publish.new.notes)
-    c.args.more c.publish.ensures.noted
+    c.args.turn.more c.publish.ensures.noted
 
 pub read-requires : goal.read-requires
 read-requires g c =

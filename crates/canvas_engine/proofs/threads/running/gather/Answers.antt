@@ -25,33 +25,35 @@ returns-in-Err-clause-err g c =
 pub join_all-requires-clause-others : goal.join_all-requires-clause-others
 join_all-requires-clause-others g c =
     let start = c.args.start in
+    let may_want = g.G.Gate.may_want c.args.controls.now.gate.now in
     let whole : take start.slots.len (c.work_on_threads.new.slots ++ drop (length c.work_on_threads.new.slots) start.slots.items)
     ≡ c.work_on_threads.new.slots =
     take_at c.work_on_threads.new.slots _ start.slots.len (search rules) in
     let many : length c.work_on_threads.new.slots ≡ length start.slots.items = search rules in
-    let ran : AllRan (g.T.Tasks.behaviour c.args.tasks.now) (g.G.Gate.may_want c.args.gate.now) start.run.objects.backend.plan start.slots.items c.work_on_threads.new.slots = search rules in
+    let ran : AllRan (g.T.Tasks.behaviour c.args.tasks.now) may_want start.run.objects.backend.plan start.slots.items c.work_on_threads.new.slots = search rules in
     let done : All (λ s. LeftARecord s.state)
     (take start.slots.len (c.work_on_threads.new.slots ++ drop (length c.work_on_threads.new.slots) start.slots.items)) = search rules in
     subst (AreOf start.run.objects.broker start.run.objects.backend.id) (sym whole)
-    (are_of (g.T.Tasks.behaviour c.args.tasks.now) (g.G.Gate.may_want c.args.gate.now) start.run.objects.broker start.run.objects.backend.id start.run.objects.backend.plan start.slots.items c.work_on_threads.new.slots c.requires.start.ready
-    (each_ran (g.T.Tasks.behaviour c.args.tasks.now) (g.G.Gate.may_want c.args.gate.now) start.run.objects.backend.plan start.slots.items
+    (are_of (g.T.Tasks.behaviour c.args.tasks.now) may_want start.run.objects.broker start.run.objects.backend.id start.run.objects.backend.plan start.slots.items c.work_on_threads.new.slots c.requires.start.ready
+    (each_ran (g.T.Tasks.behaviour c.args.tasks.now) may_want start.run.objects.backend.plan start.slots.items
     c.work_on_threads.new.slots many ran)
     (subst (All (λ (s : WorkerSlot). LeftARecord s.state)) whole done))
 
 pub returns-clause-ok : goal.returns-clause-ok
 returns-clause-ok g c =
     let start = c.args.start in
+    let may_want = g.G.Gate.may_want c.args.controls.now.gate.now in
     let whole : take start.slots.len (c.work_on_threads.new.slots ++ drop (length c.work_on_threads.new.slots) start.slots.items)
     ≡ c.work_on_threads.new.slots =
     take_at c.work_on_threads.new.slots _ start.slots.len (search rules) in
     let many : length c.work_on_threads.new.slots ≡ length start.slots.items = search rules in
-    let ran : AllRan (g.T.Tasks.behaviour c.args.tasks.now) (g.G.Gate.may_want c.args.gate.now) start.run.objects.backend.plan start.slots.items c.work_on_threads.new.slots = search rules in
+    let ran : AllRan (g.T.Tasks.behaviour c.args.tasks.now) may_want start.run.objects.backend.plan start.slots.items c.work_on_threads.new.slots = search rules in
     let made : Makes start.run.handles.pass (published_all start.envelopes.items) c.publish_all.new.pass = search rules in
     let taken : TakesIn start.run.objects.backend.plan c.publish_all.new.pass start.run.handles.seat c.work_on_threads.new.slots c.join_all.new.handles.pass c.join_all.new.handles.seat =
     subst (λ xs. TakesIn start.run.objects.backend.plan c.publish_all.new.pass start.run.handles.seat xs c.join_all.new.handles.pass c.join_all.new.handles.seat) whole c.join_all.ensures.taken in
     let judged : c.deref-3.result.now ≡ c.work_on_threads.new.slots = search rules in
     let counted : c.tally_all.new.tallies.items ≡ start.run.tallies.items ++ map tally_in c.deref-3.result.now = search rules in
-    let all = gathered (g.T.Tasks.behaviour c.args.tasks.now) (g.G.Gate.may_want c.args.gate.now) c.args.plan.now c.args.workers start c.requires.start c.publish_all.new.pass c.work_on_threads.new.slots c.join_all.new.handles.pass c.join_all.new.handles.seat made ran many taken in (
+    let all = gathered (g.T.Tasks.behaviour c.args.tasks.now) may_want c.args.plan.now c.args.workers start c.requires.start c.publish_all.new.pass c.work_on_threads.new.slots c.join_all.new.handles.pass c.join_all.new.handles.seat made ran many taken in (
       record {
         planned = c.requires.start.planned;
         plan = c.requires.start.plan;

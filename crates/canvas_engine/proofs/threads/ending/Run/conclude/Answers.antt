@@ -38,7 +38,7 @@ returns-in-Some-clause-wanted g c =
     let self = c.args.self in
     let l : Line = c.args.plan.now in
     let behaviour = g.T.Tasks.behaviour c.args.tasks.now in
-    let may_want = g.G.Gate.may_want c.args.gate.now in
+    let may_want = g.G.Gate.may_want c.args.controls.now.gate.now in
     let all = c.requires.gathered.0 in
     let f : Finished behaviour (λ _ _. ⊥) (roster_of l) 0 self.handles.pass self.handles.seat c.in-Some.left =
     subst (λ plan. Finished behaviour (λ _ _. ⊥) plan 0 self.handles.pass self.handles.seat c.in-Some.left) all.plan c.in-Some.ensures in
