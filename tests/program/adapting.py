@@ -1,7 +1,7 @@
 #!/usr/bin/env python3
 """What `canvas adapt` makes of a canvas that Celery writes, over JSON signatures alone.
 
-The rules are those of crates/canvas_adapt/README.md, told as Celery's own methods do it: a callback
+The rules are those of crates/canvas_adapt/specs/Adapted, told as Celery's own methods do it: a callback
 is linked to what stands directly in a signature, which hands it on in its turn.
 
     python3 adapting.py    checks the rows at the end of this file; the status is 1 if one is wrong

@@ -21,6 +21,7 @@ pub record Written : Type 0 where
 
 -- Any signature may have links and error callbacks. A header that is a list is the group of its
 -- signatures. `calls` is a map, a starmap or chunks: a task's name, and the arguments of each call.
+-- One with a link is no `calls`: it stays as it is.
 mutual
   pub data Sig : Type 0 where
     task : Written → (links errbacks : Sigs) → Sig
@@ -168,7 +169,8 @@ are_immutable (also (task w ls es) ss) = w.immutable && are_immutable ss
 are_immutable (also s ss) = false
 
 -- A chain that is an error callback is called with three arguments, which only tasks that take no
--- input accept.
+-- input accept. The call of any other chain is a TypeError, and then Celery calls none of the error
+-- callbacks.
 abbrev pub is_called : (is_alarm : Bool) → Sig → Sigs → Bool
 is_called true (chain xs ls es) tasks = are_immutable tasks
 is_called alarm s tasks = true
@@ -287,7 +289,8 @@ abbrev mutual
   only_inner ss = None
 
 -- The outer group replaces a group in it by its members (`maybe_unroll_group`). If Celery freezes
--- the outer group, the members of an inner one are reversed (`group._freeze_unroll`).
+-- the outer group before it starts, as one in a chain or chord and not as the whole canvas, the
+-- members of an inner one are reversed (`group._freeze_unroll`).
 abbrev pub members_of : (is_turned : Bool) → Sig → Option Sigs → Sigs → Sigs
 members_of turned s None rest = also s rest
 members_of turned s (Some ms) rest = if turned then turned_onto ms rest else and_then ms rest
@@ -319,9 +322,9 @@ own_options (o ∷ os) =
     if is_book o.0 || bytes_eq o.0 (codes "task_id") then own_options os else o ∷ own_options os
 
 -- The thawed options of a signature; the argument says whether a signature in it was frozen. The
--- options are removed only if the signature was itself started, since a user may have given it an
--- identifier. A header that freezing made into a group is a list again. The signatures above are
--- those after this.
+-- options are removed only if the signature was itself started (`apply_async`, `freeze`), since a
+-- user may have given it an identifier. A header that freezing made into a group is a list again.
+-- Groups that Celery has unrolled stay so. The signatures above are those after this.
 abbrev pub thawed : (are_inside : Bool) → List (Text × Data) → List (Text × Data)
 thawed inside os =
     if list_any is_identifier os && (inside || list_any (λ o. is_book o.0) os) then own_options os
@@ -375,6 +378,8 @@ module _ (compact : Data → Text) where
     members a none = none
     members a (also s ss) = also (adapt a s) (members a ss)
 
-  -- a whole signature, adapted; one that can't be adapted is kept, and is refused
+  -- A whole signature, adapted. One that can't be adapted is kept, and is refused: a callback that
+  -- has no `Started` tasks, and arguments or `immutable` on a chain, group or chord (7 OnCanvas); a
+  -- member that ends in a group after something else (10 NestedGroup); what is no signature.
   abbrev pub adapted : Sig → Sig
   adapted s = adapt (alone false) (split s)

@@ -1,5 +1,7 @@
 -- A task message (Celery's task message protocol, version 2) in kombu's envelope, as a list of
--- Redis has it.
+-- Redis has it. `body` is the base64 of the list of arguments, keyword arguments and continuation.
+-- The headers are those of `docs/FORMATS.md` with `group_index`, the task's place among the members
+-- of its group. The signatures are Celery's (`Signatures`), and not the frozen ones of that page.
 use Rattle.std.specs.Prelude.{ℕ, [], Option, Some, None, reverse, codes, pos}
 use Rattle.base64.specs.GeneralPurpose.{encode_of}
 use Rattle.base64.specs.Engines.{standard}

@@ -1,7 +1,8 @@
 -- Messages read back from their texts, as `json.loads` and `base64.b64decode` read them: kombu's
 -- envelope, whose member `body` holds a second JSON text (Celery's task message protocol, version
 -- 2). A member that is missing or of another kind reads as 0, nothing or an empty list. No message
--- has a chord's size, so it reads as 0.
+-- has a chord's size, so it reads as 0. The run, the queue, `group_index`, and what is the same in
+-- all messages are left out.
 use Rattle.std.specs.Prelude.{◌≡◌, ◌<◌, ◌^◌, ℕ, zero, suc, false, if◌then◌else◌, List, [], ◌∷◌, ◌++◌, length, map, reverse, Option, Some, None, option_and_then, unwrap_or, codes}
 use Rattle.base64.specs.GeneralPurpose.{decoded_of}
 use Rattle.base64.specs.Engines.{standard}

@@ -20,8 +20,10 @@ is_run_number text = (length text == 22) && all_digits text
 abbrev pub piece : (from count : ℕ) → Text → Text
 piece from count text = take count (drop from text)
 
--- an identifier with a run's 22 digits instead of its zero digits: between them are the version,
--- the mark of tasks or of groups, and at the end the number
+-- An identifier with a run's 22 digits instead of its zero digits: between them are the version,
+-- the mark of tasks or of groups, and at the end the number. The first two parts are the run's.
+-- Three of its digits follow the 8 of the third part, and three the 8 or 9 of the fourth. Four are
+-- the first of the last part, whose other eight digits are the number.
 abbrev pub in_run : (run id : Text) → Text
 in_run run id =
     piece 0 8 run ++ codes "-" ++ piece 8 4 run ++ codes "-8" ++ piece 12 3 run

@@ -1,5 +1,6 @@
 -- A start as one script: Redis runs `EVAL script numkeys key .. arg ..` atomically (Redis: EVAL,
--- Scripting with Lua).
+-- Scripting with Lua). The script is a constant: `tools/try-celery` tries what Redis does by it,
+-- which isn't proved.
 use Rattle.std.specs.Prelude.{ℕ, ◌+◌, List, [], ◌∷◌, ◌++◌, length, map, Option, Some, None, decimal, codes}
 use Rattle.canvas_task.specs.Text.{Text}
 use Rattle.canvas_celery.specs.Setting.{Setting}

@@ -1,4 +1,12 @@
 //! The note of a refusal: the found and the wanted value, in one line.
+//!
+//! A note quotes a text, truncates it after 40 characters, and escapes other characters than
+//! printable ASCII (`\u{1b}`). It quotes a name of an option or parameter, too, unless that is 1 to
+//! 40 characters from `!` to `~` with no quote or backslash.
+//!
+//! A note blames the first member that is at fault. A chord's header comes before its body. The
+//! members that only a task has come in the order `args`, `immutable`, `link`, `link_error`, except
+//! null and an empty list.
 
 use crate::arguments::{Bad, of_bad_argument};
 use crate::listing::Place;

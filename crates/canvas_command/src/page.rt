@@ -1,4 +1,24 @@
 //! `canvas page`: an HTML page of the program's answers about a canvas to other words.
+//!
+//! It is a head, a block of data and a tail. Head and tail are the same for one version of the
+//! program. The block is the text of `<script type="application/json" id="data">`. It has lines of
+//! JSON, which the program prints as answers to other words with the same `--adapt`, `--task` and
+//! `--tasks`:
+//!
+//! 1. the line of `normal --numbers`
+//! 2. the first line of `run --failures=WORD`
+//! 3. for a run by 1 worker, by 2, by 2 with all messages redelivered, and by 4:
+//!    `{"again":false,"workers":1}` with its own values, and then the lines of `turns --steps` with
+//!    this `--workers`, and with `--again=all` if `again` is true
+//! 4. the other lines of `run --failures=WORD`
+//!
+//! 3 and 4 are left out if the canvas has more than 200 tasks, or 1 more than 65,536 bytes: the
+//! lines of 4 grow with the square of the number of tasks. WORD is raise:Exception if `--failures`
+//! isn't given.
+//!
+//! Other characters than printable ASCII are escaped as in JSON's strings, also in 1, and `<`, `>`
+//! and `&` are written `\u003c`, `\u003e` and `\u0026`. They are in texts of the JSON only, so its
+//! meaning stays, and no text ends the block.
 
 ghost use Rattle.std.specs.Prelude.{◌≡◌, ◌++◌, IfOk, OnOk, List, flat_map, map, string_bytes, true};
 ghost use Rattle.canvas_semantics.specs.Line.{count_line};

@@ -70,7 +70,23 @@ when_empty no_p_lines xs = xs
 when_empty (and_p_line m ms) xs = []
 
 -- The jobs that are done at once if x flows into a line after task k whose end goes to p, in file
--- order. u is the task whose end it is, if any.
+-- order. u is the task whose end it is, if any: there is none for the first messages, nor for those
+-- of a body that a completed header starts.
+--
+-- An input publishes the message of the line's first task, with all that follows. A group or header
+-- passes the input to each member, whose last task gets the place in it. If the header is empty,
+-- the body is entered at once, with the empty list.
+--
+-- An exception that skips stores each task of the line as failed, in bodies and members too, and
+-- publishes no callback.
+--
+-- An exception that is raised in the line stores its first task as failed, publishes that task's
+-- error callbacks, and skips the rest. A group or header passes it to each member, and nothing is
+-- counted there. In the body after that header it is raised as a ChordError (`fault_behind`), but
+-- after an empty header as it is.
+--
+-- The end of the line returns its part of a chord, if that chord's header runs: at once if nothing
+-- follows the task, or if the line was skipped.
 abbrev mutual
   pub enter : PLine → LineFlow → PPlace → ℕ → Option ℕ → Jobs
   enter p_stop x p k u = part_of p k
@@ -168,7 +184,7 @@ at_start l = effect_of (enter (bare l) (run no_input) p_nowhere 0 None)
 abbrev pub first_messages : Line → List Content
 first_messages l = (at_start l).messages
 
--- the jobs of an effect, in this order
+-- the jobs of an effect: a worker stores first, then publishes, then returns the part
 abbrev pub part_jobs : Option Part → Jobs
 part_jobs None = []
 part_jobs (Some p) = job.part p.chord p.task p.carried ∷ []

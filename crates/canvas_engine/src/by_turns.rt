@@ -3,6 +3,10 @@
 //! A run is described by its steps, each a worker's ask with its answer. What a worker has left,
 //! what is queued and what is stored follow from the steps before (`canvas_runs`, `specs/Turns`),
 //! so the contract of a run names no state of the code.
+//!
+//! No contract of `run_turns` can say that a run was made, since its queue and its table are gone
+//! when it returns. It says that there is such a run by these turns with these rows. Only `encode`
+//! tells that the envelopes read back as their messages.
 
 mod entries;
 mod fault;

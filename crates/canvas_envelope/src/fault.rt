@@ -17,16 +17,29 @@ pub enum MessageFault {
     /// 2: the headers are not an object, or `task` is not a name.
     NotVersion2,
     /// 3: `id` is not a task's identifier, `group` is neither null nor a group's, the properties
-    /// are not an object, or a `correlation_id` doesn't name the same task.
+    /// are not an object, or a `correlation_id` is there, also as null, and doesn't name the same
+    /// task.
     BadId,
     /// 4: a `content_type` other than `application/json`, or a `content_encoding` other than
     /// `utf-8`.
     BadContentType,
     /// 5: the body is not a list of three.
     BadBody,
-    /// 6: arguments of a wrong form or kind, or a number out of range.
+    /// 6: arguments of a wrong form or kind, also null, or a number out of range.
     BadArgs,
-    /// 7: any fault of the callbacks, the chain and the chord in the embed.
+    /// 7: any fault of the callbacks, the chain and the chord in the embed:
+    ///
+    /// - `callbacks` or `errbacks` that are an object
+    /// - a frozen signature without its identifier, or with a fault of its own (a place is none)
+    /// - a body without a group, or without a `chord_size` from 1 to the most tasks of a canvas
+    /// - a place elsewhere than at the end of the line
+    /// - a group that isn't last on its line, or a member that ends in a group
+    /// - a header of more members than the most tasks of a canvas
+    /// - signatures that are nested deeper than in a message of a canvas
+    ///
+    /// Ignored are `chord_size` elsewhere than on a carried body, `task_id` on a group, chord or
+    /// chain, and `group_id` on a chain. `options.link` in a frozen signature may be one object.
+    /// The limits of a canvas on its depth as written and on its tasks don't hold here.
     BadEmbed,
     /// 8: an allocation failed. It may replace any other refusal, and a success.
     Memory,

@@ -1,5 +1,14 @@
 //! A canvas as a picture: from left to right in time, groups and chords as frames, links and error
 //! callbacks dashed.
+//!
+//! `tN` is task N. Its label has its number, its call and, with `--run` or `--results`, its state
+//! and value (of a stored one the first 24 characters). `cluster_N` is group or chord N, and `gN` a
+//! point in one that has no members. An edge leads from each task to the elements after it, dashed
+//! to a link (`on success`) or an error callback (`on failure`). If the header of chord N ends in
+//! several nodes and its body begins at several, `jN` is a point between them.
+//!
+//! Names and texts have other characters than printable ASCII escaped, and `&` as `&amp;`, since
+//! Graphviz reads entities of HTML.
 
 ghost use Rattle.std.specs.Prelude.{◌≡◌, IfOk, OnOk, option_map, string_bytes};
 ghost use Rattle.canvas_semantics.specs.Line.{count_line};

@@ -2,6 +2,23 @@
 //! results a run has, and the law of whole runs. What the callers of shared objects saw makes such
 //! a run, and so does a run by turns on one thread. Each law is the contract of a function with an
 //! empty body. The running code is `When`, and the texts of lists: of turns, and of redeliveries.
+//! Read `specs/Core`, `Run` and `Law` first.
+//!
+//! A worker is a machine that asks for one thing at a time (`specs/Core`). It takes an envelope,
+//! stores its task's outcome, and then does the effects of that end, in the order of
+//! `canvas_effects/specs/Effects`. After a part that completes a header it reads each member, and
+//! then does the effects of the completion. Until its acknowledgement it may redeliver the
+//! envelope, as often as it likes.
+//!
+//! A run of a plan is a legal history of the queue, one of the table of results, and for each
+//! caller a run of the machine that its calls follow (`specs/Run`). A take may be earlier in the
+//! history than in the machine's run, never later.
+//!
+//! The run is closed if all first messages are published, the queue is empty at its end, and no
+//! script of an envelope is unfinished. It is under way if its first messages are published, worker
+//! 0 has not begun to read, each worker can go on or is at rest, and one can go on. A worker is at
+//! rest between scripts, if each envelope that it took has had its script. A round is one turn of
+//! each worker.
 //!
 //! A core run is a machine: what is left to do, what is asked next, and what an answer leads to.
 //! What it asks is a call of the queue or of the table, an acknowledgement, or whether more may

@@ -1,6 +1,8 @@
 //! Calls that may be refused memory, each once and, where a growth was refused, once more.
 //! `tools/refuse-memory` runs each of these tests with each growth refused in turn, one in a run;
 //! in the gate there is none. So a call that is refused for no growth fails both.
+//!
+//! A proved test can't refuse an allocation, since the allocator is the runtime's own.
 
 mod again;
 mod objects;

@@ -16,8 +16,8 @@ use Rattle.canvas_worker.specs.Polls.{Ready, IsWanted, TellsOf, working_begun, t
 use Rattle.canvas_worker.specs.declared.record.Record.{Record}
 
 -- The record's pass and seat have followed a core run from where the worker got them, and the gate
--- may have wanted each redelivery. Without a fault the last ask was a rest answered with no more,
--- and the last take found nothing.
+-- may have wanted each redelivery. A record has no points, so it doesn't say what `go` answered.
+-- Without a fault the last ask was a rest answered with no more, and the last take found nothing.
 pub record Finished (behaviour : Behaviour) (may_want : ℕ → ℕ → Type 0) (plan : Roster) (number : ℕ)
     (pass : Pass) (seat : Seat) (r : Record) : Type 0 where
   pub same_number : r.number ≡ number

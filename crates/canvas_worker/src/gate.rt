@@ -13,6 +13,7 @@ use canvas_task::TaskNo;
 /// only takes that found nothing make a worker sleep.
 pub trait Gate {
     // What `go` may answer to this worker for this task; anything, unless an implementation says.
+    // So a gate may look at a clock or a cell.
     ghost may_answer: { Self → ℕ → ℕ → Bool → Type 0 } = { λ _ _ _ _. ⊤ };
 
     // Whether `again` may want this task's envelope redelivered by this worker; always, unless an

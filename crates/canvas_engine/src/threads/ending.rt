@@ -1,4 +1,8 @@
 //! The end of a run on threads: worker 0 works until it finds nothing, and reads the rows.
+//!
+//! The cause and the rows of a halted run are stated at the end of its workers (`halt`, `why`). If
+//! worker 0 ends early, which it does after all others, the cause is its own. No clause can name
+//! that: tests do (`halts` of `canvas_tests`).
 ghost use Rattle.std.specs.Prelude.{◌≡◌, ◌<◌, List, length, Option, Some, None, IfSome, IfOk, IfErr};
 ghost use Rattle.canvas_core.specs.declared.cause.Cause.{Cause};
 ghost use Rattle.canvas_semantics.specs.Line.{Line, count_line, tree_of};

@@ -14,6 +14,10 @@ use std::sync::Wait;
 /// The queue of a run, which counts an envelope before it publishes or redelivers it, since another
 /// worker may take and acknowledge it at once. Workers have no other queue, and nothing else adds
 /// to the count. Its calls are the broker's.
+///
+/// No contract says what value an atomic holds, nor could a test show that an envelope counts
+/// before another worker can take it: `publish` and `redeliver` ensure it. `Working::reply` decides
+/// when one is subtracted.
 #[derive(Clone, Copy)]
 pub(crate) struct CountedQueue<'a> {
     broker: &'a Broker<Letter>,
