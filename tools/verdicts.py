@@ -38,7 +38,7 @@ class Verdict:
         paths = [it for it in self._told if self._is_of(it, function)]
         told = [self._told[it] for it in paths]
         own = [it for it in self._errors_of(function, paths) if not _NOT_ADMITTED.search(it)]
-        unfound = [it for it in told if "did not prove" in it]
+        unfound = [it for it in told if _is_unfound_in(function, it)]
         reasons = own + unfound
         return Said(bool(told) and all(it == "proved" for it in told), bool(reasons),
                     bool(own) and not unfound and all(_NAMES.match(it) for it in own),
@@ -74,6 +74,14 @@ class Verdict:
         return Said(self.is_proved, self.reached_prover and not self.is_proved,
                     bool(own) and not unfound and all(_NAMES.match(it) for it in own),
                     _shortened((reasons or [self.first])[0]))
+
+
+def _is_unfound_in(function: Function, told: str) -> bool:
+    """Whether a proof of the function itself isn't found. What is told of a function in a cycle of
+    calls, whose proofs are in one folder `+NAME`, is of all of these, each goal with its name."""
+    if "did not prove" not in told:
+        return False
+    return "/+" not in told.split(";")[0] or bool(re.search(rf"`{function.name}-", told))
 
 
 _FUNCTION = re.compile(r"fn (\S+): (.*)")
