@@ -33,10 +33,6 @@ MOST_BYTES = 1_048_576
 #: The bytes that are read at once: as many as a pipe holds. Room for more takes time to get.
 MOST_READ = 65_536
 
-#: How often the answer is looked for before this process sleeps until it is there. To be woken may
-#: take longer than a small canvas does. Between two looks another process may have the processor.
-LOOKS = 100
-
 #: The seconds that a process has to end once it gets no more canvases.
 GRACE = 1
 
@@ -85,9 +81,6 @@ class _Process:
         self._stdin, self._stdout = self._popen.stdin, self._popen.stdout
         for it in (self._stdin, self._stdout):
             os.set_blocking(it.fileno(), False)
-        self._room = bytearray(MOST_READ)
-        self._ready = select.poll()
-        self._ready.register(self._stdout, select.POLLIN)
 
     def is_there(self) -> bool:
         """Whether it hasn't ended, and is of the file that is at its path."""
@@ -116,21 +109,22 @@ class _Process:
     def _lines(self, items: Sequence[bytes]) -> List[bytes]:
         """The lines that it prints of some items, each of which may take a number of seconds."""
         left = self._after_writing(memoryview(b"".join(it + b"\0" for it in items)))
-        part = None if left else self._read_soon()
-        said, count = bytearray(part or b""), (part or b"").count(b"\n")
+        said, count = bytearray(), 0
         until = time.monotonic() + calling.SECONDS
+        ready = select.poll()
+        ready.register(self._stdout, select.POLLIN)
         if left:
-            self._ready.register(self._stdin, select.POLLOUT)
+            ready.register(self._stdin, select.POLLOUT)
         while count < len(items):
             wait = until - time.monotonic()
-            if wait <= 0 or not self._ready.poll(wait * 1000):
+            if wait <= 0 or not ready.poll(wait * 1000):
                 self.end(0)
                 raise CanvasError(f"{self.path} took more than {calling.SECONDS} seconds")
             if left:
                 left = self._after_writing(left)
                 if not left:
-                    self._ready.unregister(self._stdin)
-            part = self._read()
+                    ready.unregister(self._stdin)
+            part = self._stdout.read(MOST_READ)
             if part == b"":
                 raise calling.failure("run", *self.end())
             if part and b"\n" in part:
@@ -138,20 +132,6 @@ class _Process:
                 until = time.monotonic() + calling.SECONDS
             said += part or b""
         return bytes(said).split(b"\n")[:-1] if said.endswith(b"\n") else []
-
-    def _read(self) -> Optional[bytes]:
-        """What is printed so far; None if that is nothing yet, empty if nothing more comes."""
-        count = self._stdout.readinto(self._room)
-        return None if count is None else bytes(self._room[:count])
-
-    def _read_soon(self) -> Optional[bytes]:
-        """What is printed at once, if anything is."""
-        for _ in range(LOOKS):
-            part = self._read()
-            if part:
-                return part
-            os.sched_yield()
-        return None
 
     def _after_writing(self, left: memoryview) -> memoryview:
         """Writes what can be written, and gives what is left. If the process reads no more, nothing

@@ -21,8 +21,6 @@ Canvas = Union[Dict[str, Any], str, bytes, "os.PathLike[str]"]
 #: By a name, a number or a task: a whole number, a text, an exception or a class of exceptions.
 Answers = Mapping[Any, Any]
 
-_ENCODER = json.JSONEncoder(default=str, allow_nan=False)
-
 
 def text_of(canvas: Canvas) -> bytes:
     """A canvas as JSON. What JSON doesn't know, as a date, becomes its text."""
@@ -30,7 +28,7 @@ def text_of(canvas: Canvas) -> bytes:
         if isinstance(canvas, os.PathLike):
             return Path(canvas).read_bytes()
         if isinstance(canvas, dict):
-            return _ENCODER.encode(canvas).encode()
+            return json.dumps(canvas, default=str, allow_nan=False).encode()
     except OSError as error:
         raise BadCall(f"{str(canvas)} can't be read: {error.strerror}") from error
     except (TypeError, ValueError, RecursionError) as error:
