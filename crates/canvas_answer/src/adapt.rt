@@ -20,10 +20,7 @@ pub(crate) fn asked_renames(alloc: Global, given: &ArgMatches<'_>) -> Result<Vec
         (texts_of (rows_of (found_of given.now)) (codes "rename")) renames.items) }
 {
     let texts = given.get_strs("rename").unwrap_or(&[]);
-    match read_renames(alloc, texts) {
-        Ok(renames) => Ok(renames),
-        Err(bad) => Err(bad_word(alloc, texts, &bad)),
-    }
+    read_renames(alloc, texts).map_err(|bad| bad_word(alloc, texts, &bad))
 }
 
 /// Returns the refusal of one of the words.

@@ -48,14 +48,12 @@ fn read_more<R: Read>(
     ensures within { OnOk result (length text.new.items ≤ most) }
 {
     let room = (most - text.len()).min(CHUNK);
-    match reader.read(&mut chunk[..room]) {
-        Ok(count) => {
-            text.extend_from_slice(&chunk[..count])?;
-            Ok(count == 0)
-        }
-        Err(error) if error.kind() == ErrorKind::Interrupted => Ok(false),
-        Err(error) => Err(error),
-    }
+    let count = match reader.read(&mut chunk[..room]) {
+        Err(error) if error.kind() == ErrorKind::Interrupted => return Ok(false),
+        read => read?,
+    };
+    text.extend_from_slice(&chunk[..count])?;
+    Ok(count == 0)
 }
 
 /// Reads at most `most` bytes in at most `most` reads, of which interrupted ones count. Fails if

@@ -137,10 +137,8 @@ impl<'a, T> Source<'a, T> {
             (IsPlanRefusal self.now.setting.renames.now self.now.text.now) }
     {
         let plans = self.plans(alloc)?;
-        match self.check_names(alloc, &plans.shown) {
-            Ok(()) => Ok(plans),
-            Err(refusal) => Err(refusal),
-        }
+        self.check_names(alloc, &plans.shown)?;
+        Ok(plans)
     }
 
     /// Returns the rows of a run, with the exceptions that stubs raise.

@@ -37,10 +37,8 @@ where
         (IsThreadFault workers (states (T.behaviour tasks.now) (tree_of plan.now))) }
 {
     let alloc = rt.alloc();
-    match run(rt, alloc, plan, tasks, workers, &OpenGate, &Stop::new()) {
-        Ok((report, _records)) => Ok(report),
-        Err(fault) => Err(fault),
-    }
+    let (report, _records) = run(rt, alloc, plan, tasks, workers, &OpenGate, &Stop::new())?;
+    Ok(report)
 }
 
 /// Returns the report of a plan's run on threads, or the refusal if there is none.

@@ -103,10 +103,8 @@ pub fn run_text<T: Tasks>(
     ensures err { IfErr result
         (IsTextFault (T.behaviour tasks.now) bytes.now (IsRunFault workers turns.now)) }
 {
-    match run_text_again(alloc, bytes, tasks, workers, turns, &[]) {
-        Ok((text, _repeats)) => Ok(text),
-        Err(fault) => Err(fault),
-    }
+    let (text, _repeats) = run_text_again(alloc, bytes, tasks, workers, turns, &[])?;
+    Ok(text)
 }
 
 /// Like `run_text`, but redelivers envelopes as `again` says, as `run_turns_again` does. Also
@@ -212,8 +210,6 @@ where
     ensures err { IfErr result
         (IsTextFault (T.behaviour tasks.now) bytes.now (IsThreadFault workers)) }
 {
-    match run_text_recorded(rt, alloc, bytes, tasks, workers, gate, stop) {
-        Ok((text, _records)) => Ok(text),
-        Err(fault) => Err(fault),
-    }
+    let (text, _records) = run_text_recorded(rt, alloc, bytes, tasks, workers, gate, stop)?;
+    Ok(text)
 }

@@ -100,15 +100,11 @@ fn read_pieces<R: ItemReader>(
     let mut items = Vec::new(alloc);
     let mut rest = text;
     while let Some((first, behind)) = split(rest) {
-        match push_item(&mut items, reader, first) {
-            Ok(()) => rest = behind,
-            Err(fault) => return Err(fault),
-        }
+        push_item(&mut items, reader, first)?;
+        rest = behind;
     }
-    match push_item(&mut items, reader, rest) {
-        Ok(()) => Ok(items),
-        Err(fault) => Err(fault),
-    }
+    push_item(&mut items, reader, rest)?;
+    Ok(items)
 }
 
 /// Reads items with a single comma between two. The empty text has none, and needs no memory.

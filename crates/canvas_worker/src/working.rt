@@ -184,14 +184,10 @@ impl<'a, R: Wait> Working<'a, R> {
             (λ e. (self.new ≡ lost self.old) × (e.fault ≡ Some cause.Memory)) }
         ensures memory { OnErr result (Grows reply) }
     {
-        match self.answer(tasks, reply) {
-            Ok(()) => {
-                let is_done = !self.core.is_inside();
-                self.acknowledged = self.acknowledged.saturating_add(u64::from(is_done));
-                Ok(())
-            }
-            Err(end) => Err(end),
-        }
+        self.answer(tasks, reply)?;
+        let is_done = !self.core.is_inside();
+        self.acknowledged = self.acknowledged.saturating_add(u64::from(is_done));
+        Ok(())
     }
 
     /// Gives an envelope to the core.
@@ -202,13 +198,9 @@ impl<'a, R: Wait> Working<'a, R> {
             (λ e. (self.new ≡ lost self.old) × (e.fault ≡ Some cause.Memory)) }
     {
         self.idle = 0;
-        match self.reply(tasks, Reply::Taken(Some(envelope))) {
-            Ok(()) => {
-                self.taken = self.taken.saturating_add(1);
-                Ok(())
-            }
-            Err(end) => Err(end),
-        }
+        self.reply(tasks, Reply::Taken(Some(envelope)))?;
+        self.taken = self.taken.saturating_add(1);
+        Ok(())
     }
 
     /// Returns a clone of the envelope of the open script.

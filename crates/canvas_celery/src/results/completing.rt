@@ -219,10 +219,8 @@ fn complete_task(rows: &mut [Row], task: &FrozenTask, flow: &Flow) -> Result<Flo
         → completed table (step (task_in task.now) rest) flow.now (looks rows.old)
         ≡ completed table rest next (looks rows.new)) }
 {
-    match fill(rows, task.no, flow) {
-        Ok(()) => Ok(behind(rows, task.no, flow)),
-        Err(error) => Err(error),
-    }
+    fill(rows, task.no, flow)?;
+    Ok(behind(rows, task.no, flow))
 }
 
 /// Fills the rows of some tasks. Returns the flow after them.
@@ -235,10 +233,7 @@ fn complete_tasks(rows: &mut [Row], tasks: &[FrozenTask], flow: Flow) -> Result<
 {
     let mut last = flow;
     for task in tasks {
-        match complete_task(rows, task, &last) {
-            Ok(next) => last = next,
-            Err(error) => return Err(error),
-        }
+        last = complete_task(rows, task, &last)?;
     }
     Ok(last)
 }

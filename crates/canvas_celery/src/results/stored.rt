@@ -242,10 +242,8 @@ pub(crate) fn outcome_of(plan: &Plan, run: &Run, meta: &Value) -> Result<Option<
         };
     }
     if status == "FAILURE" {
-        return match failure_in(plan, run, meta.get("result")) {
-            Ok(fault) => Ok(Some(Outcome::Failure(fault))),
-            Err(lack) => Err(lack),
-        };
+        let fault = failure_in(plan, run, meta.get("result"))?;
+        return Ok(Some(Outcome::Failure(fault)));
     }
     if is_waiting(status) {
         Ok(None)

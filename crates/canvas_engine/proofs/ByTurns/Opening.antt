@@ -1,5 +1,5 @@
 -- The envelopes of messages, and that they read back.
-use Rattle.std.proofs.Common.{◌≡◌, sym, ap, ◌∙◌}
+use Rattle.std.proofs.Common.{◌≡◌, sym, ap, ◌∙◌, Result, Ok, Err, IfOk, OnOk}
 use Rattle.canvas_task.specs.Text.{Text}
 use Rattle.serde_json.specs.Written.{compact_text}
 use Rattle.canvas_envelope.specs.Content.{Content}
@@ -25,3 +25,18 @@ pub reads_as : (e : Envelope) (m : Content) → e.properties ≡ compact_text (p
     → e.body ≡ compact_text (body_wire m)
     → Says e.properties e.headers e.body m → ReadsAs m
 reads_as e m p h b says = ap read_envelope (sym (is_sealed e m p h b)) ∙ says_reading e.properties e.headers e.body m says
+
+-- the same of what `seal` returns
+
+abbrev AreTextsOf : Content → Envelope → Type 0
+AreTextsOf m e =
+    (e.properties ≡ compact_text (properties_wire m)) × (e.headers ≡ compact_text (headers_wire m)) × (e.body ≡ compact_text (body_wire m))
+
+pub sealed_as : {E : Type 0} → (r : Result Envelope E) (m : Content) → IfOk r (AreTextsOf m) → IfOk r (λ e. e ≡ sealed m)
+sealed_as (Ok e) m texts = is_sealed e m texts.0 texts.1 texts.2
+sealed_as (Err _) m texts = tt
+
+pub all_read_as : {E : Type 0} → (r : Result Envelope E) (m : Content) → IfOk r (AreTextsOf m) → IfOk r (λ e. Says e.properties e.headers e.body m)
+    → OnOk r (ReadsAs m)
+all_read_as (Ok e) m texts says = reads_as e m texts.0 texts.1 texts.2 says
+all_read_as (Err _) m texts says = tt

@@ -17,10 +17,7 @@ fn seal(alloc: Global, message: Message) -> Result<Letter, Memory>
     ensures value { IfOk result (λ e. e ≡ sealed message) }
     ensures back { OnOk result (ReadsAs message) }
 {
-    match canvas_codec::seal(alloc, message) {
-        Ok(letter) => Ok(letter),
-        Err(Memory) => Err(Memory),
-    }
+    canvas_codec::seal(alloc, message)
 }
 
 /// Appends the envelopes of messages.

@@ -46,10 +46,7 @@ fn run_round<T: Tasks>(
 {
     let mut answered = false;
     for index in 0..workers {
-        match turn_run.turn(alloc, plan, tasks, index + 1) {
-            Ok(is_answered) => answered |= is_answered,
-            Err(cause) => return Err(cause),
-        }
+        answered |= turn_run.turn(alloc, plan, tasks, index + 1)?;
     }
     Ok(answered)
 }
@@ -75,10 +72,7 @@ fn run_list<T: Tasks>(
         turn_run.new) }
 {
     for worker in turns {
-        match turn_run.turn(alloc, plan, tasks, *worker) {
-            Ok(_answered) => (),
-            Err(cause) => return Err(cause),
-        }
+        turn_run.turn(alloc, plan, tasks, *worker)?;
     }
     Ok(())
 }
@@ -102,13 +96,8 @@ fn run_rounds<T: Tasks>(
         → IsEarlyEnd (T.behaviour tasks.now) cause plan.now workers most given turns.now
         turn_run.new) }
 {
-    loop {
-        match run_round(alloc, turn_run, plan, tasks, workers) {
-            Ok(true) => (),
-            Ok(false) => return Ok(()),
-            Err(cause) => return Err(cause),
-        }
-    }
+    while run_round(alloc, turn_run, plan, tasks, workers)? {}
+    Ok(())
 }
 
 /// Publishes the first messages, and runs.
@@ -130,13 +119,11 @@ fn run_through<T: Tasks>(
         turn_run.old.steps (turn_run.old.again.items, turn_run.old.notes.keeps) turns.now
         turn_run.new) }
 {
-    match turn_run.open(alloc, plan) {
-        Ok(()) => match run_list(alloc, turn_run, plan, tasks, workers, turns) {
-            Ok(()) => run_rounds(alloc, turn_run, plan, tasks, workers, turns),
-            Err(cause) => Err(cause),
-        },
-        Err(Memory) => Err(Cause::Memory),
-    }
+    let Ok(()) = turn_run.open(alloc, plan) else {
+        return Err(Cause::Memory);
+    };
+    run_list(alloc, turn_run, plan, tasks, workers, turns)?;
+    run_rounds(alloc, turn_run, plan, tasks, workers, turns)
 }
 
 /// Returns pending rows, one for each task.
@@ -294,10 +281,8 @@ pub fn run_turns<T: Tasks>(
     ensures err { IfErr result
         (IsRunFault workers turns.now (states (T.behaviour tasks.now) (tree_of plan.now))) }
 {
-    match run_turns_again(alloc, plan, tasks, workers, turns, &[]) {
-        Ok((report, _again)) => Ok(report),
-        Err(fault) => Err(fault),
-    }
+    let (report, _again) = run_turns_again(alloc, plan, tasks, workers, turns, &[])?;
+    Ok(report)
 }
 
 /// Like `run_turns`, but redelivers envelopes as `again` says: a worker whose message has reached a
@@ -327,10 +312,8 @@ pub fn run_turns_again<T: Tasks>(
         keeps: Keeps::Nothing,
         steps,
     };
-    match run_checked(alloc, plan, tasks, &schedule) {
-        Ok(ran) => Ok((ran.report, ran.repeats)),
-        Err(fault) => Err(fault),
-    }
+    let ran = run_checked(alloc, plan, tasks, &schedule)?;
+    Ok((ran.report, ran.repeats))
 }
 
 /// Like `run_turns`. Also returns a clone of each letter that was published, in their order: those
@@ -356,12 +339,10 @@ pub fn run_turns_traced<T: Tasks>(
         keeps: Keeps::Published,
         steps,
     };
-    match run_checked(alloc, plan, tasks, &schedule) {
-        Ok(ran) => match letters_of(alloc, ran.steps) {
-            Ok(letters) => Ok((ran.report, letters)),
-            Err(_refused) => Err(RunFault::halted(Cause::Memory)),
-        },
-        Err(fault) => Err(fault),
+    let ran = run_checked(alloc, plan, tasks, &schedule)?;
+    match letters_of(alloc, ran.steps) {
+        Ok(letters) => Ok((ran.report, letters)),
+        Err(_refused) => Err(RunFault::halted(Cause::Memory)),
     }
 }
 
@@ -390,10 +371,8 @@ pub fn run_turns_stepped<T: Tasks>(
         keeps: Keeps::All,
         steps,
     };
-    match run_checked(alloc, plan, tasks, &schedule) {
-        Ok(ran) => Ok((ran.report, ran.repeats, ran.steps)),
-        Err(fault) => Err(fault),
-    }
+    let ran = run_checked(alloc, plan, tasks, &schedule)?;
+    Ok((ran.report, ran.repeats, ran.steps))
 }
 
 /// Like `run_turns`, but is halted, as stopped, once `steps` asks have been answered and some
@@ -420,8 +399,6 @@ pub fn run_turns_within<T: Tasks>(
         keeps: Keeps::Nothing,
         steps: steps as u128,
     };
-    match run_checked(alloc, plan, tasks, &schedule) {
-        Ok(ran) => Ok(ran.report),
-        Err(fault) => Err(fault),
-    }
+    let ran = run_checked(alloc, plan, tasks, &schedule)?;
+    Ok(ran.report)
 }

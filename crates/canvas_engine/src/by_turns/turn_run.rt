@@ -256,13 +256,9 @@ impl TurnRun {
         ensures noted { OnOk result
             (Noted self.old.notes (opening_steps plan.now) self.new.notes) }
     {
-        match first_envelopes(alloc, plan) {
-            Ok(envelopes) => {
-                self.notes.opened(&envelopes)?;
-                publish_all(&mut self.queue, envelopes)
-            }
-            Err(Memory) => Err(Memory),
-        }
+        let envelopes = first_envelopes(alloc, plan)?;
+        self.notes.opened(&envelopes)?;
+        publish_all(&mut self.queue, envelopes)
     }
 
     /// Returns whether the queue holds something or a worker is inside a message. It looks over the

@@ -42,16 +42,12 @@ fn split_one<R: Wait>(
     ensures part { IfOk result (λ slot. IsSplitOff objects.now.backend.plan number handles.old.pass
         handles.old.seat slot handles.new.pass handles.new.seat) }
 {
-    match objects.broker.split(rt, &mut handles.pass) {
-        Ok(new_pass) => match objects.backend.split(&mut handles.seat) {
-            Ok(new_seat) => Ok(WorkerSlot {
-                number,
-                state: SlotState::Ready(new_pass, new_seat),
-            }),
-            Err(Memory) => Err(Memory),
-        },
-        Err(Memory) => Err(Memory),
-    }
+    let new_pass = objects.broker.split(rt, &mut handles.pass)?;
+    let new_seat = objects.backend.split(&mut handles.seat)?;
+    Ok(WorkerSlot {
+        number,
+        state: SlotState::Ready(new_pass, new_seat),
+    })
 }
 
 /// Returns a slot for each worker, from worker 1 on, with a pass and a seat of its own.

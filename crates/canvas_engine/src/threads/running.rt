@@ -156,12 +156,10 @@ where
     ensures err { IfErr result
         (IsThreadFault workers (states (T.behaviour tasks.now) (tree_of plan.now))) }
 {
-    match gather(rt, alloc, plan, tasks, workers, controls, start) {
-        Ok((ended, early)) => match early {
-            None => ended.conclude(rt, alloc, plan, tasks, workers, controls),
-            Some(cause) => Err(ended.halt(plan, tasks, workers, cause)),
-        },
-        Err(fault) => Err(fault),
+    let (ended, early) = gather(rt, alloc, plan, tasks, workers, controls, start)?;
+    match early {
+        None => ended.conclude(rt, alloc, plan, tasks, workers, controls),
+        Some(cause) => Err(ended.halt(plan, tasks, workers, cause)),
     }
 }
 

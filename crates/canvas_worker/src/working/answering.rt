@@ -188,10 +188,8 @@ impl<R: Wait> Working<'_, R> {
         if self.has_more() {
             return self.answer(tasks, Reply::Rested { more: true });
         }
-        match self.answer(tasks, Reply::Rested { more: false }) {
-            Ok(()) => Err(End { fault: None }),
-            Err(end) => Err(end),
-        }
+        self.answer(tasks, Reply::Rested { more: false })?;
+        Err(End { fault: None })
     }
 
     /// Returns whether a message is in flight. After 8 takes or more in a row that found nothing, a

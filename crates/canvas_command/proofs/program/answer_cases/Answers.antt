@@ -1,18 +1,18 @@
-use Rattle.std.proofs.Common.{subst}
-use Rattle.std.proofs.lemmas.Result.{IfOk-weaker}
+use Rattle.std.proofs.Common.{rules, ◌≡◌, Ok, subst}
+use Rattle.std.proofs.lemmas.Result.{IfOk-at_ok, IfOk-weaker}
 use Rattle.canvas_adapt.specs.Stubs.{stubs_behaviour}
 use Rattle.canvas_answer.specs.Asking.{asked_of}
 use Rattle.canvas_answer.specs.Plans.{IsCanvasOf}
 use Rattle.canvas_command.specs.Failing.{IsFailuresDone}
 use Rattle.canvas_command.proofs.program.answer_cases.Goals as goal
 
-pub returns-in-Ok : goal.returns-in-Ok
-returns-in-Ok g c =
-    let cases = c.in-Ok.cases in
+pub returns : goal.returns
+returns g c =
+    let cases = c.in_ok-cases-in_default.cases in
     let adapts = c.args.request.now.adapts in
     let answers = c.args.answers in
-    let behaviour = g.T.Tasks.behaviour c.args.tasks.now in
-    let (read, texted, adapted, worded, called) = c.in-Ok.ensures in
+    let made : c.of.result ≡ Ok cases = search rules in
+    let (read, texted, adapted, worded, called) = IfOk-at_ok _ made c.of.ensures in
     let bytes = subst (λ x. IsCanvasOf adapts x cases.canvas) c.deref.ensures.value read in
     IfOk-weaker c.answer_failures.result _ _
     (λ a done. (

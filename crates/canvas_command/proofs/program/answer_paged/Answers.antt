@@ -1,18 +1,19 @@
-use Rattle.std.proofs.Common.{◌∙◌, subst, sym}
-use Rattle.std.proofs.lemmas.Result.{IfOk-weaker}
+use Rattle.std.proofs.Common.{rules, ◌≡◌, ◌∙◌, Ok, subst, sym}
+use Rattle.std.proofs.lemmas.Result.{IfOk-at_ok, IfOk-weaker}
 use Rattle.canvas_answer.specs.Asking.{asked_of}
 use Rattle.canvas_answer.specs.Plans.{IsCanvasOf}
 use Rattle.canvas_command.specs.Paged.{IsPaged}
 use Rattle.canvas_command.proofs.program.answer_paged.Goals as goal
 
-pub returns-in-Ok : goal.returns-in-Ok
-returns-in-Ok g c =
-    let cases = c.in-Ok.cases in
+pub returns : goal.returns
+returns g c =
+    let cases = c.in_ok-cases-in_default.cases in
     let adapts = c.args.request.now.adapts in
     let answers = c.args.answers in
     let word = c.args.failures.word.now in
     let tasks = c.args.tasks.now in
-    let (read, spelled, adapted, worded, called) = c.in-Ok.ensures in
+    let made : c.of.result ≡ Ok cases = search rules in
+    let (read, spelled, adapted, worded, called) = IfOk-at_ok _ made c.of.ensures in
     let reads = subst (λ t. IsCanvasOf cases.adapts t cases.canvas) (sym spelled)
     (subst (λ b. IsCanvasOf b c.deref.result.now cases.canvas) (sym adapted) read) in
     IfOk-weaker c.answer_page.result _ _

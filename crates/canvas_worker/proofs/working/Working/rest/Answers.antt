@@ -1,4 +1,5 @@
 use Rattle.std.proofs.Common.{true, false}
+use Rattle.std.proofs.lemmas.Result.{err_from_is_err_and}
 use Rattle.canvas_runs.specs.Core as C
 use Rattle.canvas_core.specs.declared.ask.Reply.TheVariants as R
 use Rattle.canvas_worker.specs.Polls.{WorkerView}
@@ -11,14 +12,17 @@ returns-then-has_more-clause-acted g c =
     asked_well (g.T.Tasks.behaviour c.args.tasks.now) w w c.answer.new.self C.rest (R.Rested true) c.answer.result c.answer.ensures.value c.requires.ready
     (rest_asks (g.T.Tasks.behaviour c.args.tasks.now) w true c.requires.ready c.requires.asks c.requires.reads_back)
 
-pub returns-in-Ok-clause-acted : goal.returns-in-Ok-clause-acted
-returns-in-Ok-clause-acted g c =
+pub returns-clause-acted : goal.returns-clause-acted
+returns-clause-acted g c =
     let w : WorkerView = c.args.self.now in
-    rests_well (g.T.Tasks.behaviour c.args.tasks.now) w w c.answer-2.new.self c.in-Ok.ensures.value c.requires.ready
+    rests_well (g.T.Tasks.behaviour c.args.tasks.now) w w c.answer-2.new.self c.in_ok-answer.ensures.value c.requires.ready
     (rest_asks (g.T.Tasks.behaviour c.args.tasks.now) w false c.requires.ready c.requires.asks c.requires.reads_back)
 
-pub returns-in-Err-clause-acted : goal.returns-in-Err-clause-acted
-returns-in-Err-clause-acted g c =
+pub returns-in_err-answer-clause-acted : goal.returns-in_err-answer-clause-acted
+returns-in_err-answer-clause-acted g c =
     let w : WorkerView = c.args.self.now in
-    asked_badly (g.T.Tasks.behaviour c.args.tasks.now) w w c.answer-2.new.self C.rest (R.Rested false) c.in-Err.end c.in-Err.ensures.value c.requires.ready
-    (rest_asks (g.T.Tasks.behaviour c.args.tasks.now) w false c.requires.ready c.requires.asks c.requires.reads_back)
+    let p = err_from_is_err_and c.from_residual.result c.from_residual.ensures.1 in
+    rw (p.1, p.2)
+    (asked_badly (g.T.Tasks.behaviour c.args.tasks.now) w w c.answer-2.new.self C.rest (R.Rested false) c.in_err-answer.field-0.0
+    c.in_err-answer.ensures.value c.requires.ready
+    (rest_asks (g.T.Tasks.behaviour c.args.tasks.now) w false c.requires.ready c.requires.asks c.requires.reads_back))
