@@ -85,7 +85,6 @@ class Sources:
             raise
         return functions
 
-
     def now_of(self, function: Function) -> Function:
         """A function as it is now: edits in front of it may have moved its lines."""
         file = f"src/{function.module.replace('::', '/') or 'lib'}.rt"

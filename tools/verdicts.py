@@ -6,9 +6,8 @@ from edits import Function
 
 
 class Said(NamedTuple):
-    """What a check says of a function: whether it is proved, whether something in itself is
-    refused, whether only names that its proof files use are gone, and the first reason."""
-    is_proved: bool
+    """What a check says of a function: whether something in itself is refused, whether only names
+    that its proof files use are gone, and the first reason."""
     is_refused: bool
     names_only: bool
     why: str
@@ -40,9 +39,8 @@ class Verdict:
         own = [it for it in self._errors_of(function, paths) if not _NOT_ADMITTED.search(it)]
         unfound = [it for it in told if _is_unfound_in(function, it)]
         reasons = own + unfound
-        return Said(bool(told) and all(it == "proved" for it in told), bool(reasons),
-                    bool(own) and not unfound and all(_NAMES.match(it) for it in own),
-                    _shortened(reasons[0]) if reasons else "")
+        names_only = bool(own) and not unfound and all(_NAMES.match(it) for it in own)
+        return Said(bool(reasons), names_only, _shortened(reasons[0]) if reasons else "")
 
     def _is_of(self, path: str, function: Function) -> bool:
         """Whether a path is a function's, or a closure's in it. A method is in its type's module,
@@ -71,8 +69,8 @@ class Verdict:
         unfound = [it for it in self._told.values() if "did not prove" in it]
         own = [it for it in self._errors if not _NOT_ADMITTED.search(it)]
         reasons = own + unfound
-        return Said(self.is_proved, self.reached_prover and not self.is_proved,
-                    bool(own) and not unfound and all(_NAMES.match(it) for it in own),
+        names_only = bool(own) and not unfound and all(_NAMES.match(it) for it in own)
+        return Said(self.reached_prover and not self.is_proved, names_only,
                     _shortened((reasons or [self.first])[0]))
 
 
