@@ -75,8 +75,8 @@ class Verdict:
 
 
 def _is_unfound_in(function: Function, told: str) -> bool:
-    """Whether a proof of the function itself isn't found. What is told of a function in a cycle of
-    calls, whose proofs are in one folder `+NAME`, is of all of these, each goal with its name."""
+    """Whether a proof of the function itself isn't found. In a cycle of calls each function has the
+    goals of all, which begin with the name of theirs, and proofs in one folder `+NAME`."""
     if "did not prove" not in told:
         return False
     return "/+" not in told.split(";")[0] or bool(re.search(rf"`{function.name}-", told))
