@@ -36,7 +36,8 @@ class Function(NamedTuple):
 
 
 def read_edit(path: Path) -> Edit:
-    """An edit of a file with lines `file:`, and pairs of lines `old:` and `new:`."""
+    """An edit of a file with lines `file:`, and pairs of lines `old:` and `new:`. It has none if a
+    pair isn't whole."""
     pairs: List[Pair] = []
     file, old = "", None
     for line in path.read_text(encoding="utf-8").splitlines():
@@ -49,7 +50,7 @@ def read_edit(path: Path) -> Edit:
         elif word == "new" and old is not None:
             pairs.append(Pair(file, old, text))
             old = None
-    return Edit(path.stem, pairs)
+    return Edit(path.stem, pairs if old is None else [])
 
 
 class Sources:
